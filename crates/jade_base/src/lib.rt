@@ -1,0 +1,18 @@
+//! What every crate of Jade speaks of: places, paths, rights, contents, faults, reports, and the
+//! bytes that come in and go out.
+#![tactic(auto)]
+
+pub mod failure;
+pub mod path;
+pub mod place;
+pub mod report;
+pub mod rights;
+
+pub use failure::{Failed, Memory};
+pub use path::Path;
+pub use place::{ObjectId, Pos};
+pub use report::{
+    Blame, CellLists, FaultKind, FaultNote, FaultNotes, Numbers, PartStep, PartSteps, PathList,
+    Report, TurnLists,
+};
+pub use rights::{Mode, Right, Rights};
