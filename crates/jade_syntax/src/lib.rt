@@ -1,13 +1,7 @@
-// A library with one function.
+//! The tree of a program, the names in it, and what they stand for.
 #![tactic(auto)]
 
-ghost use Rattle.std.specs.Prelude.{◌≡◌};
-ghost use Rattle.jade_syntax.specs.Echo.{echo_of};
+pub mod name;
+pub mod tree;
 
-// The `ensures` clause is the contract: what `echo` returns is `echo_of` of its argument, a definition
-// in `specs/Echo.antt`, which a caller's clause can cite too.
-pub fn echo(x: usize) -> usize
-    ensures { result ≡ echo_of x }
-{
-    x
-}
+pub use name::Name;
