@@ -26,6 +26,7 @@ mutual
     Whole : ℤ → Expression
     Truth : Bool → Expression
     Variable : Name → Expression
+    Group : Expression → Expression
     Signed : UnaryOp → Pos → Expression → Expression
     Chain : Expression → Links → Expression
     Cell : Place → Expression → Expression
