@@ -1,7 +1,11 @@
 //! The tree of a program, the names in it, and what they stand for.
 #![tactic(auto)]
 
+pub mod checked;
 pub mod name;
+pub mod stands;
 pub mod tree;
 
+pub use checked::Checked;
 pub use name::Name;
+pub use stands::{Stand, Stands};

@@ -1,0 +1,50 @@
+ghost use Rattle.std.specs.Prelude.{◌≡◌, ◌<◌, length, true, slice_get, Some};
+ghost use Rattle.jade_syntax.specs.CheckedProgram.{IsChecked};
+
+use crate::Stands;
+use crate::tree::Program;
+use std::marker::Model;
+
+/// A program in which each name is replaced by what it stands for. Its type keeps that nothing is
+/// wrong with the program before it runs.
+#[derive(Drop)]
+pub struct Checked {
+    program: Program,
+    stands: Stands,
+}
+
+impl Model for Checked {
+    ghost use Rattle.jade_syntax.specs.CheckedProgram.{CheckedProgram, IsChecked};
+
+    ghost use Rattle.std.specs.Coded.{code_by, coded×, coded_list};
+    ghost use Rattle.std.specs.Prelude.{List, refl};
+    ghost use Rattle.jade_syntax.specs.declared.tree.Program.{Program as ProgramTree};
+    ghost use Rattle.jade_syntax.specs.declared.stands.Stand.{Stand as StandOf};
+    ghost use Rattle.jade_syntax.specs.contracts.tree.Program as tree;
+    ghost use Rattle.jade_syntax.specs.contracts.stands.Stand as stand;
+
+    ghost Value = { CheckedProgram };
+
+    ghost coded = { code_by (ProgramTree × List StandOf) (coded× tree.the_row.coded (coded_list stand.the_row.coded)) (λ c. (c.program, c.stands)) (λ p. record { program = p.0; stands = p.1 }) (λ _. refl) };
+
+    ghost view = { λ c. record { program = c.program; stands = c.stands } };
+
+    ghost invariant = { λ c. IsChecked c.program c.stands };
+}
+
+impl Checked {
+    /// The tree. It takes no memory.
+    pub fn program(&self) -> &Program
+        ensures program { result.now ≡ self.now.program }
+        ensures checked { IsChecked self.now.program self.now.stands }
+    {
+        &self.program
+    }
+
+    /// What the names stand for, in text order. It takes no memory.
+    pub fn stands(&self) -> &Stands
+        ensures { result.now ≡ self.now.stands }
+    {
+        &self.stands
+    }
+}
