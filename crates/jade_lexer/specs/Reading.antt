@@ -1,13 +1,14 @@
 -- How a text reads: as its tokens in order, or as the first refusal. Each text has one reading, since it is a function of the text.
 use Rattle.std.specs.Prelude.{◌≡◌, ℕ, Bool, zero, suc, ◌+◌, ◌-◌, not, ◌&&◌, ◌==◌, nat_lt, List, [], ◌∷◌, length, take, drop, slice_index, Result, Ok, Err, if◌then◌else◌}
-use Rattle.std.specs.List.{position_or_len}
+use Rattle.std.specs.List.{prefix_len}
+use Rattle.std.specs.Char.{is_ascii_digit}
 use Rattle.jade_base.specs.declared.place.Pos.{Pos}
 use Rattle.jade_lexer.specs.declared.lexeme.LexError.{LexError}
 use Rattle.jade_lexer.specs.declared.lexeme.LexError.TheVariants.{Byte, Number, Deep, Memory}
 use Rattle.jade_lexer.specs.declared.lexer.Part.{Part}
 use Rattle.jade_lexer.specs.declared.lexer.Part.TheVariants.{Blank, Token}
 use Rattle.jade_lexer.specs.declared.lexer.Spot.{Spot}
-use Rattle.jade_lexer.specs.Alphabet.{is_separator, is_word, is_run, is_number, is_opener, is_closer, longest}
+use Rattle.jade_lexer.specs.Alphabet.{is_separator, is_letter, is_number, is_opener, is_closer, longest}
 use Rattle.jade_lexer.specs.Lexemes.{TokenAt, TokenList}
 
 -- the position after a byte: a line ends with a line feed, and any other byte is one column
@@ -33,12 +34,12 @@ spot_after spot bytes depth =
 abbrev pub begins_comment : List ℕ → Bool
 begins_comment bytes = slice_index bytes 0 == 47 && slice_index bytes 1 == 47
 
--- what a longest token at a spot comes to, before the bytes that follow it: a word has at most 64 bytes, a run of digits is a number, and at most 64 brackets are open
+-- what a longest token at a spot comes to, before the bytes that follow it: a word, which begins with a letter, has at most 64 bytes; a run of digits is a number; at most 64 brackets are open
 abbrev pub token_part : Spot → List ℕ → List ℕ → Result Part LexError
 token_part spot token after =
     if length token == 0 then Err (Byte spot.pos)
-    else (if is_word token && nat_lt 64 (length token) then Err (Byte (pos_after spot.pos (take 64 token)))
-    else (if is_run token && not (is_number token after) then Err (Number spot.pos)
+    else (if is_letter (slice_index token 0) && nat_lt 64 (length token) then Err (Byte (pos_after spot.pos (take 64 token)))
+    else (if is_ascii_digit (slice_index token 0) && not (is_number token after) then Err (Number spot.pos)
     else (if is_opener (slice_index token 0) && nat_lt 63 spot.depth then Err (Deep spot.pos)
     else Ok (Token (length token)))))
 
@@ -46,8 +47,13 @@ token_part spot token after =
 abbrev pub first_part : Spot → List ℕ → Result Part LexError
 first_part spot bytes =
     if is_separator (slice_index bytes 0) then Ok (Blank 1)
-    else (if begins_comment bytes then Ok (Blank (position_or_len (λ b. b == 10) bytes))
+    else (if begins_comment bytes then Ok (Blank (prefix_len (λ c. not (c == 10)) bytes))
     else token_part spot (take (longest bytes) bytes) (drop (longest bytes) bytes))
+
+-- how many bytes a part has
+abbrev pub part_length : Part → ℕ
+part_length (Blank n) = n
+part_length (Token n) = n
 
 -- the whole list of tokens with the position of the end, or the first refusal
 pub data Reading : Type 0 where

@@ -1,6 +1,7 @@
 //! The lexical grammar: a text cut into its tokens, or its first refused place.
 #![tactic(auto)]
 
+mod alphabet;
 pub mod lexeme;
 pub mod lexer;
 
