@@ -3,6 +3,7 @@
 
 pub mod checked;
 pub mod name;
+mod objects;
 pub mod stands;
 pub mod tree;
 
