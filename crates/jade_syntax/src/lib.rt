@@ -8,5 +8,5 @@ pub mod stands;
 pub mod tree;
 
 pub use checked::Checked;
-pub use name::Name;
+pub use name::{Name, NameError};
 pub use stands::{Stand, Stands};
