@@ -1,0 +1,2 @@
+//! The meaning of programs: what each task says of itself, the serial run, and the answer.
+#![tactic(auto)]
