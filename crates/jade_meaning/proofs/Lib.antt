@@ -1,0 +1,3 @@
+mod Talks
+mod Stops
+mod Bounds
