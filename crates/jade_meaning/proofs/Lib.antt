@@ -1,3 +1,4 @@
 mod Talks
 mod Stops
 mod Bounds
+mod Ascent

@@ -10,7 +10,7 @@ use Rattle.jade_syntax.specs.Abstract.{AbstractProgram}
 use Rattle.jade_syntax.specs.Objects.{sizes}
 use Rattle.jade_meaning.specs.Course.{Course, Reads, Writes, Steps, Creates, Changes, Ends, root_course, limit_blame}
 use Rattle.jade_meaning.specs.Talk.{Task}
-use Rattle.jade_meaning.specs.Serial.{Mark, Path, Store, Deed, DidRead, DidWrite, DidCreate, DidEnd, serial, own, under, after, cell, with_cell, done_to, zeros, Part, parts, part_of_deed}
+use Rattle.jade_meaning.specs.Serial.{Mark, Path, Store, Deed, DidRead, DidWrite, DidCreate, DidEnd, serial, own, under, after, cell, with_cell, done_to, zeros, Part, parts, part_of_deed, serial_run}
 use Rattle.jade_meaning.specs.Laws.{Every, child_path}
 use Rattle.jade_meaning.specs.Answer.{Answer, Faulted, Cells, key, is_before, first_fault, limit_place, blame_of, decided, Run, Stopped, Through, noted, noted_all, then_on, stopping, run_answer, run_marks, accesses, access_deed, StoppingAgrees}
 
@@ -181,7 +181,7 @@ fits (Ends (Some b)) k n left store =
     (ap (λ t. next (if t then Halted [] limit_blame else Halted [] b) (λ l. Ran l)) (enough left n), ([], refl))
 
 -- the keys of the parts ascend
-abbrev KeysAscend : List Part → Type 0
+abbrev pub KeysAscend : List Part → Type 0
 KeysAscend [] = Unit {0}
 KeysAscend (p ∷ ps) = Every (λ q. is_before (key p) (key q) ≡ true) ps × KeysAscend ps
 
@@ -189,11 +189,11 @@ every_append : {A : Type 0} (P : A → Type 0) (xs ys : List A) → Every P xs �
 every_append P [] ys h g = g
 every_append P (x ∷ xs) ys h g = (h.0, every_append P xs ys h.1 g)
 
-every_map : {A B : Type 0} (P : B → Type 0) (f : A → B) (xs : List A) → Every (λ x. P (f x)) xs → Every P (map f xs)
+pub every_map : {A B : Type 0} (P : B → Type 0) (f : A → B) (xs : List A) → Every (λ x. P (f x)) xs → Every P (map f xs)
 every_map P f [] h = tt
 every_map P f (x ∷ xs) h = (h.0, every_map P f xs h.1)
 
-every_with : {A : Type 0} (P Q : A → Type 0) → ((x : A) → P x → Q x) → (xs : List A) → Every P xs → Every Q xs
+pub every_with : {A : Type 0} (P Q : A → Type 0) → ((x : A) → P x → Q x) → (xs : List A) → Every P xs → Every Q xs
 every_with P Q f [] h = tt
 every_with P Q f (x ∷ xs) h = (f x h.0, every_with P Q f xs h.1)
 
@@ -273,6 +273,11 @@ ascend (Creates child body on) k n store =
     (subst (Every (λ (q : Part). is_before (k ∷ []) (key q) ≡ true)) (sym e) own_before, subst KeysAscend (sym e) both)
 ascend (Changes new on) k n store = ascend on k n store
 ascend (Ends b) k n store = (tt, tt)
+
+pub all_ascend : (p : AbstractProgram) (ns : List ℤ) (limit : ℕ) → KeysAscend (parts (serial_run p ns limit))
+all_ascend p ns limit =
+    let ms = serial (root_course p ns limit) 0 0 (zeros (sizes p.items)) in
+    subst KeysAscend (sym (parts_under 0 ms)) (ascend_under 0 (parts ms) (ascend (root_course p ns limit) 0 0 (zeros (sizes p.items))))
 
 -- going through the parts gives the answer
 abbrev scan_answer : Scan → Store → Answer
@@ -382,8 +387,7 @@ stopping_agrees p ns limit =
     let ms = serial c 0 0 store in
     let r = stopping c 0 limit store in
     let f = subst (Fits r ms) (add-zero limit) (fits c 0 0 limit store) in
-    let a = subst KeysAscend (sym (parts_under 0 ms)) (ascend_under 0 (parts ms) (ascend c 0 0 store)) in
     record {
-      same = root_scan r ms limit store f ∙ scan_decides limit (parts (map (under 0) ms)) (after (map (under 0) ms) store) a;
+      same = root_scan r ms limit store f ∙ scan_decides limit (parts (map (under 0) ms)) (after (map (under 0) ms) store) (all_ascend p ns limit);
       first = root_first r ms limit f;
     }

@@ -6,6 +6,7 @@ ghost use Rattle.jade_meaning.specs.Answer.{StoppingAgrees};
 ghost use Rattle.jade_meaning.specs.Course.{root_spec, root_course};
 ghost use Rattle.jade_meaning.specs.Laws.{TalkFollowsSerial, Extends};
 ghost use Rattle.jade_meaning.specs.Proper.{Proper};
+ghost use Rattle.jade_meaning.specs.Report.{ReportAscends};
 ghost use Rattle.jade_meaning.specs.Talk.{Task, talk};
 
 /// Each task of the serial run says by itself what it does there, when its reads are answered as
@@ -28,4 +29,9 @@ pub fn stopping_agrees()
 /// Each task touches and hands on only what its specification allows.
 pub fn keeps()
     ensures { (p : AbstractProgram) (numbers : List ℤ) (limit : ℕ) → Proper (root_spec p) (root_course p numbers limit) }
+{}
+
+/// A report has its parts and its faults by ascending key.
+pub fn report_ascends()
+    ensures { (p : AbstractProgram) (numbers : List ℤ) (limit : ℕ) → ReportAscends p numbers limit }
 {}
