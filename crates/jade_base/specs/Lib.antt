@@ -1,1 +1,4 @@
+pub mod Held
+pub mod Places
 pub mod Rights
+pub mod Specification

@@ -2,12 +2,16 @@
 //! bytes that come in and go out.
 #![tactic(auto)]
 
+pub mod content;
 pub mod failure;
 pub mod path;
 pub mod place;
 pub mod report;
 pub mod rights;
+pub mod spec;
+pub mod word;
 
+pub use content::Content;
 pub use failure::{Failed, Memory};
 pub use path::Path;
 pub use place::{ObjectId, Pos};
@@ -16,3 +20,5 @@ pub use report::{
     Report, TurnLists,
 };
 pub use rights::{Mode, Right, Rights};
+pub use spec::Spec;
+pub use word::Word;

@@ -1,3 +1,9 @@
+ghost use Rattle.std.specs.Prelude.{◌≡◌, ◌<◌, [], ◌∷◌, ◌++◌, length, IfOk};
+ghost use Rattle.jade_base.specs.Places.{path_order};
+
+use crate::Memory;
+use std::alloc::Global;
+use std::cmp::Ordering;
 use std::marker::Model;
 
 /// The name of a task: the root is `0`, and the child number k (from 0) of the task `p` is `p.k`.
@@ -15,4 +21,62 @@ impl Model for Path {
     ghost view = { λ p. p.numbers.items };
 
     ghost invariant = { λ p. 0 < length p.numbers.items };
+}
+
+impl Path {
+    /// The path of the root, `0`. The error is want of memory.
+    pub fn root(alloc: Global) -> Result<Path, Memory>
+        ensures { IfOk result (λ path. path ≡ 0 ∷ []) }
+    {
+        let mut numbers = Vec::new(alloc);
+        numbers.push(0)?;
+        Ok(Path { numbers })
+    }
+
+    /// The path of this task's child with a number. The error is want of memory.
+    pub fn child(&self, alloc: Global, number: u32) -> Result<Path, Memory>
+        ensures { IfOk result (λ path. path ≡ self.now ++ number ∷ []) }
+    {
+        let mut numbers = Vec::from_slice(alloc, self.numbers.as_slice())?;
+        numbers.push(number)?;
+        Ok(Path { numbers })
+    }
+
+    /// The same path once more. The error is want of memory.
+    pub fn copy(&self, alloc: Global) -> Result<Path, Memory>
+        ensures { IfOk result (λ path. path ≡ self.now) }
+    {
+        let numbers = Vec::from_slice(alloc, self.numbers.as_slice())?;
+        Ok(Path { numbers })
+    }
+
+    /// Which path stands before the other: the first difference decides, and a task stands before
+    /// its children.
+    pub fn compare(&self, other: &Path) -> Ordering
+        ensures { result ≡ path_order self.now other.now }
+    {
+        compare_lists(self.numbers.as_slice(), other.numbers.as_slice())
+    }
+
+    /// The numbers, from the root's on; there is at least one.
+    pub fn numbers(&self) -> &[u32]
+        ensures value { result.now ≡ self.now }
+        ensures some { 0 < length self.now }
+    {
+        self.numbers.as_slice()
+    }
+}
+
+// Which list stands before the other.
+fn compare_lists(left: &[u32], right: &[u32]) -> Ordering
+    ensures { result ≡ path_order left.now right.now }
+{
+    let shared = left.len().min(right.len());
+    for i in 0..shared {
+        let order = left[i].cmp(&right[i]);
+        if order != Ordering::Equal {
+            return order;
+        }
+    }
+    left.len().cmp(&right.len())
 }

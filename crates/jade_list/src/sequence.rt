@@ -39,6 +39,13 @@ impl<T> Sequence<T> {
         Sequence { items }
     }
 
+    /// The items as a vector, in order. It takes no memory.
+    pub fn into_vec(self) -> Vec<T>
+        ensures { result.items ≡ self }
+    {
+        self.items
+    }
+
     /// Puts the item last. The error is want of memory: it hands the item back, and the list is
     /// as it was.
     pub fn push(&mut self, item: T) -> Result<(), T>
