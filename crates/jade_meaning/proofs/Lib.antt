@@ -2,3 +2,5 @@ mod Talks
 mod Stops
 mod Bounds
 mod Ascent
+mod Openings
+mod Cells

@@ -1,5 +1,5 @@
 -- What a task goes on to do, as a tree: each read has a branch for each value that may be read.
-use Rattle.std.specs.Prelude.{ℕ, zero, suc, ◌+◌, ◌-◌, Bool, true, false, ◌&&◌, List, [], ◌∷◌, ◌++◌, length, drop, Option, Some, None, ℤ, pos, ◌+ℤ◌, nat_lt, nat_eq, slice_set, replicate, if◌then◌else◌}
+use Rattle.std.specs.Prelude.{ℕ, zero, suc, ◌+◌, ◌-◌, Bool, true, false, List, [], ◌∷◌, ◌++◌, length, drop, Option, Some, None, ℤ, pos, ◌+ℤ◌, nat_lt, slice_set, replicate, if◌then◌else◌}
 use Rattle.jade_base.specs.declared.place.Pos.{Pos}
 use Rattle.jade_base.specs.declared.report.FaultKind.{FaultKind}
 use Rattle.jade_base.specs.declared.report.FaultKind.TheVariants.{Index, Object, Right as RightFault, Cover, Change, Limit}
@@ -10,6 +10,7 @@ use Rattle.jade_syntax.specs.declared.tree.Item.{Item}
 use Rattle.jade_syntax.specs.declared.tree.Item.TheVariants.{Input, Single, Family}
 use Rattle.jade_syntax.specs.declared.tree.DeclareWord.{DeclareWord}
 use Rattle.jade_syntax.specs.Abstract.{Name, Expression, Whole, Truth, Variable, Group, Signed, Chain, Cell, Links, Last, Link, Place, Alone, Member, Action, Local, Assign, Store, If, IfElse, For, Withonly, With, Declare, Actions, Done, Then, AbstractProgram}
+use Rattle.jade_syntax.specs.Numbering.{same_name}
 use Rattle.jade_syntax.specs.Objects.{amount, sizes}
 use Rattle.jade_meaning.specs.Values.{Value, IntOf, BoolOf, Given, Gives, Fails, operated, decides, signed, whole, holds, is_index, magnitude, turn_count}
 use Rattle.jade_meaning.specs.Specification.{Specification, rights_on, covers, fitted}
@@ -35,12 +36,6 @@ pub record Binding : Type 0 where
 -- the variables in scope, the newest first
 abbrev pub Environment : Type 0
 Environment = List Binding
-
--- two names with the same bytes
-abbrev pub same_name : Name → Name → Bool
-same_name [] [] = true
-same_name (x ∷ xs) (y ∷ ys) = nat_eq x y && same_name xs ys
-same_name _ _ = false
 
 -- the newest value of a name
 abbrev pub value_of : Name → Environment → Value

@@ -8,3 +8,5 @@ pub mod Laws
 pub mod Answer
 pub mod Proper
 pub mod Report
+pub mod Built
+pub mod Carry
