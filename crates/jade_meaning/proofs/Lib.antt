@@ -1,0 +1,6 @@
+mod Talks
+mod Stops
+mod Bounds
+mod Ascent
+mod Openings
+mod Cells

@@ -1,0 +1,5 @@
+use Rattle.jade_meaning.proofs.Talks.{talk_follows_serial}
+use Rattle.jade_meaning.proofs.laws.talk_follows_serial.Goals as goal
+
+pub returns : goal.returns
+returns c = talk_follows_serial

@@ -1,0 +1,12 @@
+pub mod Values
+pub mod Specification
+pub mod Changes
+pub mod Course
+pub mod Talk
+pub mod Serial
+pub mod Laws
+pub mod Answer
+pub mod Proper
+pub mod Report
+pub mod Built
+pub mod Carry

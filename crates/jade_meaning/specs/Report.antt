@@ -1,0 +1,48 @@
+-- What a run did, as the run time tells it of itself at the end.
+use Rattle.std.specs.Prelude.{◌≡◌, true, ◌∷◌, ℕ, List, map, Option, Some, None, ℤ, length, replicate, []}
+use Rattle.std.specs.List.{filter_map}
+use Rattle.jade_base.specs.declared.report.Blame.{Blame}
+use Rattle.jade_base.specs.declared.report.FaultNote.{FaultNote}
+use Rattle.jade_base.specs.declared.report.PartStep.{PartStep}
+use Rattle.jade_base.specs.declared.report.Report.{Report}
+use Rattle.jade_syntax.specs.Abstract.{AbstractProgram}
+use Rattle.jade_syntax.specs.Objects.{sizes}
+use Rattle.jade_meaning.specs.Answer.{is_before}
+use Rattle.jade_meaning.specs.Laws.{Every, child_path}
+use Rattle.jade_meaning.specs.Serial.{Path, Mark, Part, parts, after, Store, zeros, serial_run}
+
+-- the note of a part that ended with a fault
+abbrev pub fault_of : Option Blame → Part → Option FaultNote
+fault_of None p = None
+fault_of (Some b) p = Some (record { path = p.path; children = p.children; blame = b })
+
+-- the faults in serial order
+abbrev pub faults : List Mark → List FaultNote
+faults ms = filter_map (λ p. fault_of p.blame p) (parts ms)
+
+-- the note of a part's steps
+abbrev pub step_of : Part → PartStep
+step_of p = record { path = p.path; children = p.children; steps = p.steps }
+
+-- the steps of the parts in serial order
+abbrev pub steps_of : List Mark → List PartStep
+steps_of ms = map step_of (parts ms)
+
+-- the report of these marks, from a store on, in which no object was taken for commuting
+abbrev pub reported : List Mark → Store → Report
+reported ms store =
+    record { objects = after ms store; faults = faults ms; turns = replicate (length store) []; steps = steps_of ms }
+
+-- the report of the serial run of a program
+abbrev pub report : AbstractProgram → (numbers : List ℤ) → (limit : ℕ) → Report
+report p ns limit = reported (serial_run p ns limit) (zeros (sizes p.items))
+
+-- keys that ascend strictly
+abbrev pub Ascends : List Path → Type 0
+Ascends [] = Unit {0}
+Ascends (p ∷ ps) = Every (λ q. is_before p q ≡ true) ps × Ascends ps
+
+-- a report has its parts and its faults by ascending key
+pub record ReportAscends (p : AbstractProgram) (ns : List ℤ) (limit : ℕ) : Type 0 where
+  pub steps : Ascends (map (λ s. child_path s.path s.children) (report p ns limit).steps)
+  pub faults : Ascends (map (λ f. child_path f.path f.children) (report p ns limit).faults)

@@ -1,0 +1,109 @@
+-- Values, and what the operators give.
+use Rattle.std.specs.Prelude.{ℕ, ◌^◌, Bool, false, not, ℤ, pos, negsuc, ◌+ℤ◌, ◌-ℤ◌, ◌*ℤ◌, neg_ℤ, int_lt, int_le, int_div, int_rem, nat_lt, if◌then◌else◌}
+use Rattle.std.specs.Ordering.{int_eq}
+use Rattle.jade_base.specs.declared.report.FaultKind.{FaultKind}
+use Rattle.jade_base.specs.declared.report.FaultKind.TheVariants.{Overflow, Zero}
+use Rattle.jade_syntax.specs.declared.tree.Relation.{Relation}
+use Rattle.jade_syntax.specs.declared.tree.Relation.TheVariants.{Equal, Unequal, Less, LessEqual, Greater, GreaterEqual}
+use Rattle.jade_syntax.specs.declared.tree.SumOp.{SumOp}
+use Rattle.jade_syntax.specs.declared.tree.SumOp.TheVariants.{Plus, Minus}
+use Rattle.jade_syntax.specs.declared.tree.ProductOp.{ProductOp}
+use Rattle.jade_syntax.specs.declared.tree.ProductOp.TheVariants.{Times, Over, Remainder}
+use Rattle.jade_syntax.specs.declared.tree.UnaryOp.{UnaryOp}
+use Rattle.jade_syntax.specs.declared.tree.UnaryOp.TheVariants.{Negative, Not}
+use Rattle.jade_syntax.specs.Abstract.{Operator, Or, And, Relates, Adds, Multiplies}
+
+-- a value of an expression
+pub data Value : Type 0 where
+  IntOf : ℤ → Value
+  BoolOf : Bool → Value
+
+-- what an operator gives: a value, or a fault
+pub data Given : Type 0 where
+  Gives : Value → Given
+  Fails : FaultKind → Given
+
+-- the numbers of 64 bits with a sign
+abbrev pub in_range : ℤ → Bool
+in_range (pos n) = nat_lt n (2 ^ 63)
+in_range (negsuc n) = nat_lt n (2 ^ 63)
+
+-- a number that may be too large
+abbrev pub fitting : ℤ → Given
+fitting z = if in_range z then Gives (IntOf z) else Fails Overflow
+
+-- a quotient or a remainder; the quotient decides whether it fits
+abbrev pub divided : (ℤ → ℤ → ℤ) → ℤ → ℤ → Given
+divided f x y =
+    if int_eq y (pos 0) then Fails Zero else (if in_range (int_div x y) then Gives (IntOf (f x y)) else Fails Overflow)
+
+-- how two numbers compare
+abbrev pub related : Relation → ℤ → ℤ → Bool
+related Equal x y = int_eq x y
+related Unequal x y = not (int_eq x y)
+related Less x y = int_lt x y
+related LessEqual x y = int_le x y
+related Greater x y = int_lt y x
+related GreaterEqual x y = int_le y x
+
+-- a sum or a difference
+abbrev pub added : SumOp → ℤ → ℤ → Given
+added Plus x y = fitting (x +ℤ y)
+added Minus x y = fitting (x -ℤ y)
+
+-- a product, a quotient or a remainder
+abbrev pub multiplied : ProductOp → ℤ → ℤ → Given
+multiplied Times x y = fitting (x *ℤ y)
+multiplied Over x y = divided int_div x y
+multiplied Remainder x y = divided int_rem x y
+
+-- what an operator makes of two numbers
+abbrev pub computed : Operator → ℤ → ℤ → Given
+computed (Relates r) x y = Gives (BoolOf (related r x y))
+computed (Adds s) x y = added s x y
+computed (Multiplies p) x y = multiplied p x y
+computed Or x y = Gives (IntOf y)
+computed And x y = Gives (IntOf y)
+
+-- what an operator makes of two values; of two truth values whose first decides nothing the second is the answer
+abbrev pub operated : Operator → Value → Value → Given
+operated op (IntOf x) (IntOf y) = computed op x y
+operated op (IntOf x) (BoolOf y) = Gives (BoolOf y)
+operated op (BoolOf x) w = Gives w
+
+-- the operand before a `||` or `&&` that makes what follows needless
+abbrev pub decides : Operator → Value → Bool
+decides Or (BoolOf b) = b
+decides And (BoolOf b) = not b
+decides op v = false
+
+-- a sign before a value
+abbrev pub signed : UnaryOp → Value → Given
+signed Negative (IntOf x) = fitting (neg_ℤ x)
+signed Not (BoolOf b) = Gives (BoolOf (not b))
+signed Negative (BoolOf b) = Gives (BoolOf b)
+signed Not (IntOf x) = Gives (IntOf x)
+
+-- the number that a value is
+abbrev pub whole : Value → ℤ
+whole (IntOf x) = x
+whole (BoolOf b) = pos 0
+
+-- the truth of a value
+abbrev pub holds : Value → Bool
+holds (IntOf x) = false
+holds (BoolOf b) = b
+
+-- a number from 0 on that is below n
+abbrev pub is_index : ℤ → ℕ → Bool
+is_index (pos i) n = nat_lt i n
+is_index (negsuc i) n = false
+
+-- a number from 0 on as an index
+abbrev pub magnitude : ℤ → ℕ
+magnitude (pos i) = i
+magnitude (negsuc i) = 0
+
+-- how many turns a loop makes
+abbrev pub turn_count : ℤ → ℤ → ℕ
+turn_count low high = magnitude (high -ℤ low)

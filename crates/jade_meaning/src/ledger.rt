@@ -1,0 +1,105 @@
+//! What a run has done so far: the cells of the objects, the faults, and the steps of the parts.
+
+ghost use Rattle.std.specs.Prelude.{◌≡◌, [], ◌∷◌, ◌++◌, IfOk, OnOk, true, List};
+ghost use Rattle.std.specs.List.{list_all};
+ghost use Rattle.jade_syntax.specs.declared.tree.Item.{Item};
+ghost use Rattle.jade_syntax.specs.Built.{is_single};
+ghost use Rattle.jade_syntax.specs.Objects.{sizes, amount};
+ghost use Rattle.jade_meaning.specs.Serial.{with_cell, zeros};
+ghost use Rattle.jade_meaning.specs.Carry.{noted, put, report_of};
+
+use jade_base::{
+    Blame, CellLists, FaultNote, FaultNotes, Memory, Numbers, PartStep, PartSteps, Path, Report,
+    TurnLists,
+};
+use jade_list::sequence::Sequence;
+use jade_syntax::tree::{Item, Items};
+use std::alloc::Global;
+use std::marker::Model;
+
+/// The cells of each object, which contracts see as lists of numbers.
+#[derive(Drop)]
+pub(crate) struct Store {
+    objects: Vec<Vec<i64>>,
+}
+
+impl Model for Store {
+    ghost use Rattle.std.specs.Prelude.{List, ℤ, map};
+
+    ghost Value = { List (List ℤ) };
+
+    ghost view = { λ s. map (λ v. v.items) s.objects.items };
+}
+
+impl Store {
+    /// The objects of these items, with zero in each cell.
+    pub(crate) fn zeroed(alloc: Global, items: &Items) -> Result<Store, Memory>
+        requires { list_all is_single items.now ≡ true }
+        ensures { IfOk result (λ store. store ≡ zeros (sizes items.now)) }
+    {
+        let mut objects = Vec::new(alloc);
+        for i in 0..items.len() {
+            objects.push(Vec::from_elem(alloc, 0, size_of(items.at(i)))?)?;
+        }
+        Ok(Store { objects })
+    }
+
+    /// Puts a number into a cell; where there is no such cell nothing happens.
+    pub(crate) fn write(&mut self, object: usize, cell: usize, value: i64)
+        ensures { self.new ≡ with_cell self.old object cell value }
+    {
+        if object < self.objects.len() && cell < self.objects[object].len() {
+            self.objects[object][cell] = value;
+        }
+    }
+}
+
+// The number of cells of the object that an item declares.
+fn size_of(item: &Item) -> usize
+    requires { is_single item.now ≡ true }
+    ensures { (more : List Item) → sizes (item.now ∷ more) ≡ result ∷ sizes more }
+{
+    match item {
+        Item::Single { size, .. } => amount_of(size.value),
+        Item::Input { .. } | Item::Family { .. } => 0,
+    }
+}
+
+// A number of cells; none where it is below zero.
+pub(crate) fn amount_of(number: i64) -> usize
+    ensures { result ≡ amount number }
+{
+    if number < 0 { 0 } else { number as usize }
+}
+
+/// What a run has done so far.
+#[derive(Drop)]
+pub(crate) struct Ledger {
+    pub(crate) objects: Store,
+    pub(crate) faults: FaultNotes,
+    pub(crate) steps: PartSteps,
+}
+
+impl Ledger {
+    /// Notes a part of a task that has ended, and the fault that ended it, if one did.
+    pub(crate) fn note(&mut self, alloc: Global, path: &Path, children: u32, steps: u32, blame: Option<Blame>) -> Result<(), Memory>
+        ensures { OnOk result (self.new ≡ noted path.now children steps blame self.old) }
+    {
+        if let Some(blame) = blame {
+            let path = path.copy(alloc)?;
+            push_note(&mut self.faults, FaultNote { path, children, blame })?;
+        }
+        let path = path.copy(alloc)?;
+        push_note(&mut self.steps, PartStep { path, children, steps: u64::from(steps) })
+    }
+}
+
+// One more item; without memory the list is as it was.
+fn push_note<T: Drop>(list: &mut Sequence<T>, item: T) -> Result<(), Memory>
+    ensures { OnOk result (list.new ≡ list.old ++ item ∷ []) }
+{
+    match list.push(item) {
+        Ok(()) => Ok(()),
+        Err(_) => Err(Memory),
+    }
+}

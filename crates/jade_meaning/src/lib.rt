@@ -1,0 +1,6 @@
+//! The meaning of programs: what each task says of itself, the serial run, and the answer.
+#![tactic(auto)]
+
+mod built;
+mod ledger;
+pub mod laws;
