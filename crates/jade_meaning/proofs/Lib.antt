@@ -4,3 +4,4 @@ mod Bounds
 mod Ascent
 mod Openings
 mod Cells
+mod Telling
