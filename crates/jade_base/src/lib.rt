@@ -7,6 +7,8 @@ pub mod path;
 pub mod place;
 pub mod report;
 pub mod rights;
+pub mod sink;
+pub mod source;
 
 pub use failure::{Failed, Memory};
 pub use path::Path;
@@ -16,3 +18,5 @@ pub use report::{
     Report, TurnLists,
 };
 pub use rights::{Mode, Right, Rights};
+pub use sink::Sink;
+pub use source::Source;

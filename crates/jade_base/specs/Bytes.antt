@@ -1,0 +1,27 @@
+-- The bytes that come in and go out: what one read and one write do to what a source has left and to what a sink took.
+use Rattle.std.specs.Prelude.{◌≡◌, ℕ, ◌-◌, ◌<◌, ◌≤◌, ◌⊎◌, ◌↔◌, List, [], ◌++◌, length, take, drop, Option, Some, None}
+
+-- a count of faults rose: it is greater at the end, or it stood at the last value of a u64 at the start
+abbrev pub Rose : ℕ → ℕ → Type 0
+Rose old new = (old < new) ⊎ (old ≡ 18446744073709551615)
+
+-- the bytes left, where they are told, without their first n
+abbrev pub left_after : ℕ → Option (List ℕ) → Option (List ℕ)
+left_after n None = None
+left_after n (Some left) = Some (drop n left)
+
+-- the bytes taken, where they are told, and then a piece
+abbrev pub taken_with : Option (List ℕ) → List ℕ → Option (List ℕ)
+taken_with None piece = None
+taken_with (Some taken) piece = Some (taken ++ piece)
+
+-- the room, where it is told, less n
+abbrev pub room_after : Option ℕ → ℕ → Option ℕ
+room_after None n = None
+room_after (Some room) n = Some (room - n)
+
+-- of the bytes left the first n stand at the head of the buffer, and n is 0 exactly where none was left
+pub record Gives (left buffer : List ℕ) (n : ℕ) : Type 0 where
+  pub within : n ≤ length left
+  pub given : take n buffer ≡ take n left
+  pub at_end : (n ≡ 0) ↔ (left ≡ [])

@@ -1,0 +1,25 @@
+ghost use Rattle.std.specs.Prelude.{◌≡◌, ℕ, ◌<◌, ◌≤◌, List, length, Option, IfOk, OnErr};
+ghost use Rattle.std.specs.Option.{ForSome};
+ghost use Rattle.jade_base.specs.Bytes.{Rose, left_after, Gives};
+
+use crate::Failed;
+
+/// Where the bytes of a text come from.
+pub trait Source {
+    // The bytes left, where the source tells them.
+    ghost left: { Self → Option (List ℕ) };
+
+    // The count of faults so far.
+    ghost faults: { Self → ℕ };
+
+    /// Puts the next bytes at the head of the buffer, which is not empty, and answers how many;
+    /// 0 is the end. After `Failed` nothing was taken out of the source.
+    fn read(&mut self, buffer: &mut [u8]) -> Result<usize, Failed>
+        requires { 0 < length buffer.old }
+        ensures within { IfOk result (λ n. n ≤ length buffer.new) }
+        ensures gives { IfOk result (λ n. ForSome (left self.old) (λ b. Gives b buffer.new n)) }
+        ensures after { IfOk result (λ n. left self.new ≡ left_after n (left self.old)) }
+        ensures failed { OnErr result (left self.new ≡ left self.old) }
+        ensures fault { OnErr result (Rose (faults self.old) (faults self.new)) }
+        ensures count { faults self.old ≤ faults self.new };
+}
