@@ -25,3 +25,14 @@ pub record Gives (left buffer : List ℕ) (n : ℕ) : Type 0 where
   pub within : n ≤ length left
   pub given : take n buffer ≡ take n left
   pub at_end : (n ≡ 0) ↔ (left ≡ [])
+
+-- the text is all that was left, where that is told, and no byte is left
+pub record WholeText (before after : Option (List ℕ)) (text : List ℕ) : Type 0 where
+  pub within : length text ≤ 1048576
+  pub whole : (left : List ℕ) → before ≡ Some left → text ≡ left
+  pub none_left : (left : List ℕ) → before ≡ Some left → after ≡ Some []
+
+-- a text of more than the most bytes was begun, and one byte more than the most was taken out of it
+pub record CutText (before after : Option (List ℕ)) : Type 0 where
+  pub too_long : (left : List ℕ) → before ≡ Some left → 1048577 ≤ length left
+  pub cut : after ≡ left_after 1048577 before

@@ -9,6 +9,7 @@ pub mod report;
 pub mod rights;
 pub mod sink;
 pub mod source;
+pub mod text;
 
 pub use failure::{Failed, Memory};
 pub use path::Path;
@@ -20,3 +21,4 @@ pub use report::{
 pub use rights::{Mode, Right, Rights};
 pub use sink::Sink;
 pub use source::Source;
+pub use text::{TextError, read_text, write_text};
