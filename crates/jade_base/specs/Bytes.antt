@@ -36,3 +36,10 @@ pub record WholeText (before after : Option (List ℕ)) (text : List ℕ) : Type
 pub record CutText (before after : Option (List ℕ)) : Type 0 where
   pub too_long : (left : List ℕ) → before ≡ Some left → 1048577 ≤ length left
   pub cut : after ≡ left_after 1048577 before
+
+-- the first n of the bytes left stand at the head of the buffer, and are no longer left
+pub record Filled (before after : Option (List ℕ)) (n : ℕ) (buffer : List ℕ) : Type 0 where
+  pub within : n ≤ length buffer
+  pub drops : after ≡ left_after n before
+  pub known : (left : List ℕ) → before ≡ Some left → n ≤ length left
+  pub reads : (left : List ℕ) → before ≡ Some left → take n buffer ≡ take n left

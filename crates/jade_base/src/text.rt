@@ -1,6 +1,6 @@
 ghost use Rattle.std.specs.Prelude.{◌≡◌, ℕ, ◌<◌, ◌≤◌, [], length, take, drop, IsOk, IfOk, OnOk, OnErr, Some};
 ghost use Rattle.std.specs.Option.{ForSome};
-ghost use Rattle.jade_base.specs.Bytes.{Rose, left_after, taken_with, room_after, WholeText, CutText};
+ghost use Rattle.jade_base.specs.Bytes.{Rose, left_after, taken_with, room_after, Filled, WholeText, CutText};
 ghost use Rattle.jade_base.specs.Text.{OnFailed, OnTooLong, OnMemory};
 
 use crate::sink::Sink;
@@ -37,18 +37,36 @@ pub fn read_text<S: Source>(alloc: Global, source: &mut S) -> Result<Vec<u8>, Te
         Ok(text) => text,
         Err(Memory) => return Err(TextError::Memory),
     };
-    let mut filled = 0;
-    while filled <= MOST_BYTES {
-        match source.read(&mut text[filled..]) {
-            Ok(0) => {
-                text.truncate(filled);
-                return Ok(text);
-            }
-            Ok(count) => filled += count,
-            Err(Failed) => return Err(TextError::Failed),
+    match fill(source, text.as_mut_slice()) {
+        Err(Failed) => Err(TextError::Failed),
+        Ok(filled) if filled > MOST_BYTES => Err(TextError::TooLong),
+        Ok(filled) => {
+            text.truncate(filled);
+            Ok(text)
         }
     }
-    Err(TextError::TooLong)
+}
+
+// Fills the buffer from its head on, until the end of the source or of the buffer, and answers
+// how many bytes it filled.
+fn fill<S: Source>(source: &mut S, buffer: &mut [u8]) -> Result<usize, Failed>
+    ensures filled { IfOk result (λ n. Filled (S.left source.old) (S.left source.new) n buffer.new) }
+    ensures ended { IfOk result (λ n. n < length buffer.new
+        → ForSome (S.left source.old) (λ b. n ≡ length b)) }
+    ensures stopped { OnErr result ((k : ℕ) × (k < length buffer.new)
+        × (S.left source.new ≡ left_after k (S.left source.old))) }
+    ensures fault { OnErr result (Rose (S.faults source.old) (S.faults source.new)) }
+    ensures count { S.faults source.old ≤ S.faults source.new }
+{
+    let mut filled = 0;
+    while filled < buffer.len() {
+        match source.read(&mut buffer[filled..]) {
+            Ok(0) => return Ok(filled),
+            Ok(count) => filled += count,
+            Err(Failed) => return Err(Failed),
+        }
+    }
+    Ok(filled)
 }
 
 // So many zero bytes.
