@@ -1,3 +1,4 @@
 pub mod Rights
 pub mod Bytes
 pub mod Text
+pub mod InMemory

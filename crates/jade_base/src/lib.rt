@@ -2,16 +2,23 @@
 //! bytes that come in and go out.
 #![tactic(auto)]
 
+mod calls;
 pub mod failure;
+pub mod memory_sink;
+pub mod memory_source;
 pub mod path;
 pub mod place;
 pub mod report;
 pub mod rights;
 pub mod sink;
 pub mod source;
+pub mod standard;
+pub mod sure;
 pub mod text;
 
 pub use failure::{Failed, Memory};
+pub use memory_sink::MemorySink;
+pub use memory_source::MemorySource;
 pub use path::Path;
 pub use place::{ObjectId, Pos};
 pub use report::{
@@ -21,4 +28,6 @@ pub use report::{
 pub use rights::{Mode, Right, Rights};
 pub use sink::Sink;
 pub use source::Source;
+pub use standard::{StdSink, StdSource};
+pub use sure::{SureSink, SureSource};
 pub use text::{TextError, read_text, write_text};

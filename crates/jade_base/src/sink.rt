@@ -1,4 +1,4 @@
-ghost use Rattle.std.specs.Prelude.{◌≡◌, ℕ, ◌<◌, ◌≤◌, List, length, take, Option, IfOk, IsOk, OnErr};
+ghost use Rattle.std.specs.Prelude.{◌≡◌, ℕ, ◌+◌, ◌<◌, ◌≤◌, List, ◌++◌, length, take, Option, IfOk, IsOk, OnErr, vec_len, vec_capacity};
 ghost use Rattle.std.specs.Option.{ForSome};
 ghost use Rattle.jade_base.specs.Bytes.{Rose, taken_with, room_after};
 
@@ -29,4 +29,14 @@ pub trait Sink {
         ensures fits { ForSome (room self.old) (λ r. length piece.now ≤ r → IsOk result) }
         ensures quiet { ForSome (room self.old) (λ r. length piece.now ≤ r → faults self.new ≡ faults self.old) }
         ensures count { faults self.old ≤ faults self.new };
+}
+
+// Puts the piece behind the bytes, which have room for it.
+pub(crate) fn put(bytes: &mut Vec<u8>, piece: &[u8])
+    requires { vec_len bytes.old + length piece.now ≤ vec_capacity bytes.old }
+    ensures items { bytes.new.items ≡ bytes.old.items ++ piece.now }
+    ensures capacity { vec_capacity bytes.old ≤ vec_capacity bytes.new }
+{
+    let stored = bytes.extend_from_slice(piece).is_ok();
+    prove!(stored);
 }

@@ -1,4 +1,4 @@
-ghost use Rattle.std.specs.Prelude.{◌≡◌, ℕ, ◌<◌, ◌≤◌, List, length, Option, IfOk, OnErr};
+ghost use Rattle.std.specs.Prelude.{◌≡◌, ℕ, ◌<◌, ◌≤◌, min, List, ◌++◌, length, take, drop, Option, IfOk, OnErr};
 ghost use Rattle.std.specs.Option.{ForSome};
 ghost use Rattle.jade_base.specs.Bytes.{Rose, left_after, Gives};
 
@@ -22,4 +22,17 @@ pub trait Source {
         ensures failed { OnErr result (left self.new ≡ left self.old) }
         ensures fault { OnErr result (Rose (faults self.old) (faults self.new)) }
         ensures count { faults self.old ≤ faults self.new };
+}
+
+// Puts bytes at the head of the buffer, as many as there are and fit, at most `most` of them.
+pub(crate) fn give(bytes: &[u8], most: usize, buffer: &mut [u8]) -> usize
+    requires most { 0 < most }
+    requires buffer { 0 < length buffer.old }
+    ensures gives { Gives bytes.now buffer.new result }
+    ensures number { result ≡ min most (min (length buffer.old) (length bytes.now)) }
+    ensures buffer { buffer.new ≡ take result bytes.now ++ drop result buffer.old }
+{
+    let count = most.min(buffer.len().min(bytes.len()));
+    buffer[..count].copy_from_slice(&bytes[..count]);
+    count
 }
