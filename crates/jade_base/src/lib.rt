@@ -2,6 +2,8 @@
 //! bytes that come in and go out.
 #![tactic(auto)]
 
+#[cfg(test)]
+mod bytes_tests;
 mod calls;
 pub mod failure;
 pub mod memory_sink;
