@@ -1,12 +1,12 @@
 -- The answer of a program, as its report tells it.
 use Rattle.std.specs.Prelude.{◌≡◌, ℕ, ◌-◌, List, [], ◌∷◌, Option, Some, None, ℤ, nat_lt, if◌then◌else◌}
+use Rattle.jade_base.specs.Places.{is_before, key}
 use Rattle.jade_base.specs.declared.report.FaultNote.{FaultNote}
 use Rattle.jade_base.specs.declared.report.PartStep.{PartStep}
 use Rattle.jade_base.specs.declared.report.Report.{Report}
 use Rattle.jade_syntax.specs.Abstract.{AbstractProgram}
-use Rattle.jade_meaning.specs.Answer.{Answer, Faulted, Cells, is_before, answer}
+use Rattle.jade_meaning.specs.Answer.{Answer, Faulted, Cells, answer}
 use Rattle.jade_meaning.specs.Course.{limit_blame}
-use Rattle.jade_meaning.specs.Laws.{child_path}
 use Rattle.jade_meaning.specs.Report.{report}
 use Rattle.jade_meaning.specs.Serial.{Store}
 
@@ -26,7 +26,7 @@ told None None store = Cells store
 told (Some f) None store = Faulted f.path f.blame
 told None (Some s) store = Faulted s.path limit_blame
 told (Some f) (Some s) store =
-    if is_before (child_path f.path f.children) (child_path s.path s.children) then Faulted f.path f.blame else Faulted s.path limit_blame
+    if is_before (key f.path f.children) (key s.path s.children) then Faulted f.path f.blame else Faulted s.path limit_blame
 
 -- the answer that a report tells, where so many steps are allowed in all
 abbrev pub told_answer : (limit : ℕ) → Report → Answer
