@@ -1,5 +1,5 @@
 -- Sources and sinks in memory: what each has left or took, and which of its calls fail.
-use Rattle.std.specs.Prelude.{ℕ, ◌+◌, min, Bool, List, nat_eq}
+use Rattle.std.specs.Prelude.{ℕ, ◌+◌, ◌-◌, min, Bool, List, ◌++◌, length, take, drop, nat_eq}
 use Rattle.std.specs.List.{list_any}
 
 -- the numbers of the calls that fail, the number of the next call, and the count of faults
@@ -42,3 +42,19 @@ passed plan = record plan { next = one_more plan.next }
 -- the plan after a call that failed
 abbrev pub missed : Plan → Plan
 missed plan = record plan { next = one_more plan.next; faults = one_more plan.faults }
+
+-- a plan before its first call
+abbrev pub first_plan : List ℕ → Plan
+first_plan failing = record { failing = failing; next = 0; faults = 0 }
+
+-- the source after a call that gave n bytes
+abbrev pub source_after : CutSource → ℕ → CutSource
+source_after source n = record source { left = drop n source.left; plan = passed source.plan }
+
+-- the sink after a call that took the first n bytes of a piece
+abbrev pub sink_after : CutSink → ℕ → List ℕ → CutSink
+sink_after sink n piece = record sink { taken = sink.taken ++ take n piece; room = sink.room - n; plan = passed sink.plan }
+
+-- the sink after a call that took a piece whole
+abbrev pub with_piece : RoomSink → List ℕ → RoomSink
+with_piece sink piece = record sink { taken = sink.taken ++ piece; room = sink.room - length piece }

@@ -5,3 +5,4 @@ pub mod Specification
 pub mod Bytes
 pub mod Text
 pub mod InMemory
+pub mod Standard

@@ -43,7 +43,11 @@ fn sources_in_memory_are_read(rt: HostRuntime) -> Result<(), Fail> {
         let named = Vec::from_array(rt.alloc(), [failing])?;
         let mut source = MemorySource::new(bytes, cut, named);
         let got = read_text(rt.alloc(), &mut source);
-        assert_eq!(rt; got.map(|read| read.len()), want, "cut {cut}, failing {failing}");
+        assert_eq!(rt;
+            got.map(|read| read.len()),
+            want,
+            "cut {cut}, failing {failing}"
+        );
     }
     Ok(())
 }

@@ -1,7 +1,7 @@
 ghost use Rattle.std.specs.Prelude.{◌≡◌, ℕ, ◌-◌, ◌<◌, ◌≤◌, min, ◌++◌, ◌||◌, [], length, take, Some, None, IfOk, OnErr, is_err, nat_eq};
 ghost use Rattle.std.specs.Option.{ForSome};
 ghost use Rattle.jade_base.specs.Bytes.{Rose, taken_with, room_after};
-ghost use Rattle.jade_base.specs.InMemory.{is_named, passed, missed};
+ghost use Rattle.jade_base.specs.InMemory.{first_plan, is_named, missed, sink_after};
 
 use crate::calls::Calls;
 use crate::sink::{Sink, put};
@@ -41,7 +41,8 @@ impl MemorySink {
         room: usize,
     ) -> Result<MemorySink, Memory>
         requires { 0 < cut }
-        ensures { IfOk result (λ sink. sink ≡ record { taken = []; cut = cut; room = room; plan = record { failing = failing.items; next = 0; faults = 0 } }) }
+        ensures { IfOk result (λ sink. sink
+            ≡ record { taken = []; cut = cut; room = room; plan = first_plan failing.items }) }
     {
         Ok(MemorySink {
             bytes: Vec::with_capacity(alloc, room)?,
@@ -70,7 +71,7 @@ impl Sink for MemorySink {
         requires { 0 < length piece.now }
         ensures fails { is_err result ≡ (is_named self.old.plan || nat_eq self.old.room 0) }
         ensures number { IfOk result (λ n. n ≡ min self.old.cut (min (length piece.now) self.old.room)) }
-        ensures sink { IfOk result (λ n. self.new ≡ record self.old { taken = self.old.taken ++ take n piece.now; room = self.old.room - n; plan = passed self.old.plan }) }
+        ensures sink { IfOk result (λ n. self.new ≡ sink_after self.old n piece.now) }
         ensures missed { OnErr result (self.new ≡ record self.old { plan = missed self.old.plan }) }
         ensures some { IfOk result (λ n. 0 < n) }
         ensures fault { OnErr result (Rose self.old.plan.faults self.new.plan.faults) }

@@ -1,7 +1,7 @@
 ghost use Rattle.std.specs.Prelude.{◌≡◌, ℕ, ◌<◌, ◌≤◌, min, ◌++◌, length, take, drop, Some, IfOk, OnErr, is_err};
 ghost use Rattle.std.specs.Option.{ForSome};
 ghost use Rattle.jade_base.specs.Bytes.{Rose, left_after, Gives};
-ghost use Rattle.jade_base.specs.InMemory.{is_named, passed, missed};
+ghost use Rattle.jade_base.specs.InMemory.{first_plan, is_named, missed, source_after};
 
 use crate::Failed;
 use crate::calls::Calls;
@@ -34,7 +34,7 @@ impl MemorySource {
     /// numbers are in `failing`; the first call has the number 0.
     pub fn new(bytes: Vec<u8>, cut: usize, failing: Vec<u64>) -> MemorySource
         requires { 0 < cut }
-        ensures { result ≡ record { left = bytes.items; cut = cut; plan = record { failing = failing.items; next = 0; faults = 0 } } }
+        ensures { result ≡ record { left = bytes.items; cut = cut; plan = first_plan failing.items } }
     {
         MemorySource {
             bytes,
@@ -55,7 +55,7 @@ impl Source for MemorySource {
         ensures named { is_err result ≡ is_named self.old.plan }
         ensures number { IfOk result (λ n. n ≡ min self.old.cut (min (length buffer.old) (length self.old.left))) }
         ensures buffer { IfOk result (λ n. buffer.new ≡ take n self.old.left ++ drop n buffer.old) }
-        ensures source { IfOk result (λ n. self.new ≡ record self.old { left = drop n self.old.left; plan = passed self.old.plan }) }
+        ensures source { IfOk result (λ n. self.new ≡ source_after self.old n) }
         ensures kept { OnErr result (buffer.new ≡ buffer.old) }
         ensures gives { IfOk result (λ n. ForSome (Some self.old.left) (λ b. Gives b buffer.new n)) }
         ensures fault { OnErr result (Rose self.old.plan.faults self.new.plan.faults) }

@@ -27,7 +27,8 @@ pub trait Sink {
         ensures same { OnErr result (room self.new ≡ room self.old) }
         ensures fault { OnErr result (Rose (faults self.old) (faults self.new)) }
         ensures fits { ForSome (room self.old) (λ r. length piece.now ≤ r → IsOk result) }
-        ensures quiet { ForSome (room self.old) (λ r. length piece.now ≤ r → faults self.new ≡ faults self.old) }
+        ensures quiet { ForSome (room self.old)
+            (λ r. length piece.now ≤ r → faults self.new ≡ faults self.old) }
         ensures count { faults self.old ≤ faults self.new };
 }
 

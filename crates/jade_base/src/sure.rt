@@ -1,7 +1,7 @@
 ghost use Rattle.std.specs.Prelude.{◌≡◌, ℕ, ◌-◌, ◌<◌, ◌≤◌, min, ◌++◌, [], length, take, drop, Some, IfOk, IsOk, OnErr, is_err, nat_lt};
 ghost use Rattle.std.specs.Option.{ForSome};
 ghost use Rattle.jade_base.specs.Bytes.{Rose, left_after, Gives, taken_with, room_after};
-ghost use Rattle.jade_base.specs.InMemory.{one_more};
+ghost use Rattle.jade_base.specs.InMemory.{one_more, with_piece};
 
 use crate::sink::{Sink, put};
 use crate::source::{Source, give};
@@ -104,7 +104,7 @@ impl Sink for SureSink {
         requires { 0 < length piece.now }
         ensures long { is_err result ≡ nat_lt self.old.room (length piece.now) }
         ensures number { IfOk result (λ n. n ≡ length piece.now) }
-        ensures sink { IfOk result (λ _. self.new ≡ record self.old { taken = self.old.taken ++ piece.now; room = self.old.room - length piece.now }) }
+        ensures sink { IfOk result (λ _. self.new ≡ with_piece self.old piece.now) }
         ensures missed { OnErr result (self.new ≡ record self.old { faults = one_more self.old.faults }) }
         ensures fault { OnErr result (Rose self.old.faults self.new.faults) }
         ensures count { self.old.faults ≤ self.new.faults }
