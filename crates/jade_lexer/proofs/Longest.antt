@@ -216,3 +216,6 @@ longest_above bytes k over under = greatest_above (λ n. is_token (take n bytes)
 
 pub longest_is : (bytes : List ℕ) (n : ℕ) → n ≤ length bytes → is_token (take n bytes) ≡ true → ((k : ℕ) → n < k → k ≤ length bytes → is_token (take k bytes) ≡ false) → longest bytes ≡ n
 longest_is bytes n within token above = greatest_is (λ k. is_token (take k bytes)) (length bytes) n within (λ _. token) above
+
+pub longest_zero : (bytes : List ℕ) → ((k : ℕ) → 0 < k → k ≤ length bytes → is_token (take k bytes) ≡ false) → longest bytes ≡ 0
+longest_zero bytes above = greatest_is (λ k. is_token (take k bytes)) (length bytes) 0 (omega arith) (λ over. absurd (omega arith)) above

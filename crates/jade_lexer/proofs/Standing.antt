@@ -1,31 +1,29 @@
 -- Where the tokens of a cut text stand in it.
-use Rattle.std.proofs.Common.{◌≡◌, ℕ, zero, suc, ◌+◌, ◌<◌, ◌≤◌, true, List, [], ◌∷◌, ◌++◌, length, take, drop, get_or, refl, sym, ap, subst, ◌∙◌, arith, append_assoc, append-nil, length-append}
+use Rattle.std.proofs.Common.{◌≡◌, ℕ, zero, suc, ◌+◌, ◌≤◌, List, [], ◌∷◌, ◌++◌, length, take, drop, get_or, refl, sym, ap, subst, ◌∙◌, arith, append_assoc, append-nil, length-append}
 use Rattle.std.proofs.Math.Seq.{take-append_seam, drop-append_seam}
 use Rattle.std.specs.List.{All}
-use Rattle.std.proofs.lemmas.Bool.{true≢false}
 use Rattle.jade_base.specs.declared.place.Pos.{Pos}
 use Rattle.jade_lexer.specs.declared.lexer.Spot.{Spot}
-use Rattle.jade_lexer.specs.Alphabet.{is_token}
 use Rattle.jade_lexer.specs.Lexemes.{TokenAt, TokenList}
 use Rattle.jade_lexer.specs.Reading.{first_spot, next_pos, pos_after, spot_after, depth_after}
+use Rattle.jade_lexer.proofs.Cuts.{token_some}
 use Rattle.jade_lexer.specs.Cut.{Cut, nothing, blank, token, StandsIn, InOrder, Spans, IsCut}
 
 pos_after-append : (p : Pos) (xs ys : List ℕ) → pos_after p (xs ++ ys) ≡ pos_after (pos_after p xs) ys
 pos_after-append p [] ys = refl
 pos_after-append p (x ∷ xs) ys = pos_after-append (next_pos p x) xs ys
 
-token_some : (t : List ℕ) → is_token t ≡ true → 0 < length t
-token_some [] is = absurd (true≢false (sym is))
-token_some (b ∷ t) is = omega arith
-
+-- tokens that follow one another from a byte do so from any before it
 in_order_from : (low high : ℕ) (ts : List TokenAt) → low ≤ high → InOrder high ts → InOrder low ts
 in_order_from low high [] le order = tt
 in_order_from low high (t ∷ ts) le order = (let from = order.0 in omega arith, order.1, order.2)
 
+-- what holds of a first token and of each later one holds of each
 all_cons : (P : TokenAt → Type 0) (t : TokenAt) (ts : List TokenAt) → P t → All P ts → All P (t ∷ ts)
 all_cons P t ts here rest zero d within = here
 all_cons P t ts here rest (suc k) d within = rest k d (omega arith)
 
+-- where the tokens from a byte on stand
 record Stand (text : List ℕ) (from : ℕ) (ts : List TokenAt) (end : Pos) : Type 0 where
   each : All (StandsIn text) ts
   order : InOrder from ts
@@ -56,7 +54,7 @@ stand end before spot bytes ts at (blank front after is is_blank rest) =
       order = in_order_from spot.start (spot.start + length front) ts (omega arith) later.order;
       end_is = later.end_is ∙ ap (pos_after first_spot.pos) whole;
     }
-stand end before spot bytes (t ∷ ts) at (token after is start pos next rest) =
+stand end before spot bytes (t ∷ ts) at (token after is start pos first sound rest) =
     let front = t.bytes in
     let depth = depth_after spot.depth (get_or front 0 0) in
     let whole : (before ++ front) ++ after ≡ before ++ bytes = append_assoc before front after ∙ ap (λ l. before ++ l) (sym is) in
@@ -69,7 +67,7 @@ stand end before spot bytes (t ∷ ts) at (token after is start pos next rest) =
     } in
     record {
       each = all_cons (StandsIn (before ++ bytes)) t ts (subst (λ l. StandsIn l t) split here) (subst (λ l. All (StandsIn l) ts) whole later.each);
-      order = (omega arith, token_some front next.a_token, subst (λ n. InOrder (n + length front) ts) (sym start) later.order);
+      order = (omega arith, token_some front first.a_token, subst (λ n. InOrder (n + length front) ts) (sym start) later.order);
       end_is = later.end_is ∙ ap (pos_after first_spot.pos) whole;
     }
 

@@ -1,5 +1,5 @@
 use Rattle.jade_lexer.specs.Reading.{first_spot}
-use Rattle.jade_lexer.proofs.Cuts.{cut_whole, whole_cut}
+use Rattle.jade_lexer.proofs.Cuts.{cut_whole, whole_cut, stop_refused, refused_stop}
 use Rattle.jade_lexer.proofs.Standing.{spans_of}
 use Rattle.jade_lexer.proofs.laws.reading_is_cut.Goals as goal
 
@@ -11,3 +11,9 @@ returns-clause-whole c = λ text tokens cut. cut_whole tokens.end first_spot tex
 
 pub returns-clause-spans : goal.returns-clause-spans
 returns-clause-spans c = spans_of
+
+pub returns-clause-stops : goal.returns-clause-stops
+returns-clause-stops c = λ text error same. refused_stop first_spot text error same
+
+pub returns-clause-refused : goal.returns-clause-refused
+returns-clause-refused c = λ text error stops. stop_refused error first_spot text stops
