@@ -24,6 +24,13 @@ struct Spot {
     depth: u32,
 }
 
+/// Where every text begins.
+const FIRST_SPOT: Spot = Spot {
+    start: 0,
+    pos: Pos { line: 1, column: 1 },
+    depth: 0,
+};
+
 /// What stands first at a spot, and its length in bytes: what means nothing, or a token.
 #[derive(Clone, Copy, Debug)]
 enum Part {
@@ -158,11 +165,7 @@ pub fn tokens<'t>(alloc: Global, text: &'t [u8]) -> Result<Tokens<'t>, LexError>
     ensures refused { IfErr result (IsRefusal (reading text.now)) }
 {
     let mut items = Vec::new(alloc);
-    let mut spot = Spot {
-        start: 0,
-        pos: Pos { line: 1, column: 1 },
-        depth: 0,
-    };
+    let mut spot = FIRST_SPOT;
     let mut rest = text;
     'parts: while !rest.is_empty() {
         match first_part(spot, rest) {
