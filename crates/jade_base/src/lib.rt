@@ -2,10 +2,10 @@
 //! bytes that come in and go out.
 #![tactic(auto)]
 
-pub mod content;
 #[cfg(test)]
 mod bytes_tests;
 mod calls;
+pub mod content;
 pub mod failure;
 pub mod memory_sink;
 pub mod memory_source;
@@ -13,13 +13,13 @@ pub mod path;
 pub mod place;
 pub mod report;
 pub mod rights;
-pub mod spec;
-pub mod word;
 pub mod sink;
 pub mod source;
+pub mod spec;
 pub mod standard;
 pub mod sure;
 pub mod text;
+pub mod word;
 
 pub use content::Content;
 pub use failure::{Failed, Memory};
@@ -32,10 +32,10 @@ pub use report::{
     Report, TurnLists,
 };
 pub use rights::{Mode, Right, Rights};
-pub use spec::Spec;
-pub use word::Word;
 pub use sink::Sink;
 pub use source::Source;
+pub use spec::Spec;
 pub use standard::{StdSink, StdSource};
 pub use sure::{SureSink, SureSource};
 pub use text::{TextError, read_text, write_text};
+pub use word::Word;

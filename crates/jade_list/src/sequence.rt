@@ -86,3 +86,24 @@ impl<T> Sequence<T> {
         self.items.as_slice()
     }
 }
+
+#[cfg(test)]
+mod tests {
+    use super::*;
+    use std::test::Fail;
+
+    #[test]
+    fn grows_and_shrinks_at_its_end(rt: HostRuntime) -> Result<(), Fail> {
+        let mut list = Sequence::empty(rt.alloc());
+        assert_eq!(rt; list.pop(), None);
+        for number in [3u32, 1, 4] {
+            assert_eq!(rt; list.push(number), Ok(()));
+        }
+        assert_eq!(rt; list.len(), 3);
+        assert_eq!(rt; *list.at(1), 1);
+        assert_eq!(rt; list.as_slice(), [3, 1, 4].as_slice());
+        assert_eq!(rt; list.pop(), Some(4));
+        assert_eq!(rt; Sequence::from_vec(list.into_vec()).len(), 2);
+        Ok(())
+    }
+}
