@@ -38,6 +38,7 @@ copied_in [] ds o = no_rights
 copied_in (e ∷ es) [] o = no_rights
 copied_in (e ∷ es) (d ∷ ds) o = if e.0.0 == o.0 then d else copied_in es ds o
 
+-- the rights on an object in the copy of a specification
 abbrev pub copied : Specification → ObjectId → Rights
 copied s o = copied_in s.entries s.draft o
 
@@ -47,6 +48,7 @@ rewritten [] ds o r = ds
 rewritten (e ∷ es) [] o r = []
 rewritten (e ∷ es) (d ∷ ds) o r = if e.0.0 == o.0 then r ∷ ds else d ∷ rewritten es ds o r
 
+-- a specification whose copy has these rights on one object
 abbrev pub with_copied : Specification → ObjectId → Rights → Specification
 with_copied s o r = record s { draft = rewritten s.entries s.draft o r }
 

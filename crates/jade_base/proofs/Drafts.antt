@@ -6,7 +6,15 @@ use Rattle.jade_base.specs.declared.place.ObjectId.{ObjectId}
 use Rattle.jade_base.specs.declared.rights.Rights.{Rights}
 use Rattle.jade_base.specs.declared.spec.Entry.{Entry}
 use Rattle.jade_base.specs.Rights.{has_rights}
-use Rattle.jade_base.specs.Specification.{AllAbove, IsAscending, kept, settled, shown, shown_all, specification, with_draft_kept, with_same_draft}
+use Rattle.jade_base.specs.Specification.{AllAbove, IsAscending, kept, settled, shown, shown_all, specification}
+
+-- an entry whose draft says what it says
+abbrev pub with_same_draft : Entry → Entry
+with_same_draft e = record e { draft = e.rights }
+
+-- an entry that says what its draft says
+abbrev pub with_draft_kept : Entry → Entry
+with_draft_kept e = record e { rights = e.draft }
 
 shown-same : (xs : List Entry) → shown_all (map with_same_draft xs) ≡ shown_all xs
 shown-same [] = refl

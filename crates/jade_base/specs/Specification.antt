@@ -70,11 +70,3 @@ IsThere xs o place = (place ≡ place_in xs o) × (place < length xs) × ((d : E
 -- the object has no entry, and this is where one would stand
 abbrev pub IsAbsent : List Entry → ObjectId → ℕ → Type 0
 IsAbsent xs o place = (place ≡ place_in xs o) × (place ≤ length xs) × ((d : Entry) → place < length xs → (slice_index_or xs place d).object.0 ≢ o.0)
-
--- an entry whose draft says what it says
-abbrev pub with_same_draft : Entry → Entry
-with_same_draft e = record e { draft = e.rights }
-
--- an entry that says what its draft says
-abbrev pub with_draft_kept : Entry → Entry
-with_draft_kept e = record e { rights = e.draft }

@@ -1,17 +1,22 @@
 -- The first entry that is not covered.
-use Rattle.std.proofs.Common.{◌≡◌, ℕ, ◌+◌, ◌<◌, ◌≤◌, Bool, true, false, cond, eqb, List, [], ◌∷◌, length, drop, Option, Some, None, MatchOption, refl, sym, ap, subst, ◌∙◌, arith}
+use Rattle.std.proofs.Common.{◌≡◌, ℕ, ◌+◌, ◌<◌, ◌≤◌, Bool, true, false, cond, eqb, List, [], ◌∷◌, drop, Option, Some, None, MatchOption, refl, sym, ap, subst, arith}
 use Rattle.std.specs.Prelude.{slice_get, IfSome, IfNone}
 use Rattle.std.proofs.lemmas.Bool.{eq-eqb, ne_eqb, eqb-true}
 use Rattle.jade_base.specs.declared.place.ObjectId.{ObjectId}
 use Rattle.jade_base.specs.declared.rights.Rights.{Rights}
 use Rattle.jade_base.specs.Rights.{covered}
 use Rattle.jade_base.specs.Specification.{AllAbove, IsAscending, Specification, rights_in}
-use Rattle.spec_cover.specs.Cover.{IsCovered, IsCoveredBelow, IsEnoughFrom, Reaches, covered_on, first_uncovered}
+use Rattle.spec_cover.specs.Cover.{IsCovered, IsCoveredBelow, IsEnoughFrom, covered_on, first_uncovered}
 use Rattle.spec_cover.proofs.Places.{MatchOption-weaker, drop-slice_get, rights-above, IsAscending-drop}
 
 -- a pass that has come to an entry
 pub first_uncovered-turn : (ps es : List (ObjectId × Rights)) (i : ℕ) (e : ObjectId × Rights) → slice_get es i ≡ Some e → first_uncovered ps (drop i es) ≡ cond (covered (rights_in ps e.0) e.1) (first_uncovered ps (drop (i + 1) es)) (Some e.0)
 first_uncovered-turn ps es i e h = ap (λ t. first_uncovered ps t) (drop-slice_get es i e h)
+
+-- the first of these entries is for a number that is at most that of the object
+abbrev pub Reaches : List (ObjectId × Rights) → ObjectId → Type 0
+Reaches [] o = ⊥
+Reaches (e ∷ es) o = e.0.0 ≤ o.0
 
 -- the pass goes on to a higher number
 pub reached-before : (e : ObjectId × Rights) (es : List (ObjectId × Rights)) (o : ObjectId) → IsAscending (e ∷ es) → Reaches es o → e.0.0 ≤ o.0

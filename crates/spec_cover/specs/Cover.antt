@@ -1,5 +1,5 @@
 -- Whether a parent's rights cover those of a child, object by object.
-use Rattle.std.specs.Prelude.{◌≡◌, ℕ, ◌<◌, ◌≤◌, IsTrue, Bool, false, List, [], ◌∷◌, drop, Option, Some, None, if◌then◌else◌}
+use Rattle.std.specs.Prelude.{◌≡◌, ℕ, ◌<◌, ◌≤◌, IsTrue, Bool, List, [], ◌∷◌, drop, Option, Some, None, if◌then◌else◌}
 use Rattle.jade_base.specs.declared.place.ObjectId.{ObjectId}
 use Rattle.jade_base.specs.declared.rights.Rights.{Rights}
 use Rattle.jade_base.specs.Rights.{covered}
@@ -21,11 +21,6 @@ IsCovered parent child = (o : ObjectId) → IsTrue (covered_on parent child o)
 abbrev pub first_uncovered : List (ObjectId × Rights) → List (ObjectId × Rights) → Option ObjectId
 first_uncovered ps [] = None
 first_uncovered ps (e ∷ es) = if covered (rights_in ps e.0) e.1 then first_uncovered ps es else Some e.0
-
--- the first of these entries is for a number that is at most that of the object
-abbrev pub Reaches : List (ObjectId × Rights) → ObjectId → Type 0
-Reaches [] o = ⊥
-Reaches (e ∷ es) o = e.0.0 ≤ o.0
 
 -- what is left of the entries from a place on says the same of the objects from a number on
 abbrev pub IsEnoughFrom : List (ObjectId × Rights) → ℕ → ℕ → Type 0

@@ -1,6 +1,6 @@
-use Rattle.std.proofs.Common.{arith, sym, ◌∙◌}
+use Rattle.std.proofs.Common.{arith}
 use Rattle.std.proofs.lemmas.Bool.Decides.{nat_tests}
-use Rattle.fault_order.proofs.Keys.{keys-greater, keys-less, keys-end, keys-turn}
+use Rattle.fault_order.proofs.Keys.{keys-greater}
 use Rattle.fault_order.proofs.note.compare_keys.Goals as goal
 
 pub returns-then-right-left : goal.returns-then-right-left

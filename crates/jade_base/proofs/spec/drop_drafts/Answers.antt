@@ -1,6 +1,6 @@
 use Rattle.std.proofs.Common.{arith}
 use Rattle.std.proofs.lemmas.List.Edits.{map_over_more}
-use Rattle.jade_base.specs.Specification.{with_same_draft}
+use Rattle.jade_base.proofs.Drafts.{with_same_draft}
 use Rattle.jade_base.proofs.Drafts.{changed-all, settled-same}
 use Rattle.jade_base.proofs.spec.drop_drafts.Goals as goal
 

@@ -2,7 +2,7 @@ use Rattle.std.proofs.Common.{arith, rules}
 use Rattle.std.proofs.lemmas.List.Edits.{map_over_more}
 use Rattle.std.proofs.lemmas.List.Elements.{filter_from_retain}
 use Rattle.jade_base.specs.Rights.{has_rights}
-use Rattle.jade_base.specs.Specification.{with_draft_kept}
+use Rattle.jade_base.proofs.Drafts.{with_draft_kept}
 use Rattle.jade_base.specs.declared.spec.Entry.{Entry}
 use Rattle.jade_base.proofs.Drafts.{changed-all, settled-kept}
 use Rattle.jade_base.proofs.spec.keep_drafts.Goals as goal

@@ -1,5 +1,5 @@
 use Rattle.std.proofs.Common.{◌≡◌, ◌++◌, take, drop, map}
-use Rattle.jade_base.specs.Specification.{with_draft_kept}
+use Rattle.jade_base.proofs.Drafts.{with_draft_kept}
 use Rattle.jade_base.proofs.spec.keep_drafts.Given as goal
 
 abbrev pub invariant-loop-i : goal.invariant-loop-i

@@ -1,7 +1,8 @@
 use Rattle.std.proofs.Common.{◌≡◌, drop}
 use Rattle.jade_base.specs.declared.place.ObjectId.{ObjectId}
 use Rattle.jade_base.specs.Specification.{rights_in}
-use Rattle.spec_cover.specs.Cover.{Reaches, first_uncovered}
+use Rattle.spec_cover.specs.Cover.{first_uncovered}
+use Rattle.spec_cover.proofs.Merged.{Reaches}
 use Rattle.spec_cover.proofs.cover.merged.Given as goal
 
 abbrev pub invariant-loop-i : goal.invariant-loop-i
