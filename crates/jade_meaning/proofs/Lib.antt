@@ -4,3 +4,5 @@ mod Bounds
 mod Ascent
 mod Openings
 mod Cells
+mod Finding
+mod Stores

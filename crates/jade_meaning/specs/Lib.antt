@@ -10,3 +10,4 @@ pub mod Proper
 pub mod Report
 pub mod Built
 pub mod Carry
+pub mod Steps

@@ -61,7 +61,7 @@ fn size_of(item: &Item) -> usize
 {
     match item {
         Item::Single { size, .. } => amount_of(size.value),
-        Item::Input { .. } | Item::Family { .. } => 0,
+        Item::Input { .. } | Item::Family { .. } => unreachable!(),
     }
 }
 

@@ -4,3 +4,4 @@
 mod built;
 mod ledger;
 pub mod laws;
+mod plain;

@@ -1,0 +1,111 @@
+-- Plain stores: what they are in the abstract syntax, and what they do to a task.
+use Rattle.std.proofs.Common.{◌≡◌, ℕ, Bool, true, false, List, refl, ap, sym, ◌∙◌, Option, Some, None}
+use Rattle.std.specs.Prelude.{ℤ, ◌&&◌}
+use Rattle.jade_base.specs.declared.place.Pos.{Pos}
+use Rattle.jade_base.specs.declared.report.FaultKind.TheVariants.{Index, Right as RightFault}
+use Rattle.jade_base.specs.Rights.{is_immediate}
+use Rattle.jade_syntax.specs.declared.tree.Item.{Item}
+use Rattle.jade_syntax.specs.declared.tree.Expr.{Expr}
+use Rattle.jade_syntax.specs.declared.tree.Atom.{Atom}
+use Rattle.jade_syntax.specs.declared.tree.Atom.TheOpen.{CellRef-F}
+use Rattle.jade_syntax.specs.declared.tree.AndExpr.{AndExpr}
+use Rattle.jade_syntax.specs.declared.tree.Compare.{Compare}
+use Rattle.jade_syntax.specs.declared.tree.Product.{Product}
+use Rattle.jade_syntax.specs.declared.tree.Sum.{Sum}
+use Rattle.jade_syntax.specs.declared.tree.Unary.{Unary}
+use Rattle.jade_syntax.specs.declared.tree.CellRef.{CellRef, out-CellRef, fold_out-CellRef, map-CellRef}
+use Rattle.jade_syntax.specs.declared.tree.Statement.{Statement, fold_out-Statement}
+use Rattle.jade_syntax.specs.declared.tree.Statement.TheVariants as statement
+use Rattle.jade_syntax.specs.Abstract.{Name, Expression, Whole, Truth, Variable, Group, Signed, Chain, Cell, Alone, Action, Store}
+use Rattle.jade_syntax.specs.Image.{Reference, reference, expression, and_expression, compare_expression, sum_expression, product_expression, unary_expression, atom_expression, member, placed, action, at_statement, at_atom, at_and, at_cell, at_compare, at_expr, at_product, at_sum, at_unary}
+use Rattle.jade_syntax.specs.Built.{is_alone, is_number, is_plain_store}
+use Rattle.jade_meaning.specs.declared.plain.Write.{Write}
+use Rattle.jade_meaning.specs.Values.{is_index, magnitude}
+use Rattle.jade_meaning.specs.Specification.{Specification, rights_on}
+use Rattle.jade_meaning.specs.Course.{Environment, Mine, On, Writes, range_from, run, choose, fault, write_cell}
+use Rattle.jade_meaning.specs.Steps.{setting, mine_at, MayWrite, MayNotWrite}
+
+abbrev Layer : Type 0
+Layer = CellRef-F Atom AndExpr CellRef Compare Expr Product Sum Unary
+
+abbrev layer : Layer → Reference
+layer f = at_cell (map-CellRef Atom AndExpr CellRef Compare Expr Product Sum Unary Expression Expression Reference Expression Expression Expression Expression Expression
+    atom_expression and_expression reference compare_expression expression product_expression sum_expression unary_expression f)
+
+layer_is : (n : Name) (p : Pos) (o : Option Expr) (c : Expr) → layer (record { name = n; pos = p; family = o; cell = c }) ≡ record { place = placed n p (member o); cell = expression c }
+layer_is n p None c = refl
+layer_is n p (Some e) c = refl
+
+abbrev opened : CellRef → Reference
+opened t = record { place = placed (out-CellRef t).name (out-CellRef t).pos (member (out-CellRef t).family); cell = expression (out-CellRef t).cell }
+
+cell_opens : (t : CellRef) → reference t ≡ opened t
+cell_opens t = fold_out-CellRef Expression Expression Reference Expression Expression Expression Expression Expression at_atom at_and at_cell at_compare at_expr at_product at_sum at_unary t ∙ layer_is _ _ _ _
+
+store_opens : (t : CellRef) (v : Expr) → action (statement.Store t v) ≡ Store (opened t).place (opened t).cell (expression v)
+store_opens t v = fold_out-Statement Action at_statement (statement.Store t v) ∙ rw (statement.outs-Store t v) (ap (λ r. Store r.place r.cell (expression v)) (cell_opens t))
+
+-- what a plain store has in it
+pub record PlainStore (s : Statement) (t : CellRef) (v : Expr) : Type 0 where
+  pub is : action s ≡ Store (Alone (out-CellRef t).name (out-CellRef t).pos) (expression (out-CellRef t).cell) (expression v)
+  pub cell : is_number (expression (out-CellRef t).cell) ≡ true
+  pub value : is_number (expression v) ≡ true
+
+and_parts : (a b : Bool) → (a && b) ≡ true → (a ≡ true) × (b ≡ true)
+and_parts true b h = (refl, h)
+and_parts false b h = absurd (cc)
+
+alone : (n : Name) (p : Pos) (o : Option Expression) → is_alone (placed n p o) ≡ true → placed n p o ≡ Alone n p
+alone n p None h = refl
+alone n p (Some e) h = absurd (cc)
+
+pub plain_is : (s : Statement) (t : CellRef) (v : Expr) → s ≡ statement.Store t v → is_plain_store (action s) ≡ true → PlainStore s t v
+plain_is s t v e h =
+    let is = ap action e ∙ store_opens t v in
+    let plain = ap is_plain_store (sym is) ∙ h in
+    let both = and_parts (is_alone (opened t).place && is_number (opened t).cell) (is_number (expression v)) plain in
+    let first = and_parts (is_alone (opened t).place) (is_number (opened t).cell) both.0 in
+    record {
+      is = is ∙ ap (λ o. Store o (opened t).cell (expression v)) (alone (out-CellRef t).name (out-CellRef t).pos (member (out-CellRef t).family) first.0);
+      cell = first.1;
+      value = both.1;
+    }
+
+-- a plain store with these numbers
+pub numbered : (s : Statement) (t : CellRef) (v : Expr) (i n : ℤ) → PlainStore s t v → expression (out-CellRef t).cell ≡ Whole i → expression v ≡ Whole n → action s ≡ Store (Alone (out-CellRef t).name (out-CellRef t).pos) (Whole i) (Whole n)
+numbered s t v i n p e f =
+    p.is ∙ ap (λ c. Store (Alone (out-CellRef t).name (out-CellRef t).pos) c (expression v)) e ∙ ap (Store (Alone (out-CellRef t).name (out-CellRef t).pos) (Whole i)) f
+
+number_is : (e : Expression) → is_number e ≡ true → (n : ℤ) × (e ≡ Whole n)
+number_is (Whole n) h = (n, refl)
+number_is (Truth b) h = absurd (cc)
+number_is (Variable x) h = absurd (cc)
+number_is (Group e) h = absurd (cc)
+number_is (Signed s at e) h = absurd (cc)
+number_is (Chain e links) h = absurd (cc)
+number_is (Cell o e) h = absurd (cc)
+
+module _ (items : List Item) (spec : Specification) where
+  runs : (given env : Environment) (limit taken : ℕ) (on : On) (x : Name) (at : Pos) (i n : ℤ) → run (setting items given limit) (Store (Alone x at) (Whole i) (Whole n)) on (mine_at env spec taken) ≡ choose (is_index i (range_from 0 x items).size) (λ k. write_cell (range_from 0 x items).first (magnitude i) n at on (mine_at env spec taken)) (fault Index at) (mine_at env spec taken)
+  runs given env limit taken on x at i n = refl
+
+  writes : (m : Mine) (on : On) (o c : ℕ) (n : ℤ) (at : Pos) (b : Bool) → is_immediate (rights_on m.spec o).writes ≡ b → write_cell o c n at on m ≡ choose b (λ k. Writes o c n (on k)) (fault RightFault at) m
+  writes m on o c n at b e = ap (λ b. choose b (λ k. Writes o c n (on k)) (fault RightFault at) m) e
+
+  pub may_write : (a : Action) (x : Name) (at : Pos) (i n : ℤ) (w : Write) → a ≡ Store (Alone x at) (Whole i) (Whole n) → is_index i (range_from 0 x items).size ≡ true → is_immediate (rights_on spec (range_from 0 x items).first).writes ≡ true → w.object ≡ (range_from 0 x items).first → w.cell ≡ magnitude i → w.value ≡ n → MayWrite items spec a w
+  may_write a x at i n w e index right o c v = record { same = λ given env limit taken on. let m = mine_at env spec taken in
+      ap (λ b. run (setting items given limit) b on m) e ∙ runs given env limit taken on x at i n
+      ∙ ap (λ b. choose b (λ k. write_cell (range_from 0 x items).first (magnitude i) n at on m) (fault Index at) m) index
+      ∙ writes m on (range_from 0 x items).first (magnitude i) n at true right
+      ∙ ap (λ k. Writes k (magnitude i) n (on m)) (sym o) ∙ ap (λ k. Writes w.object k n (on m)) (sym c) ∙ ap (λ k. Writes w.object w.cell k (on m)) (sym v) }
+
+  pub no_cell : (s : Statement) (t : CellRef) (v : Expr) (i : ℤ) → PlainStore s t v → expression (out-CellRef t).cell ≡ Whole i → is_index i (range_from 0 (out-CellRef t).name items).size ≡ false → MayNotWrite items spec (action s) (record { kind = Index; pos = Some (out-CellRef t).pos })
+  no_cell s t v i p e index = record { same = λ given env limit taken on. let m = mine_at env spec taken in let n = number_is (expression v) p.value in
+      ap (λ b. run (setting items given limit) b on m) (numbered s t v i n.0 p e n.1) ∙ runs given env limit taken on (out-CellRef t).name (out-CellRef t).pos i n.0
+      ∙ ap (λ b. choose b (λ k. write_cell (range_from 0 (out-CellRef t).name items).first (magnitude i) n.0 (out-CellRef t).pos on m) (fault Index (out-CellRef t).pos) m) index }
+
+  pub no_right : (s : Statement) (t : CellRef) (v : Expr) (i : ℤ) → PlainStore s t v → expression (out-CellRef t).cell ≡ Whole i → is_index i (range_from 0 (out-CellRef t).name items).size ≡ true → is_immediate (rights_on spec (range_from 0 (out-CellRef t).name items).first).writes ≡ false → MayNotWrite items spec (action s) (record { kind = RightFault; pos = Some (out-CellRef t).pos })
+  no_right s t v i p e index right = record { same = λ given env limit taken on. let m = mine_at env spec taken in let n = number_is (expression v) p.value in let o = (range_from 0 (out-CellRef t).name items).first in
+      ap (λ b. run (setting items given limit) b on m) (numbered s t v i n.0 p e n.1) ∙ runs given env limit taken on (out-CellRef t).name (out-CellRef t).pos i n.0
+      ∙ ap (λ b. choose b (λ k. write_cell o (magnitude i) n.0 (out-CellRef t).pos on m) (fault Index (out-CellRef t).pos) m) index
+      ∙ writes m on o (magnitude i) n.0 (out-CellRef t).pos false right }
