@@ -6,3 +6,5 @@ mod Openings
 mod Cells
 mod Finding
 mod Stores
+mod Walking
+mod Making

@@ -2,6 +2,9 @@
 #![tactic(auto)]
 
 mod built;
+mod count;
 mod ledger;
 pub mod laws;
 mod plain;
+mod stop;
+mod task;
