@@ -8,3 +8,4 @@ mod Finding
 mod Stores
 mod Walking
 mod Making
+mod Carrying

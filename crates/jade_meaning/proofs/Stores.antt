@@ -1,10 +1,7 @@
 -- Plain stores: what they are in the abstract syntax, and what they do to a task.
-use Rattle.std.proofs.Common.{◌≡◌, ℕ, Bool, true, false, List, refl, ap, sym, ◌∙◌, Option, Some, None}
-use Rattle.std.specs.Prelude.{ℤ, ◌&&◌}
+use Rattle.std.proofs.Common.{◌≡◌, Bool, true, false, List, [], ◌∷◌, map, refl, ap, sym, ◌∙◌, Option, Some, None}
+use Rattle.std.specs.Prelude.{◌&&◌}
 use Rattle.jade_base.specs.declared.place.Pos.{Pos}
-use Rattle.jade_base.specs.declared.report.FaultKind.TheVariants.{Index, Right as RightFault}
-use Rattle.jade_base.specs.Rights.{is_immediate}
-use Rattle.jade_syntax.specs.declared.tree.Item.{Item}
 use Rattle.jade_syntax.specs.declared.tree.Expr.{Expr}
 use Rattle.jade_syntax.specs.declared.tree.Atom.{Atom}
 use Rattle.jade_syntax.specs.declared.tree.Atom.TheOpen.{CellRef-F}
@@ -16,14 +13,10 @@ use Rattle.jade_syntax.specs.declared.tree.Unary.{Unary}
 use Rattle.jade_syntax.specs.declared.tree.CellRef.{CellRef, out-CellRef, fold_out-CellRef, map-CellRef}
 use Rattle.jade_syntax.specs.declared.tree.Statement.{Statement, fold_out-Statement}
 use Rattle.jade_syntax.specs.declared.tree.Statement.TheVariants as statement
-use Rattle.jade_syntax.specs.Abstract.{Name, Expression, Whole, Truth, Variable, Group, Signed, Chain, Cell, Alone, Action, Store}
-use Rattle.jade_syntax.specs.Image.{Reference, reference, expression, and_expression, compare_expression, sum_expression, product_expression, unary_expression, atom_expression, member, placed, action, at_statement, at_atom, at_and, at_cell, at_compare, at_expr, at_product, at_sum, at_unary}
-use Rattle.jade_syntax.specs.Built.{is_alone, is_number, is_plain_store}
-use Rattle.jade_meaning.specs.declared.plain.Write.{Write}
-use Rattle.jade_meaning.specs.Values.{is_index, magnitude}
-use Rattle.jade_meaning.specs.Specification.{Specification, rights_on}
-use Rattle.jade_meaning.specs.Course.{Environment, Mine, On, Writes, range_from, run, choose, fault, write_cell}
-use Rattle.jade_meaning.specs.Steps.{setting, mine_at, MayWrite, MayNotWrite}
+use Rattle.jade_syntax.specs.Abstract.{Name, Expression, Alone, Action, Store, Withonly}
+use Rattle.jade_syntax.specs.Image.{Reference, reference, expression, and_expression, compare_expression, sum_expression, product_expression, unary_expression, atom_expression, member, placed, action, block, at_statement, at_atom, at_and, at_cell, at_compare, at_expr, at_product, at_sum, at_unary}
+use Rattle.jade_syntax.specs.declared.tree.Named.{Named}
+use Rattle.jade_syntax.specs.Built.{is_alone, is_number, is_plain, is_plain_store, is_plain_wr, is_empty_list, each_action}
 
 abbrev Layer : Type 0
 Layer = CellRef-F Atom AndExpr CellRef Compare Expr Product Sum Unary
@@ -70,3 +63,19 @@ plain_is s t v e h =
       cell = first.1;
       value = both.1;
     }
+
+withonly_opens : (at : Pos) (section : List Statement) (names : List Named) (body : List Statement) → action (statement.Withonly at section names body) ≡ Withonly at (block section) (map (λ n. n.name) names) (block body)
+withonly_opens at section names body = fold_out-Statement Action at_statement (statement.Withonly at section names body) ∙ rw (statement.outs-Withonly at section names body) refl
+
+no_names : (names : List Name) → is_empty_list names ≡ true → names ≡ []
+no_names [] h = refl
+no_names (x ∷ xs) h = absurd (cc)
+
+-- a plain `withonly` has no names
+pub withonly_is : (s : Statement) (at : Pos) (section : List Statement) (names : List Named) (body : List Statement) → s ≡ statement.Withonly at section names body → is_plain (action s) ≡ true → action s ≡ Withonly at (block section) [] (block body)
+withonly_is s at section names body e h =
+    let is = ap action e ∙ withonly_opens at section names body in
+    let plain = ap is_plain (sym is) ∙ h in
+    let first = and_parts (each_action is_plain_wr (block section) && is_empty_list (map (λ n. n.name) names)) (each_action is_plain_store (block body)) plain in
+    let second = and_parts (each_action is_plain_wr (block section)) (is_empty_list (map (λ n. n.name) names)) first.0 in
+    is ∙ ap (λ x. Withonly at (block section) x (block body)) (no_names (map (λ n. n.name) names) second.1)

@@ -1,7 +1,7 @@
 -- A task that goes through its statements one by one.
-use Rattle.std.proofs.Common.{◌≡◌, ℕ, suc, ◌+◌, ◌<◌, ◌≤◌, Bool, true, false, List, [], ◌∷◌, refl, ap, sym, ◌∙◌, subst, Option, Some, None, arith, drop, length, length-drop, ◌-◌, add-one}
+use Rattle.std.proofs.Common.{◌≡◌, ℕ, suc, ◌+◌, ◌<◌, ◌≤◌, Bool, true, false, List, [], ◌∷◌, refl, ap, sym, ◌∙◌, subst, Some, None, arith, drop, length, length-drop, ◌-◌, add-one}
 use Rattle.std.proofs.Common.{◌++◌, take, append-nil, Result, Ok, Err}
-use Rattle.std.specs.Prelude.{nat_lt, slice_get, ◌&&◌, OnOk}
+use Rattle.std.specs.Prelude.{slice_get, ◌&&◌, OnOk, IfOk, IfErr}
 use Rattle.std.specs.List.{list_all}
 use Rattle.std.proofs.lemmas.List.{drop_all, take_all}
 use Rattle.std.proofs.lemmas.Bool.{lt-ltb, le-ltb}
@@ -16,11 +16,13 @@ use Rattle.jade_syntax.specs.Built.{each_action, is_single}
 use Rattle.jade_meaning.specs.declared.count.Count.{Count}
 use Rattle.jade_meaning.specs.declared.ledger.Ledger.{Ledger}
 use Rattle.jade_meaning.specs.declared.plain.Write.{Write}
+use Rattle.jade_meaning.specs.declared.stop.Stop.{Stop}
+use Rattle.jade_meaning.specs.declared.stop.Stop.TheVariants.{Fault, Memory}
 use Rattle.jade_meaning.specs.Carry.{carried, put, noted}
 use Rattle.jade_meaning.specs.Serial.{Path}
 use Rattle.jade_meaning.specs.Specification.{Specification}
 use Rattle.jade_meaning.specs.Course.{Environment, Mine, On, Steps, Ends, choose, step, limit_blame, run, run_all, finish, none_of}
-use Rattle.jade_meaning.specs.Steps.{setting, mine_at, from, drafting, MayWrite, MayNotWrite, Comes, Faults, Does, Fails, IsCounted, Runs, Drafts, DraftFaults, Declares}
+use Rattle.jade_meaning.specs.Steps.{setting, mine_at, from, drafting, MayWrite, MayNotWrite, Comes, Faults, Does, Fails, IsCounted, Runs, Drafts, DraftFaults, Declares, AtFault}
 use Rattle.jade_meaning.proofs.Cells.{drop_at}
 
 -- a step that is within the limit
@@ -56,25 +58,29 @@ counted_more c d e h = subst IsCounted (sym e) (record { part = omega (arith, h.
 module _ (items : List Item) (limit : ℕ) (spec : Specification) (p : Path) (ss : List Statement) (old : Count) (l : Ledger) (i : ℕ) (s : Statement) (at : slice_get ss i ≡ Some s) where
   -- one statement more
   pub comes_on : (c d : Count) (k : Ledger) (n : Count) (m : Ledger) → c.taken < limit → d ≡ stepped c → Comes items limit spec p (block ss) old l (block (drop i ss)) c k → Does items limit spec p (action s) d k n m → Comes items limit spec p (block ss) old l (block (drop (i + 1) ss)) n m
-  comes_on c d k n m lt e h does = record { same = λ given env on.
-      let S = setting items given limit in
-      let rest = run_all S (block (drop (i + 1) ss)) on in
-      h.same given env on
-      ∙ ap (λ a. from p (run_all S a on (mine_at env spec c.taken)) c k) (block_at ss i s at)
-      ∙ step_goes limit (run S (action s) rest) (mine_at env spec c.taken) p c.children c.part k lt
-      ∙ ap (λ q. from p (run S (action s) rest (mine_at env spec q.taken)) q k) (sym e)
-      ∙ does.same given env rest }
+  comes_on c d k n m lt e h does = record {
+    same = λ given env on.
+        let S = setting items given limit in
+        let rest = run_all S (block (drop (i + 1) ss)) on in
+        h.same given env on
+        ∙ ap (λ a. from p (run_all S a on (mine_at env spec c.taken)) c k) (block_at ss i s at)
+        ∙ step_goes limit (run S (action s) rest) (mine_at env spec c.taken) p c.children c.part k lt
+        ∙ ap (λ q. from p (run S (action s) rest (mine_at env spec q.taken)) q k) (sym e)
+        ∙ does.same given env rest;
+  }
 
   -- a statement that ends the task
   pub fails_on : (c d : Count) (k : Ledger) (n : Count) (m : Ledger) (b : Blame) → c.taken < limit → d ≡ stepped c → Comes items limit spec p (block ss) old l (block (drop i ss)) c k → Fails items limit spec p (action s) d k n m b → Faults items limit spec p (block ss) old l n m b
-  fails_on c d k n m b lt e h fails = record { same = λ given env on.
-      let S = setting items given limit in
-      let rest = run_all S (block (drop (i + 1) ss)) on in
-      h.same given env on
-      ∙ ap (λ a. from p (run_all S a on (mine_at env spec c.taken)) c k) (block_at ss i s at)
-      ∙ step_goes limit (run S (action s) rest) (mine_at env spec c.taken) p c.children c.part k lt
-      ∙ ap (λ q. from p (run S (action s) rest (mine_at env spec q.taken)) q k) (sym e)
-      ∙ fails.same given env rest }
+  fails_on c d k n m b lt e h fails = record {
+    same = λ given env on.
+        let S = setting items given limit in
+        let rest = run_all S (block (drop (i + 1) ss)) on in
+        h.same given env on
+        ∙ ap (λ a. from p (run_all S a on (mine_at env spec c.taken)) c k) (block_at ss i s at)
+        ∙ step_goes limit (run S (action s) rest) (mine_at env spec c.taken) p c.children c.part k lt
+        ∙ ap (λ q. from p (run S (action s) rest (mine_at env spec q.taken)) q k) (sym e)
+        ∙ fails.same given env rest;
+  }
 
 -- a step beyond the limit ends the task
 pub limit_on : (items : List Item) (limit : ℕ) (spec : Specification) (p : Path) (ss : List Statement) (old : Count) (l : Ledger) (i : ℕ) (c d : Count) (k : Ledger) (b : Blame) → i < length ss → limit ≤ c.taken → d ≡ c → b ≡ limit_blame → Comes items limit spec p (block ss) old l (block (drop i ss)) c k → Faults items limit spec p (block ss) old l d k b
@@ -118,14 +124,16 @@ overwritten xs old n e f =
 module _ (items : List Item) (limit : ℕ) (ss : List Statement) (old : Count) (i : ℕ) where
   -- one declaration more
   pub drafts_on : (s : Statement) → slice_get ss i ≡ Some s → (c d : Count) (draft drafted : Specification) → c.taken < limit → d ≡ stepped c → Drafts items limit (block ss) old (block (drop i ss)) c draft → Declares items (action s) draft drafted → Drafts items limit (block ss) old (block (drop (i + 1) ss)) d drafted
-  drafts_on s at c d draft drafted lt e h does = record { same = λ given env spec p l on.
-      let S = setting items given limit in
-      let rest = run_all S (block (drop (i + 1) ss)) on in
-      h.same given env spec p l on
-      ∙ ap (λ a. from p (run_all S a on (drafting env spec draft c.taken)) c l) (block_at ss i s at)
-      ∙ step_goes limit (run S (action s) rest) (drafting env spec draft c.taken) p c.children c.part l lt
-      ∙ ap (λ x. carried p x c.children (c.part + 1) l) (does.same given env spec limit (c.taken + 1) rest)
-      ∙ ap (λ q. from p (rest (drafting env spec drafted q.taken)) q l) (sym e) }
+  drafts_on s at c d draft drafted lt e h does = record {
+    same = λ given env spec p l on.
+        let S = setting items given limit in
+        let rest = run_all S (block (drop (i + 1) ss)) on in
+        h.same given env spec p l on
+        ∙ ap (λ a. from p (run_all S a on (drafting env spec draft c.taken)) c l) (block_at ss i s at)
+        ∙ step_goes limit (run S (action s) rest) (drafting env spec draft c.taken) p c.children c.part l lt
+        ∙ ap (λ x. carried p x c.children (c.part + 1) l) (does.same given env spec limit (c.taken + 1) rest)
+        ∙ ap (λ q. from p (rest (drafting env spec drafted q.taken)) q l) (sym e);
+  }
 
   -- a step beyond the limit ends the task
   pub draft_limit : (c d : Count) (draft : Specification) (b : Blame) → i < length ss → limit ≤ c.taken → d ≡ c → b ≡ limit_blame → Drafts items limit (block ss) old (block (drop i ss)) c draft → DraftFaults items limit (block ss) old d b
@@ -137,3 +145,22 @@ module _ (items : List Item) (limit : ℕ) (ss : List Statement) (old : Count) (
 
 pub drafts_none : (items : List Item) (limit : ℕ) (a : Actions) (c : Count) (draft : Specification) → draft ≡ none_of items → Drafts items limit a c a c draft
 drafts_none items limit a c draft e = record { same = λ given env spec p l on. ap (λ d. from p (run_all (setting items given limit) a on (drafting env spec d c.taken)) c l) (sym e) }
+
+pub in_ok : {A E : Type 0} {P Q : A → Type 0} (r : Result A E) → ((x : A) → P x → Q x) → IfOk r P → IfOk r Q
+in_ok (Ok x) f h = f x h
+in_ok (Err e) f h = h
+
+pub on_err : {A E : Type 0} {P Q : E → Type 0} (r : Result A E) → ((e : E) → P e → Q e) → IfErr r P → IfErr r Q
+on_err (Ok x) f h = h
+on_err (Err e) f h = f e h
+
+pub at_fault : {P Q : Blame → Type 0} (s : Stop) → ((b : Blame) → P b → Q b) → AtFault P s → AtFault Q s
+at_fault (Fault b) f h = f b h
+at_fault Memory f h = tt
+
+-- the same statement under another name
+pub does_same : (items : List Item) (limit : ℕ) (spec named : Specification) (p : Path) (a b : Action) (old new : Count) (l m : Ledger) → spec ≡ named → a ≡ b → Does items limit named p b old l new m → Does items limit spec p a old l new m
+does_same items limit spec named p a b old new l m e f h = record { same = λ given env on. ap (λ s. from p (run (setting items given limit) a on (mine_at env s old.taken)) old l) e ∙ ap (λ x. from p (run (setting items given limit) x on (mine_at env named old.taken)) old l) f ∙ h.same given env on ∙ ap (λ s. from p (on (mine_at env s new.taken)) new m) (sym e) }
+
+pub fails_same : (items : List Item) (limit : ℕ) (spec named : Specification) (p : Path) (a b : Action) (old new : Count) (l m : Ledger) (blame : Blame) → spec ≡ named → a ≡ b → Fails items limit named p b old l new m blame → Fails items limit spec p a old l new m blame
+fails_same items limit spec named p a b old new l m blame e f h = record { same = λ given env on. ap (λ s. from p (run (setting items given limit) a on (mine_at env s old.taken)) old l) e ∙ ap (λ x. from p (run (setting items given limit) x on (mine_at env named old.taken)) old l) f ∙ h.same given env on }

@@ -3,8 +3,11 @@
 
 mod built;
 mod count;
-mod ledger;
 pub mod laws;
+mod ledger;
 mod plain;
+pub mod serial;
 mod stop;
 mod task;
+
+pub use serial::serial_run;

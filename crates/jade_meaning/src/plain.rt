@@ -100,7 +100,11 @@ fn may_write(rights: &[Rights], object: usize) -> bool
 }
 
 // The write that a store is, or the fault that it is.
-pub(crate) fn plain_store(items: &Items, rights: &[Rights], statement: &Statement) -> Result<Write, Blame>
+pub(crate) fn plain_store(
+    items: &Items,
+    rights: &[Rights],
+    statement: &Statement,
+) -> Result<Write, Blame>
     requires singles { list_all is_single items.now ≡ true }
     requires plain { is_plain_store (action statement.now) ≡ true }
     ensures { MatchResult result (MayWrite items.now rights.now (action statement.now)) (MayNotWrite items.now rights.now (action statement.now)) }

@@ -1,9 +1,9 @@
 //! A task that goes through its statements, with what it notes.
 
-ghost use Rattle.std.specs.Prelude.{◌≡◌, ◌≤◌, ◌<◌, [], true, length, replicate, MatchResult, OnOk, IfOk, IfErr};
+ghost use Rattle.std.specs.Prelude.{◌≡◌, ◌≤◌, ◌<◌, [], ◌∷◌, true, length, replicate, MatchResult, OnOk, IfOk, IfErr};
 ghost use Rattle.std.specs.List.{list_all};
 ghost use Rattle.jade_base.specs.declared.place.Pos.{Pos};
-ghost use Rattle.jade_base.specs.Rights.{no_rights};
+ghost use Rattle.jade_base.specs.Rights.{no_rights, both_rights};
 ghost use Rattle.jade_syntax.specs.Abstract.{Done, Withonly};
 ghost use Rattle.jade_syntax.specs.Image.{block, action};
 ghost use Rattle.jade_syntax.specs.Built.{is_single, is_plain_store, is_plain_wr, is_plain, each_action};
@@ -151,7 +151,15 @@ fn with_only(
     };
     ledger.note(alloc, path, count.children, count.part, None)?;
     let child_path = path.child(alloc, count.children)?;
-    child(alloc, items, limit, rights.as_slice(), body, &child_path, ledger)?;
+    child(
+        alloc,
+        items,
+        limit,
+        rights.as_slice(),
+        body,
+        &child_path,
+        ledger,
+    )?;
     count.begin_part();
     Ok(())
 }
@@ -189,4 +197,79 @@ fn statement(
         }
         _ => unreachable!(),
     }
+}
+
+// Goes through `main`.
+fn main_block(
+    alloc: Global,
+    items: &Items,
+    limit: u32,
+    rights: &[Rights],
+    main: &Block,
+    path: &Path,
+    count: &mut Count,
+    ledger: &mut Ledger,
+) -> Result<(), Stop>
+    requires singles { list_all is_single items.now ≡ true }
+    requires plain { each_action is_plain (block main.now) ≡ true }
+    requires all { rights.now ≡ all_rights items.now }
+    requires counted { IsCounted count.old }
+    ensures done { OnOk result (Comes items.now limit rights.now path.now (block main.now) count.old ledger.old Done count.new ledger.new) }
+    ensures fault { IfErr result (AtFault (Faults items.now limit rights.now path.now (block main.now) count.old ledger.old count.new ledger.new)) }
+{
+    for i in 0..main.len() {
+        match count.begin_step(limit) {
+            Ok(()) => {}
+            Err(blame) => return Err(Stop::Fault(blame)),
+        }
+        match statement(alloc, items, limit, rights, main.at(i), path, count, ledger) {
+            Ok(()) => {}
+            Err(stop) => return Err(stop),
+        }
+    }
+    Ok(())
+}
+
+// All rights on so many objects.
+fn all_rights(alloc: Global, objects: usize) -> Result<Vec<Rights>, Memory>
+    ensures { IfOk result (λ rights. rights.items ≡ replicate objects both_rights) }
+{
+    let all = Rights {
+        reads: Right::Immediate,
+        writes: Right::Immediate,
+        commutes: Right::Absent,
+    };
+    Ok(Vec::from_elem(alloc, all, objects)?)
+}
+
+/// Runs `main` and all its children, and notes their parts.
+pub(crate) fn root(
+    alloc: Global,
+    items: &Items,
+    limit: u32,
+    main: &Block,
+    ledger: &mut Ledger,
+) -> Result<(), Memory>
+    requires singles { list_all is_single items.now ≡ true }
+    requires plain { each_action is_plain (block main.now) ≡ true }
+    ensures { OnOk result (Runs items.now limit (all_rights items.now) (0 ∷ []) (block main.now) ledger.old ledger.new) }
+{
+    let path = Path::root(alloc)?;
+    let rights = all_rights(alloc, items.len())?;
+    let mut count = Count::start();
+    let blame = match main_block(
+        alloc,
+        items,
+        limit,
+        rights.as_slice(),
+        main,
+        &path,
+        &mut count,
+        ledger,
+    ) {
+        Ok(()) => None,
+        Err(Stop::Fault(blame)) => Some(blame),
+        Err(Stop::Memory) => return Err(Memory),
+    };
+    ledger.note(alloc, &path, count.children, count.part, blame)
 }

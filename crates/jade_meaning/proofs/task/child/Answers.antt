@@ -1,4 +1,4 @@
-use Rattle.std.proofs.Common.{ap, ◌∙◌, None, Some}
+use Rattle.std.proofs.Common.{ap, ◌∙◌}
 use Rattle.jade_syntax.specs.Image.{block}
 use Rattle.jade_meaning.specs.Carry.{noted}
 use Rattle.jade_meaning.proofs.Walking.{runs_end, runs_fault, on_ok}
@@ -11,6 +11,6 @@ returns c =
     let new = c.stores.new.count in
     let m = c.stores.new.ledger in
     elim c.match-stores.branch [
-        in-Ok w ↦ on_ok c.note.result (λ e. runs_end c.args.items.now c.args.limit c.args.rights.now path (block c.args.body.now) c.start-count.result new c.args.ledger.now m c.note.new.self c.start-count.ensures (w.in-Ok.ensures path) (e ∙ ap (λ b. noted path new.children new.part b m) w.blame-is)) c.note.ensures
+      | in-Ok w ↦ on_ok c.note.result (λ e. runs_end c.args.items.now c.args.limit c.args.rights.now path (block c.args.body.now) c.start-count.result new c.args.ledger.now m c.note.new.self c.start-count.ensures (w.in-Ok.ensures path) (e ∙ ap (λ b. noted path new.children new.part b m) w.blame-is)) c.note.ensures
       | in-Err w ↦ on_ok c.note.result (λ e. runs_fault c.args.items.now c.args.limit c.args.rights.now path (block c.args.body.now) c.start-count.result new c.args.ledger.now m c.note.new.self w.in-Err.blame c.start-count.ensures (w.in-Err.ensures path) (e ∙ ap (λ b. noted path new.children new.part b m) w.blame-is)) c.note.ensures
     ]

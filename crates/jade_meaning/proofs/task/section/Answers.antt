@@ -1,6 +1,5 @@
-use Rattle.std.proofs.Common.{◌≡◌, ◌+◌, ◌++◌, take, drop, refl, subst, ap, sym, ◌∙◌, arith, length, replicate}
+use Rattle.std.proofs.Common.{◌≡◌, ◌++◌, take, drop, refl, subst, ap, sym, ◌∙◌, arith, length, replicate}
 use Rattle.std.proofs.lemmas.List.{length-replicate}
-use Rattle.jade_base.specs.declared.rights.Rights.{Rights}
 use Rattle.jade_base.specs.Rights.{no_rights}
 use Rattle.jade_syntax.specs.Built.{is_plain_wr}
 use Rattle.jade_syntax.specs.Image.{block, action}

@@ -24,7 +24,7 @@ loop-i-preserved c =
     let v : to_z w64 (of_z w64 w.value) ≡ w.value = search rules in
     record {
       comes = λ p. comes_on c.args.items.now c.args.limit c.args.rights.now p c.args.body.now c.args.count.now c.args.ledger.now c.loop-i.i c.at.result.now c.at.ensures c.loop-i.count c.begin_step.new.self k c.begin_step.new.self after c.in-Ok.ensures.within c.in-Ok.ensures.counted (c.loop-i.invariant.comes p)
-        (writes c.args.items.now c.args.limit c.args.rights.now p (action c.at.result.now) c.begin_step.new.self k w after (ap (λ s. record { objects = s; faults = k.faults; steps = k.steps }) c.write.ensures ∙ ap (λ z. put w.object w.cell z k) v) c.in-Ok-plain_store.ensures);
+          (writes c.args.items.now c.args.limit c.args.rights.now p (action c.at.result.now) c.begin_step.new.self k w after (ap (λ s. record { objects = s; faults = k.faults; steps = k.steps }) c.write.ensures ∙ ap (λ z. put w.object w.cell z k) v) c.in-Ok-plain_store.ensures);
       plain = (each_at is_plain_store c.args.body.now c.loop-i.i c.at.result.now c.at.ensures c.loop-i.invariant.plain).1;
       counted = counted_more c.loop-i.count c.begin_step.new.self c.in-Ok.ensures.counted c.loop-i.invariant.counted;
     }
