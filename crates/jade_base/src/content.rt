@@ -70,3 +70,28 @@ impl Content {
         self.cells[cell] = value;
     }
 }
+
+#[cfg(test)]
+mod tests {
+    use super::*;
+    use std::test::Fail;
+
+    // Runs only for what may be handed to another thread.
+    fn may_be_sent<T: Send>(_value: &T) {}
+
+    #[test]
+    fn reads_and_writes_cells(rt: HostRuntime) -> Result<(), Fail> {
+        let mut cells = Vec::new(rt.alloc());
+        cells.push(-3)?;
+        cells.push(4)?;
+        let mut content = Content::of(Mode::Writing, Numbers::from_vec(cells));
+        may_be_sent(&content);
+        content.set(1, 9);
+        let copy = content.copy(rt.alloc(), Mode::Reading)?;
+        assert_eq!(rt; copy.mode(), Mode::Reading);
+        assert_eq!(rt; copy.len(), 2);
+        assert_eq!(rt; copy.get(0), -3);
+        assert_eq!(rt; copy.get(1), 9);
+        Ok(())
+    }
+}

@@ -3,16 +3,28 @@
 #![tactic(auto)]
 
 pub mod content;
+#[cfg(test)]
+mod bytes_tests;
+mod calls;
 pub mod failure;
+pub mod memory_sink;
+pub mod memory_source;
 pub mod path;
 pub mod place;
 pub mod report;
 pub mod rights;
 pub mod spec;
 pub mod word;
+pub mod sink;
+pub mod source;
+pub mod standard;
+pub mod sure;
+pub mod text;
 
 pub use content::Content;
 pub use failure::{Failed, Memory};
+pub use memory_sink::MemorySink;
+pub use memory_source::MemorySource;
 pub use path::Path;
 pub use place::{ObjectId, Pos};
 pub use report::{
@@ -22,3 +34,8 @@ pub use report::{
 pub use rights::{Mode, Right, Rights};
 pub use spec::Spec;
 pub use word::Word;
+pub use sink::Sink;
+pub use source::Source;
+pub use standard::{StdSink, StdSource};
+pub use sure::{SureSink, SureSource};
+pub use text::{TextError, read_text, write_text};

@@ -246,3 +246,60 @@ fn keep_drafts(entries: &mut Vec<Entry>)
     }
     entries.retain(|entry| entry.rights.any());
 }
+
+#[cfg(test)]
+mod tests {
+    use super::*;
+    use std::test::Fail;
+
+    const READS: Rights = Rights {
+        reads: Right::Deferred,
+        writes: Right::Absent,
+        commutes: Right::Absent,
+    };
+
+    const WRITES: Rights = Rights {
+        reads: Right::Absent,
+        writes: Right::Immediate,
+        commutes: Right::Absent,
+    };
+
+    const BOTH: Rights = Rights {
+        reads: Right::Deferred,
+        writes: Right::Immediate,
+        commutes: Right::Absent,
+    };
+
+    #[test]
+    fn joins_declarations(rt: HostRuntime) -> Result<(), Fail> {
+        let mut spec = Spec::empty(rt.alloc());
+        spec.declare(rt.alloc(), ObjectId(7), READS)?;
+        spec.declare(rt.alloc(), ObjectId(2), WRITES)?;
+        spec.declare(rt.alloc(), ObjectId(7), WRITES)?;
+        spec.declare(rt.alloc(), ObjectId(4), Rights::NONE)?;
+        assert_eq!(rt; spec.len(), 2);
+        assert_eq!(rt; spec.entry(0), (ObjectId(2), WRITES));
+        assert_eq!(rt; spec.entry(1), (ObjectId(7), BOTH));
+        assert_eq!(rt; spec.rights(ObjectId(7)), BOTH);
+        assert_eq!(rt; spec.rights(ObjectId(4)), Rights::NONE);
+        Ok(())
+    }
+
+    #[test]
+    fn keeps_and_drops_drafts(rt: HostRuntime) -> Result<(), Fail> {
+        let mut spec = Spec::empty(rt.alloc());
+        spec.declare(rt.alloc(), ObjectId(1), BOTH)?;
+        spec.declare(rt.alloc(), ObjectId(2), BOTH)?;
+        assert_eq!(rt; spec.len(), 2);
+        spec.set_draft(0, READS);
+        spec.drop_draft();
+        assert_eq!(rt; spec.draft_at(0), BOTH);
+        spec.set_draft(0, Rights::NONE);
+        spec.set_draft(1, READS);
+        let mut copy = spec.copy(rt.alloc())?;
+        copy.keep_draft();
+        assert_eq!(rt; copy.len(), 1);
+        assert_eq!(rt; copy.entry(0), (ObjectId(2), READS));
+        Ok(())
+    }
+}

@@ -2,12 +2,13 @@
 use Rattle.std.proofs.Common.{◌≡◌, ℕ, true, List, [], ◌∷◌, map, Option, Some, None}
 use Rattle.std.specs.Prelude.{ℤ}
 use Rattle.std.specs.List.{filter_map, cons_option}
+use Rattle.jade_base.specs.Places.{is_before}
 use Rattle.jade_base.specs.declared.report.Blame.{Blame}
 use Rattle.jade_base.specs.declared.report.FaultNote.{FaultNote}
 use Rattle.jade_base.specs.declared.report.PartStep.{PartStep}
 use Rattle.jade_syntax.specs.Abstract.{AbstractProgram}
 use Rattle.jade_meaning.specs.Serial.{Path, Part, parts, serial_run}
-use Rattle.jade_meaning.specs.Answer.{key, is_before}
+use Rattle.jade_meaning.specs.Answer.{key}
 use Rattle.jade_meaning.specs.Laws.{Every, child_path}
 use Rattle.jade_meaning.specs.Report.{fault_of, step_of, Ascends, ReportAscends}
 use Rattle.jade_meaning.proofs.Stops.{KeysAscend, all_ascend, every_map}

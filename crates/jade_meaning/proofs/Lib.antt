@@ -9,3 +9,4 @@ mod Stores
 mod Walking
 mod Making
 mod Carrying
+mod Telling

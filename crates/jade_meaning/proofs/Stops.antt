@@ -1,10 +1,13 @@
 -- A run that stops where the answer is known has the answer of the serial run.
 use Rattle.std.proofs.Common.{◌≡◌, ℕ, zero, suc, ◌+◌, ◌-◌, ◌<◌, ◌≤◌, Bool, true, false, ◌&&◌, ◌||◌, List, [], ◌∷◌, ◌++◌, map, refl, sym, ap, ◌∙◌, subst, Option, Some, None, arith, append-nil, append_assoc, add-zero}
 use Rattle.std.specs.Prelude.{ℤ, nat_eq, nat_lt, if◌then◌else◌}
+use Rattle.std.specs.declared.cmp.Ordering.TheVariants.{Less, Equal, Greater}
+use Rattle.std.specs.Ordering.{nat_cmp, ordering_then, is_lt}
+use Rattle.std.specs.Cmp.{nat_cmp_is}
 use Rattle.std.specs.List.{cons_option}
 use Rattle.std.proofs.lemmas.List.{map-append}
 use Rattle.std.proofs.lemmas.List.Elements.{filter_map-append}
-use Rattle.std.proofs.lemmas.Bool.{ne_eqb, eq-eqb, le-ltb, lt-ltb, ltb-true, eqb-true}
+use Rattle.std.proofs.lemmas.Bool.{ne_eqb, eq-eqb, le-ltb, lt-ltb, ltb-true, ltb-false, eqb-true}
 use Rattle.jade_base.specs.declared.report.Blame.{Blame}
 use Rattle.jade_syntax.specs.Abstract.{AbstractProgram}
 use Rattle.jade_syntax.specs.Objects.{sizes}
@@ -12,7 +15,8 @@ use Rattle.jade_meaning.specs.Course.{Course, Reads, Writes, Steps, Creates, Cha
 use Rattle.jade_meaning.specs.Talk.{Task}
 use Rattle.jade_meaning.specs.Serial.{Mark, Path, Store, Deed, DidRead, DidWrite, DidCreate, DidEnd, serial, own, under, after, cell, with_cell, done_to, zeros, Part, parts, part_of_deed, serial_run}
 use Rattle.jade_meaning.specs.Laws.{Every, child_path}
-use Rattle.jade_meaning.specs.Answer.{Answer, Faulted, Cells, key, is_before, first_fault, limit_place, blame_of, decided, Run, Stopped, Through, noted, noted_all, then_on, stopping, run_answer, run_marks, accesses, access_deed, StoppingAgrees}
+use Rattle.jade_base.specs.Places.{is_before, path_order}
+use Rattle.jade_meaning.specs.Answer.{Answer, Faulted, Cells, key, first_fault, limit_place, blame_of, decided, Run, Stopped, Through, noted, noted_all, then_on, stopping, run_answer, run_marks, accesses, access_deed, StoppingAgrees}
 
 -- going through the parts: what is left of the limit, or where it ends
 data Scan : Type 0 where
@@ -230,12 +234,23 @@ same_number k = eq-eqb k k refl
 not_less : (k : ℕ) → nat_lt k k ≡ false
 not_less k = le-ltb k k (omega arith)
 
+less_is : (i j : ℕ) → i < j → nat_cmp i j ≡ Less
+less_is i j h = sym (nat_cmp_is i j Less h)
+
+greater_is : (i j : ℕ) → j < i → nat_cmp i j ≡ Greater
+greater_is i j h = sym (nat_cmp_is i j Greater h)
+
+equal_is : (i j : ℕ) → i ≡ j → nat_cmp i j ≡ Equal
+equal_is i j h = sym (nat_cmp_is i j Equal h)
+
 before_same : (k : ℕ) (p q : Path) → is_before (k ∷ p) (k ∷ q) ≡ is_before p q
-before_same k p q =
-    ap (λ b. b || (nat_eq k k && is_before p q)) (not_less k) ∙ ap (λ b. b && is_before p q) (same_number k)
+before_same k p q = ap (λ o. is_lt (ordering_then o (path_order p q))) (equal_is k k refl)
 
 before_greater : (i j : ℕ) (p q : Path) → i < j → is_before (i ∷ p) (j ∷ q) ≡ true
-before_greater i j p q lt = ap (λ b. b || (nat_eq i j && is_before p q)) (lt-ltb i j lt)
+before_greater i j p q lt = ap (λ o. is_lt (ordering_then o (path_order p q))) (less_is i j lt)
+
+before_not : (i j : ℕ) (p q : Path) → j < i → is_before (i ∷ p) (j ∷ q) ≡ false
+before_not i j p q lt = ap (λ o. is_lt (ordering_then o (path_order p q))) (greater_is i j lt)
 
 before_longer : (k : ℕ) (p : Path) (part : ℕ) → is_before (k ∷ []) (k ∷ child_path p part) ≡ true
 before_longer k [] part = before_same k [] (part ∷ [])
@@ -284,30 +299,29 @@ abbrev scan_answer : Scan → Store → Answer
 scan_answer (Ran left) store = Cells store
 scan_answer (Halted p b) store = Faulted p b
 
-lesser : (i j : ℕ) (x y : Bool) → nat_lt i j ≡ true → (nat_lt j i || (nat_eq j i && y)) ≡ false
-lesser i j x y e =
-    let lt : i < j = ltb-true i j e in
-    ap (λ b. b || (nat_eq j i && y)) (le-ltb j i (omega arith)) ∙ ap (λ b. b && y) (ne_eqb j i (λ w. omega arith))
-
-alike : (i j : ℕ) (y : Bool) → i ≡ j → y ≡ false → (nat_lt j i || (nat_eq j i && y)) ≡ false
-alike i j y e f =
-    ap (λ b. b || (nat_eq j i && y)) (le-ltb j i (omega arith)) ∙ ap (λ b. b && y) (eq-eqb j i (sym e)) ∙ f
-
 and_parts : (a b : Bool) → (a && b) ≡ true → (a ≡ true) × (b ≡ true)
 and_parts true b h = (refl, h)
 and_parts false b h = absurd (cc)
 
+equal_both : (i j : ℕ) (p q : Path) → i ≡ j → is_before (i ∷ p) (j ∷ q) ≡ is_before p q
+equal_both i j p q e = ap (λ o. is_lt (ordering_then o (path_order p q))) (equal_is i j e)
+
 not_both_ways : (p q : Path) → is_before p q ≡ true → is_before q p ≡ false
-not_both_ways p [] h = absurd (cc)
+not_both_ways [] [] h = absurd (cc)
+not_both_ways (i ∷ p) [] h = absurd (cc)
 not_both_ways [] (j ∷ q) h = refl
-not_both_ways (i ∷ p) (j ∷ q) h = go (nat_lt i j) refl (λ e. not_both_ways p q e)
+not_both_ways (i ∷ p) (j ∷ q) h = go (nat_lt i j) refl (nat_eq i j) refl (λ e. not_both_ways p q e)
   where
-    go : (b : Bool) → nat_lt i j ≡ b → (is_before p q ≡ true → is_before q p ≡ false) → is_before (j ∷ q) (i ∷ p) ≡ false
-    go true e ih = lesser i j true (is_before q p) e
-    go false e ih =
-        let h' : (nat_eq i j && is_before p q) ≡ true = ap (λ b. b || (nat_eq i j && is_before p q)) (sym e) ∙ h in
-        let w = and_parts (nat_eq i j) (is_before p q) h' in
-        alike i j (is_before q p) (eqb-true i j w.0) (ih w.1)
+    go : (b : Bool) → nat_lt i j ≡ b → (c : Bool) → nat_eq i j ≡ c → (is_before p q ≡ true → is_before q p ≡ false) → is_before (j ∷ q) (i ∷ p) ≡ false
+    go true e c f ih = before_not j i q p (ltb-true i j e)
+    go false e true f ih =
+        let same : i ≡ j = eqb-true i j f in
+        equal_both j i q p (sym same) ∙ ih (sym (equal_both i j p q same) ∙ h)
+    go false e false f ih =
+        let le : j ≤ i = ltb-false i j e in
+        let ne : i ≡ j → ⊥ = λ (same : i ≡ j). (let t : nat_eq i j ≡ true = eq-eqb i j same in cc) in
+        let over : is_before (i ∷ p) (j ∷ q) ≡ false = before_not i j p q (omega (arith, ne)) in
+        absurd (cc)
 
 abbrev OnPart : (Part → Type 0) → Option Part → Type 0
 OnPart P None = Unit {0}

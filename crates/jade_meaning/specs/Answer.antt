@@ -1,12 +1,12 @@
 -- The answer of a program, and a run that stops where the answer is known.
 use Rattle.std.specs.Prelude.{◌≡◌, ℕ, zero, suc, ◌-◌, Bool, true, false, ◌&&◌, ◌||◌, List, [], ◌∷◌, ◌++◌, map, Option, Some, None, ℤ, nat_lt, nat_eq, if◌then◌else◌}
 use Rattle.std.specs.List.{filter_map}
+use Rattle.jade_base.specs.Places.{is_before, key as key_at}
 use Rattle.jade_base.specs.declared.report.Blame.{Blame}
 use Rattle.jade_syntax.specs.Abstract.{AbstractProgram}
 use Rattle.jade_syntax.specs.Objects.{sizes}
 use Rattle.jade_meaning.specs.Course.{Course, Reads, Writes, Steps, Creates, Changes, Ends, root_course, limit_blame}
 use Rattle.jade_meaning.specs.Serial.{Path, Store, Mark, Deed, DidRead, DidWrite, DidCreate, DidEnd, own, under, after, cell, with_cell, zeros, Part, parts, serial_run}
-use Rattle.jade_meaning.specs.Laws.{child_path}
 
 -- what a program answers: the task that faults first and why, or the cells of its objects
 pub data Answer : Type 0 where
@@ -15,13 +15,7 @@ pub data Answer : Type 0 where
 
 -- a part's key: the path, and the number of children created before it
 abbrev pub key : Part → Path
-key p = child_path p.path p.children
-
--- the order of keys
-abbrev pub is_before : Path → Path → Bool
-is_before p [] = false
-is_before [] (j ∷ q) = true
-is_before (i ∷ p) (j ∷ q) = nat_lt i j || (nat_eq i j && is_before p q)
+key p = key_at p.path p.children
 
 -- the first part with a fault
 abbrev pub first_fault : List Part → Option Part

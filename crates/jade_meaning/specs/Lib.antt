@@ -11,3 +11,4 @@ pub mod Report
 pub mod Built
 pub mod Carry
 pub mod Steps
+pub mod Told

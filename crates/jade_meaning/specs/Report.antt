@@ -1,14 +1,14 @@
 -- What a run did, as the run time tells it of itself at the end.
 use Rattle.std.specs.Prelude.{◌≡◌, true, ◌∷◌, ℕ, List, map, Option, Some, None, ℤ, length, replicate, []}
 use Rattle.std.specs.List.{filter_map}
+use Rattle.jade_base.specs.Places.{is_before, key}
 use Rattle.jade_base.specs.declared.report.Blame.{Blame}
 use Rattle.jade_base.specs.declared.report.FaultNote.{FaultNote}
 use Rattle.jade_base.specs.declared.report.PartStep.{PartStep}
 use Rattle.jade_base.specs.declared.report.Report.{Report}
 use Rattle.jade_syntax.specs.Abstract.{AbstractProgram}
 use Rattle.jade_syntax.specs.Objects.{sizes}
-use Rattle.jade_meaning.specs.Answer.{is_before}
-use Rattle.jade_meaning.specs.Laws.{Every, child_path}
+use Rattle.jade_meaning.specs.Laws.{Every}
 use Rattle.jade_meaning.specs.Serial.{Path, Mark, Part, parts, after, Store, zeros, serial_run}
 
 -- the note of a part that ended with a fault
@@ -44,5 +44,5 @@ Ascends (p ∷ ps) = Every (λ q. is_before p q ≡ true) ps × Ascends ps
 
 -- a report has its parts and its faults by ascending key
 pub record ReportAscends (p : AbstractProgram) (ns : List ℤ) (limit : ℕ) : Type 0 where
-  pub steps : Ascends (map (λ s. child_path s.path s.children) (report p ns limit).steps)
-  pub faults : Ascends (map (λ f. child_path f.path f.children) (report p ns limit).faults)
+  pub steps : Ascends (map (λ s. key s.path s.children) (report p ns limit).steps)
+  pub faults : Ascends (map (λ f. key f.path f.children) (report p ns limit).faults)

@@ -8,6 +8,7 @@ ghost use Rattle.jade_meaning.specs.Laws.{TalkFollowsSerial, Extends};
 ghost use Rattle.jade_meaning.specs.Proper.{Proper};
 ghost use Rattle.jade_meaning.specs.Report.{ReportAscends};
 ghost use Rattle.jade_meaning.specs.Talk.{Task, talk};
+ghost use Rattle.jade_meaning.specs.Told.{ReportTells};
 
 /// Each task of the serial run says by itself what it does there, when its reads are answered as
 /// they are there.
@@ -34,4 +35,9 @@ pub fn keeps()
 /// A report has its parts and its faults by ascending key.
 pub fn report_ascends()
     ensures { (p : AbstractProgram) (numbers : List ℤ) (limit : ℕ) → ReportAscends p numbers limit }
+{}
+
+/// The report of the serial run tells the answer.
+pub fn report_tells()
+    ensures { (p : AbstractProgram) (numbers : List ℤ) (limit : ℕ) → ReportTells p numbers limit }
 {}

@@ -1,5 +1,5 @@
 -- What the items of a program declare: its inputs, its objects with their sizes, and their labels.
-use Rattle.std.specs.Prelude.{ℕ, zero, suc, ◌+◌, List, [], ◌∷◌, ◌++◌, replicate, Option, Some, None, ℤ, pos, negsuc}
+use Rattle.std.specs.Prelude.{◌≡◌, ℕ, zero, suc, ◌+◌, ◌<◌, List, [], ◌∷◌, ◌++◌, length, slice_get, replicate, Option, Some, None, ℤ, pos, negsuc}
 use Rattle.jade_syntax.specs.declared.tree.Item.{Item}
 use Rattle.jade_syntax.specs.declared.tree.Item.TheVariants.{Input, Single, Family}
 use Rattle.jade_syntax.specs.Abstract.{Name}
@@ -39,3 +39,10 @@ labels [] = []
 labels (Input x at ∷ items) = labels items
 labels (Single x at size ∷ items) = record { name = x; member = None } ∷ labels items
 labels (Family x at count size ∷ items) = member_labels x 0 (amount count.value) ++ labels items
+
+-- an object is the member of this number of the item at this place
+pub record IsPlace (items : List Item) (object place member : ℕ) : Type 0 where
+  pub within : place < length items
+  pub member_within : (x : Item) → slice_get items place ≡ Some x → member < length (sizes (x ∷ []))
+  pub size : (x : Item) → slice_get items place ≡ Some x → slice_get (sizes items) object ≡ slice_get (sizes (x ∷ [])) member
+  pub label : (x : Item) → slice_get items place ≡ Some x → slice_get (labels items) object ≡ slice_get (labels (x ∷ [])) member

@@ -1,8 +1,11 @@
 ghost use Rattle.std.specs.Prelude.{◌≡◌, ◌<◌, length, true, slice_get, Some};
 ghost use Rattle.jade_syntax.specs.CheckedProgram.{IsChecked};
+ghost use Rattle.jade_syntax.specs.Objects.{input_names, sizes, labels, Label};
 
-use crate::Stands;
+use crate::objects::{count_inputs, count_objects, label_of, size_of};
 use crate::tree::Program;
+use crate::{Name, Stands};
+use jade_base::ObjectId;
 use std::marker::Model;
 
 /// A program in which each name is replaced by what it stands for. Its type keeps that nothing is
@@ -15,7 +18,6 @@ pub struct Checked {
 
 impl Model for Checked {
     ghost use Rattle.jade_syntax.specs.CheckedProgram.{CheckedProgram, IsChecked};
-
     ghost use Rattle.std.specs.Coded.{code_by, coded×, coded_list};
     ghost use Rattle.std.specs.Prelude.{List, refl};
     ghost use Rattle.jade_syntax.specs.declared.tree.Program.{Program as ProgramTree};
@@ -46,5 +48,35 @@ impl Checked {
         ensures { result.now ≡ self.now.stands }
     {
         &self.stands
+    }
+
+    /// The number of inputs. It takes no memory.
+    pub fn inputs(&self) -> u32
+        ensures { result ≡ length (input_names self.now.program.items) }
+    {
+        count_inputs(&self.program.items)
+    }
+
+    /// The number of objects, which have the numbers from 0 on. It takes no memory.
+    pub fn objects(&self) -> u32
+        ensures { result ≡ length (sizes self.now.program.items) }
+    {
+        count_objects(&self.program.items)
+    }
+
+    /// The number of cells of an object. It takes no memory.
+    pub fn size(&self, object: ObjectId) -> u32
+        requires { object.0 < length (sizes self.now.program.items) }
+        ensures { slice_get (sizes self.now.program.items) object.0 ≡ Some result }
+    {
+        size_of(&self.program.items, object.0)
+    }
+
+    /// What an object is called: a name, and for a family's member its index. It takes no memory.
+    pub fn label(&self, object: ObjectId) -> (&Name, Option<u32>)
+        requires { object.0 < length (sizes self.now.program.items) }
+        ensures { slice_get (labels self.now.program.items) object.0 ≡ Some (record { name = result.0.now; member = result.1 }) }
+    {
+        label_of(&self.program.items, object.0)
     }
 }

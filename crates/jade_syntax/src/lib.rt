@@ -3,9 +3,10 @@
 
 pub mod checked;
 pub mod name;
+mod objects;
 pub mod stands;
 pub mod tree;
 
 pub use checked::Checked;
-pub use name::Name;
+pub use name::{Name, NameError};
 pub use stands::{Stand, Stands};

@@ -1,6 +1,14 @@
-ghost use Rattle.std.specs.Prelude.{◌≡◌};
+ghost use Rattle.std.specs.Prelude.{◌≡◌, Bool, true, false, ◌&&◌, ◌||◌, not, length, IfOk, IfErr};
+ghost use Rattle.std.specs.List.{list_any, list_all};
+ghost use Rattle.jade_syntax.specs.Numbering.{same_name};
+ghost use Rattle.jade_syntax.specs.Names.{is_letter, is_letter_or_digit, is_spelled, item_words, statement_words, declare_words, is_reserved, is_name};
+ghost use Rattle.jade_syntax.specs.Refusals.{IsNameRefusal};
 
+use std::alloc::Global;
 use std::marker::Model;
+
+/// The most bytes of a name.
+const NAME_LIMIT: usize = 64;
 
 /// A name of a program, which contracts see as its bytes.
 #[derive(Debug, Drop)]
@@ -16,6 +24,14 @@ impl Model for Name {
     ghost view = { λ n. n.bytes.items };
 }
 
+/// Why some bytes were not made a name: they are none, or there was no memory, which says nothing
+/// of the bytes.
+#[derive(Clone, Copy, Debug, PartialEq, Eq)]
+pub enum NameError {
+    Shape,
+    Memory,
+}
+
 impl Name {
     /// The bytes of the name. It takes no memory.
     pub fn bytes(&self) -> &[u8]
@@ -23,4 +39,105 @@ impl Name {
     {
         self.bytes.as_slice()
     }
+
+    /// A name of at most 64 bytes: letters, digits and `_`, the first no digit, and no reserved
+    /// word.
+    pub fn of(alloc: Global, bytes: &[u8]) -> Result<Name, NameError>
+        ensures made { IfOk result (λ n. n ≡ bytes.now) }
+        ensures a_name { IfOk result (λ _. is_name bytes.now ≡ true) }
+        ensures refused { IfErr result (IsNameRefusal bytes.now) }
+    {
+        if !is_name(bytes) {
+            return Err(NameError::Shape);
+        }
+        match Vec::from_slice(alloc, bytes) {
+            Ok(bytes) => Ok(Name { bytes }),
+            Err(_) => Err(NameError::Memory),
+        }
+    }
+}
+
+/// Whether two names are the same.
+pub(crate) fn same_name(first: &[u8], second: &[u8]) -> bool
+    ensures { result ≡ same_name first.now second.now }
+{
+    first == second
+}
+
+fn is_letter(byte: u8) -> bool
+    ensures { result ≡ is_letter byte }
+{
+    byte.is_ascii_alphabetic() || byte == b'_'
+}
+
+fn is_letter_or_digit(byte: u8) -> bool
+    ensures { result ≡ is_letter_or_digit byte }
+{
+    is_letter(byte) || byte.is_ascii_digit()
+}
+
+fn are_letters_or_digits(bytes: &[u8]) -> bool
+    ensures { result ≡ list_all is_letter_or_digit bytes.now }
+{
+    bytes.iter().all(|byte| is_letter_or_digit(*byte))
+}
+
+fn is_spelled(bytes: &[u8]) -> bool
+    ensures { result ≡ is_spelled bytes.now }
+{
+    match bytes {
+        [] => false,
+        [first, rest @ ..] => is_letter(*first) && are_letters_or_digits(rest),
+    }
+}
+
+fn is_item_word(bytes: &[u8]) -> bool
+    ensures { result ≡ list_any (same_name bytes.now) item_words }
+{
+    same_name(bytes, b"input")
+        || same_name(bytes, b"object")
+        || same_name(bytes, b"objects")
+        || same_name(bytes, b"main")
+        || same_name(bytes, b"int")
+        || same_name(bytes, b"bool")
+        || same_name(bytes, b"true")
+        || same_name(bytes, b"false")
+}
+
+fn is_statement_word(bytes: &[u8]) -> bool
+    ensures { result ≡ list_any (same_name bytes.now) statement_words }
+{
+    same_name(bytes, b"if")
+        || same_name(bytes, b"else")
+        || same_name(bytes, b"for")
+        || same_name(bytes, b"in")
+        || same_name(bytes, b"withonly")
+        || same_name(bytes, b"do")
+        || same_name(bytes, b"with")
+        || same_name(bytes, b"cont")
+        || same_name(bytes, b"proc")
+}
+
+fn is_declare_word(bytes: &[u8]) -> bool
+    ensures { result ≡ list_any (same_name bytes.now) declare_words }
+{
+    same_name(bytes, b"rd")
+        || same_name(bytes, b"wr")
+        || same_name(bytes, b"rd_wr")
+        || same_name(bytes, b"df_rd")
+        || same_name(bytes, b"df_wr")
+        || same_name(bytes, b"df_rd_wr")
+        || same_name(bytes, b"cm")
+        || same_name(bytes, b"no_rd")
+        || same_name(bytes, b"no_wr")
+        || same_name(bytes, b"no_rd_wr")
+}
+
+/// Whether some bytes are a name.
+pub(crate) fn is_name(bytes: &[u8]) -> bool
+    ensures { result ≡ is_name bytes.now }
+{
+    bytes.len() <= NAME_LIMIT
+        && is_spelled(bytes)
+        && !(is_item_word(bytes) || is_statement_word(bytes) || is_declare_word(bytes))
 }

@@ -1,0 +1,10 @@
+//! How a task changes its own rights: it changes a working copy, and the copy takes the place of
+//! its specification, or is given up. Also the mode in which rights hold an object, and when a
+//! hold is given up for a child.
+#![tactic(auto)]
+
+pub mod draft;
+pub mod modes;
+
+pub use draft::{Change, Draft, NoRight};
+pub use modes::{gives_way, mode_of};

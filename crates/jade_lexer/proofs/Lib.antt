@@ -1,0 +1,3 @@
+pub mod Longest
+pub mod Values
+pub mod Steps

@@ -1,0 +1,9 @@
+//! The lexical grammar: a text cut into its tokens, or its first refused place.
+#![tactic(auto)]
+
+mod alphabet;
+pub mod lexeme;
+pub mod lexer;
+
+pub use lexeme::{LexError, Lexeme, Tokens};
+pub use lexer::tokens;

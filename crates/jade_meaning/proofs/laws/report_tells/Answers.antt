@@ -1,0 +1,5 @@
+use Rattle.jade_meaning.proofs.Telling.{report_tells}
+use Rattle.jade_meaning.proofs.laws.report_tells.Goals as goal
+
+pub returns : goal.returns
+returns c = report_tells

@@ -1,0 +1,6 @@
+use Rattle.std.proofs.Common.{◌≡◌, ◌++◌, take}
+use Rattle.jade_run.specs.Texts.{path_text}
+use Rattle.jade_run.proofs.texts.push_path.Given as goal
+
+abbrev pub invariant-loop-i : goal.invariant-loop-i
+invariant-loop-i l = l.text.items ≡ l.fn.text.items ++ path_text (take l.i l.path)

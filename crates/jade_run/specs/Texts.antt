@@ -1,0 +1,73 @@
+-- The texts that the commands write. Each line ends with a line feed.
+use Rattle.std.specs.Prelude.{ℕ, zero, suc, List, [], ◌∷◌, ◌++◌, map, codes, Option, Some, None, ℤ}
+use Rattle.std.specs.Fmt.{decimal, signed_decimal}
+use Rattle.std.specs.List.{join_with_byte}
+use Rattle.jade_base.specs.declared.place.Pos.{Pos}
+use Rattle.jade_base.specs.declared.report.Blame.{Blame}
+use Rattle.jade_base.specs.declared.report.FaultKind.{FaultKind}
+use Rattle.jade_base.specs.declared.report.FaultKind.TheVariants.{Overflow, Zero, Index, Object, Right, Cover, Change, Limit}
+use Rattle.jade_syntax.specs.Objects.{Label}
+
+abbrev pub line_of : List ℕ → List ℕ
+line_of text = text ++ 10 ∷ []
+
+-- LINE:COLUMN
+abbrev pub place_text : Pos → List ℕ
+place_text p = decimal p.line ++ codes ":" ++ decimal p.column
+
+-- the word of a fault
+abbrev pub fault_word : FaultKind → List ℕ
+fault_word Overflow = codes "overflow"
+fault_word Zero = codes "zero"
+fault_word Index = codes "index"
+fault_word Object = codes "object"
+fault_word Right = codes "right"
+fault_word Cover = codes "cover"
+fault_word Change = codes "change"
+fault_word Limit = codes "limit"
+
+-- what stands before an item of a number in a list whose items a byte joins
+abbrev pub between : (byte number : ℕ) → List ℕ
+between c zero = []
+between c (suc i) = c ∷ []
+
+-- a task's path with dots, as 0.1.2
+abbrev pub path_text : List ℕ → List ℕ
+path_text path = join_with_byte 46 (map decimal path)
+
+-- the place of a blame and a space, where it has a place
+abbrev pub place_before : Option Pos → List ℕ
+place_before None = []
+place_before (Some p) = place_text p ++ codes " "
+
+-- fault LINE:COLUMN KIND task PATH, or fault KIND task PATH
+abbrev pub fault_text : List ℕ → Blame → List ℕ
+fault_text path blame =
+    line_of (codes "fault " ++ place_before blame.pos ++ fault_word blame.kind ++ codes " task " ++ path_text path)
+
+-- refused LINE:COLUMN WORD
+abbrev pub refused_text : Pos → List ℕ → List ℕ
+refused_text p why = line_of (codes "refused " ++ place_text p ++ codes " " ++ why)
+
+abbrev pub usage_text : List ℕ
+usage_text = line_of (codes "usage")
+
+-- the index of a family's member in brackets
+abbrev pub member_text : Option ℕ → List ℕ
+member_text None = []
+member_text (Some i) = codes "[" ++ decimal i ++ codes "]"
+
+-- cells with one space between them
+abbrev pub cells_text : List ℤ → List ℕ
+cells_text cells = join_with_byte 32 (map signed_decimal cells)
+
+-- NAME = CELLS, or NAME[INDEX] = CELLS, with one space between cells
+abbrev pub object_text : Label → List ℤ → List ℕ
+object_text label cells =
+    line_of (label.name ++ member_text label.member ++ codes " = " ++ cells_text cells)
+
+-- one line for each object
+abbrev pub objects_text : List Label → List (List ℤ) → List ℕ
+objects_text [] objects = []
+objects_text (label ∷ labels) [] = []
+objects_text (label ∷ labels) (cells ∷ objects) = object_text label cells ++ objects_text labels objects

@@ -1,0 +1,17 @@
+-- The words of a command. A number is spelled in decimal, without a needless zero.
+use Rattle.std.specs.Prelude.{◌≡◌, ℕ, ◌≤◌, List, [], ◌∷◌, codes}
+use Rattle.std.specs.Fmt.{decimal}
+
+-- a word spells a number from 1 to the most allowed
+pub record SpellsAmount (word : List ℕ) (most n : ℕ) : Type 0 where
+  pub spelled : word ≡ decimal n
+  pub some : 1 ≤ n
+  pub within : n ≤ most
+
+-- `run WORKERS LIMIT`, with 1 to 64 workers and a limit of 1 to 4,294,967,295 steps
+pub record RunWords (words : List (List ℕ)) (workers limit : ℕ) : Type 0 where
+  pub spelled : words ≡ codes "run" ∷ decimal workers ∷ decimal limit ∷ []
+  pub some_worker : 1 ≤ workers
+  pub most_workers : workers ≤ 64
+  pub some_limit : 1 ≤ limit
+  pub most_limit : limit ≤ 4294967295

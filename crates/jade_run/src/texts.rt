@@ -1,0 +1,148 @@
+//! The texts that the commands write.
+
+ghost use Rattle.std.specs.Prelude.{◌≡◌, ◌++◌, ◌∷◌, [], codes, IfOk, OnOk, ◌<◌, length, slice_get, Some};
+ghost use Rattle.std.specs.Fmt.{decimal, signed_decimal};
+ghost use Rattle.jade_run.specs.Texts.{place_text, path_text, fault_word, fault_text, place_before, refused_text, line_of, cells_text, member_text, object_text, between};
+
+use itoa::Buffer;
+use jade_base::{Blame, FaultKind, Numbers, Path, Pos};
+use jade_syntax::Name;
+use std::alloc::{AllocError, Global};
+
+/// Puts a number last, in decimal.
+fn push_decimal(text: &mut Vec<u8>, number: u32) -> Result<(), AllocError>
+    ensures { OnOk result (text.new.items ≡ text.old.items ++ decimal number) }
+{
+    let mut buffer = Buffer::new();
+    text.extend_from_slice(buffer.format(number).as_bytes())
+}
+
+/// Puts a number with its sign last, in decimal.
+fn push_signed(text: &mut Vec<u8>, number: i64) -> Result<(), AllocError>
+    ensures { OnOk result (text.new.items ≡ text.old.items ++ signed_decimal number) }
+{
+    let mut buffer = Buffer::new();
+    text.extend_from_slice(buffer.format(number).as_bytes())
+}
+
+/// Puts a place last.
+fn push_place(text: &mut Vec<u8>, pos: Pos) -> Result<(), AllocError>
+    ensures { OnOk result (text.new.items ≡ text.old.items ++ place_text pos) }
+{
+    push_decimal(text, pos.line)?;
+    text.push(b':')?;
+    push_decimal(text, pos.column)
+}
+
+/// The word of a fault.
+fn fault_word(kind: FaultKind) -> &'static [u8]
+    ensures { result.now ≡ fault_word kind }
+{
+    match kind {
+        FaultKind::Overflow => b"overflow",
+        FaultKind::Zero => b"zero",
+        FaultKind::Index => b"index",
+        FaultKind::Object => b"object",
+        FaultKind::Right => b"right",
+        FaultKind::Cover => b"cover",
+        FaultKind::Change => b"change",
+        FaultKind::Limit => b"limit",
+    }
+}
+
+/// Puts the byte between two items last, before the item of a number.
+fn push_between(text: &mut Vec<u8>, byte: u8, number: usize) -> Result<(), AllocError>
+    ensures { OnOk result (text.new.items ≡ text.old.items ++ between byte number) }
+{
+    if number > 0 {
+        text.push(byte)?;
+    }
+    Ok(())
+}
+
+/// Puts the numbers of a path last, joined by dots.
+fn push_path(text: &mut Vec<u8>, path: &[u32]) -> Result<(), AllocError>
+    ensures { OnOk result (text.new.items ≡ text.old.items ++ path_text path.now) }
+{
+    for (i, number) in path.iter().enumerate() {
+        push_between(text, b'.', i)?;
+        push_decimal(text, *number)?;
+    }
+    Ok(())
+}
+
+/// What a text that can't be run is answered with: its place and why.
+pub fn refused(alloc: Global, pos: Pos, why: &[u8]) -> Result<Vec<u8>, AllocError>
+    ensures { IfOk result (λ text. text.items ≡ refused_text pos why.now) }
+{
+    let mut text = Vec::from_slice(alloc, b"refused ")?;
+    push_place(&mut text, pos)?;
+    text.push(b' ')?;
+    text.extend_from_slice(why)?;
+    text.push(b'\n')?;
+    Ok(text)
+}
+
+/// What a run is answered with whose first fault is this one, of the task at a path.
+pub fn fault(alloc: Global, path: &Path, blame: Blame) -> Result<Vec<u8>, AllocError>
+    ensures { IfOk result (λ text. text.items ≡ fault_text path.now blame) }
+{
+    let mut text = Vec::from_slice(alloc, b"fault ")?;
+    if let Some(pos) = blame.pos {
+        push_place(&mut text, pos)?;
+        text.push(b' ')?;
+    }
+    text.extend_from_slice(fault_word(blame.kind))?;
+    text.extend_from_slice(b" task ")?;
+    push_path(&mut text, path.numbers())?;
+    text.push(b'\n')?;
+    Ok(text)
+}
+
+/// One of the cells of an object.
+fn cell_at(cells: &[i64], place: usize) -> i64
+    requires { place < length cells.now }
+    ensures { slice_get cells.now place ≡ Some result }
+{
+    cells[place]
+}
+
+/// Puts the cells of an object last, with one space between them.
+fn push_cells(text: &mut Vec<u8>, cells: &[i64]) -> Result<(), AllocError>
+    ensures { OnOk result (text.new.items ≡ text.old.items ++ cells_text cells.now) }
+{
+    for i in 0..cells.len() {
+        push_between(text, b' ', i)?;
+        push_signed(text, cell_at(cells, i))?;
+    }
+    Ok(())
+}
+
+/// Puts the label of an object last.
+fn push_label(text: &mut Vec<u8>, name: &Name, member: Option<u32>) -> Result<(), AllocError>
+    ensures { OnOk result (text.new.items ≡ text.old.items ++ (name.now ++ member_text member)) }
+{
+    text.extend_from_slice(name.bytes())?;
+    if let Some(index) = member {
+        text.push(b'[')?;
+        push_decimal(text, index)?;
+        text.push(b']')?;
+    }
+    Ok(())
+}
+
+/// Puts the line of one object last.
+fn push_object(
+    text: &mut Vec<u8>,
+    name: &Name,
+    member: Option<u32>,
+    cells: &Numbers,
+) -> Result<(), AllocError>
+    ensures { OnOk result (text.new.items ≡ text.old.items ++ object_text (record { name = name.now; member = member }) cells.now) }
+{
+    push_label(text, name, member)?;
+    text.extend_from_slice(b" = ")?;
+    push_cells(text, cells.as_slice())?;
+    text.push(b'\n')?;
+    Ok(())
+}

@@ -1,0 +1,87 @@
+//! What the words of a command ask for.
+
+ghost use Rattle.std.specs.Prelude.{◌≡◌, ◌≢◌, ℕ, ◌<◌, ◌≤◌, ◌^◌, ◌↔◌, Some, IfSome, IfNone, IsTrue, MatchOption};
+ghost use Rattle.std.specs.Fmt.{decimal};
+ghost use Rattle.jade_run.specs.Words.{RunWords, SpellsAmount};
+
+use itoa::Buffer;
+use jade_base::Word;
+use std::str;
+
+/// The most workers of a run.
+const MOST_WORKERS: u32 = 64;
+
+/// The number that a text spells, leading zeros and a plus allowed.
+fn parsed(text: &str) -> Option<u32>
+    ensures { (n : ℕ) → n < 2 ^ 32 → text.now ≡ decimal n → result ≡ Some n }
+{
+    match text.parse::<u32>() {
+        Ok(number) => Some(number),
+        Err(_) => None,
+    }
+}
+
+/// Whether a word is the decimal spelling of a number.
+fn spells(word: &[u8], number: u32) -> bool
+    ensures { IsTrue result ↔ (word.now ≡ decimal number) }
+{
+    let mut buffer = Buffer::new();
+    buffer.format(number).as_bytes() == word
+}
+
+/// The number that a word spells in decimal, without a needless zero.
+fn number_of(word: &[u8]) -> Option<u32>
+    ensures some { IfSome result (λ n. word.now ≡ decimal n) }
+    ensures exact { (n : ℕ) → n < 2 ^ 32 → word.now ≡ decimal n → result ≡ Some n }
+{
+    match str::from_utf8(word) {
+        Ok(text) => match parsed(text) {
+            Some(number) if spells(word, number) => Some(number),
+            _ => None,
+        },
+        Err(_) => None,
+    }
+}
+
+/// Whether a word is a text.
+fn is_text(word: &[u8], text: &[u8]) -> bool
+    ensures { IsTrue result ↔ (word.now ≡ text.now) }
+{
+    word == text
+}
+
+/// The number from 1 to the most allowed that a word spells.
+fn amount_of(word: &[u8], most: u32) -> Option<u32>
+    ensures { MatchOption result ((n : ℕ) → ¬ (SpellsAmount word.now most n)) (SpellsAmount word.now most) }
+{
+    match number_of(word) {
+        Some(number) if 1 <= number && number <= most => Some(number),
+        _ => None,
+    }
+}
+
+/// What `run WORKERS LIMIT` asks for: the number of workers, and the most steps.
+#[derive(Clone, Copy, Debug, PartialEq, Eq)]
+pub struct RunCommand {
+    pub workers: u32,
+    pub limit: u32,
+}
+
+/// The command that the words spell; `None` exactly where they are not `run WORKERS LIMIT` with
+/// 1 to 64 workers and a limit of 1 to 4,294,967,295. It takes no memory.
+pub fn run_command(words: &[Word]) -> Option<RunCommand>
+    ensures { MatchOption result ((w l : ℕ) → ¬ (RunWords words.now w l)) (λ c. RunWords words.now c.workers c.limit) }
+{
+    match words {
+        [run, workers, limit] if is_text(run.bytes(), b"run") => {
+            let Some(workers) = amount_of(workers.bytes(), MOST_WORKERS) else {
+                return None;
+            };
+            let Some(limit) = amount_of(limit.bytes(), u32::MAX) else {
+                return None;
+            };
+            Some(RunCommand { workers, limit })
+        }
+        _ => None,
+    }
+}

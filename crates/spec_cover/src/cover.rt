@@ -1,0 +1,97 @@
+ghost use Rattle.std.specs.Prelude.{◌≡◌, ◌≤◌, length, false, IfSome, IfNone};
+ghost use Rattle.jade_base.specs.Rights.{covered};
+ghost use Rattle.jade_base.specs.Specification.{IsAscending, rights_in};
+ghost use Rattle.spec_cover.specs.Cover.{IsCovered, IsCoveredBelow, IsEnoughFrom, covered_on, first_uncovered};
+
+use jade_base::{ObjectId, Rights, Spec};
+
+/// The object of the least number on which the parent's rights do not cover the child's; `None`
+/// exactly where they cover all. It takes no memory.
+pub fn uncovered(parent: &Spec, child: &Spec) -> Option<ObjectId>
+    ensures found { IfSome result (λ object. covered_on parent.now child.now object ≡ false) }
+    ensures least { IfSome result (λ object. IsCoveredBelow parent.now child.now object.0) }
+    ensures none { IfNone result (IsCovered parent.now child.now) }
+{
+    merged(parent, child)
+}
+
+// The first of the child's entries that the parent's rights do not cover, in one pass over both.
+fn merged(parent: &Spec, child: &Spec) -> Option<ObjectId>
+    ensures first { result ≡ first_uncovered parent.now.entries child.now.entries }
+    ensures ascending { IsAscending child.now.entries }
+{
+    let mut place = 0;
+    for i in 0..child.len() {
+        let (object, rights) = child.entry(i);
+        let (next, granted) = granted_from(parent, place, object);
+        if !covers(granted, rights) {
+            return Some(object);
+        }
+        place = next;
+    }
+    None
+}
+
+// The parent's rights on an object, sought from a place on, and the place where the search ended.
+fn granted_from(parent: &Spec, start: usize, object: ObjectId) -> (usize, Rights)
+    requires enough { IsEnoughFrom parent.now.entries start object.0 }
+    ensures enough { IsEnoughFrom parent.now.entries result.0 object.0 }
+    ensures granted { result.1 ≡ rights_in parent.now.entries object }
+{
+    for place in start..parent.len() {
+        let (found, rights) = parent.entry(place);
+        if found.0 == object.0 {
+            return (place, rights);
+        }
+        if found.0 > object.0 {
+            return (place, Rights::NONE);
+        }
+    }
+    (parent.len(), Rights::NONE)
+}
+
+// Whether a parent with these rights on an object may give a child those.
+fn covers(parent: Rights, child: Rights) -> bool
+    ensures { result ≡ covered parent child }
+{
+    (!child.reads.is_there() || parent.reads.is_there())
+        && (!child.writes.is_there() || parent.writes.is_there())
+        && (!child.commutes.is_there() || (parent.reads.is_there() && parent.writes.is_there()))
+}
+
+#[cfg(test)]
+mod tests {
+    use super::*;
+    use jade_base::Right;
+    use std::test::Fail;
+
+    const READS: Rights = Rights {
+        reads: Right::Immediate,
+        writes: Right::Absent,
+        commutes: Right::Absent,
+    };
+
+    const COMMUTES: Rights = Rights {
+        reads: Right::Absent,
+        writes: Right::Absent,
+        commutes: Right::Deferred,
+    };
+
+    #[test]
+    fn finds_the_least_object(rt: HostRuntime) -> Result<(), Fail> {
+        let mut parent = Spec::empty(rt.alloc());
+        for object in [1, 3, 6] {
+            parent.declare(rt.alloc(), ObjectId(object), READS)?;
+        }
+        let mut child = Spec::empty(rt.alloc());
+        assert_eq!(rt; uncovered(&parent, &child), None);
+        child.declare(rt.alloc(), ObjectId(3), READS)?;
+        assert_eq!(rt; uncovered(&parent, &child), None);
+        child.declare(rt.alloc(), ObjectId(6), COMMUTES)?;
+        child.declare(rt.alloc(), ObjectId(7), READS)?;
+        assert_eq!(rt; uncovered(&parent, &child), Some(ObjectId(6)));
+        child.declare(rt.alloc(), ObjectId(5), READS)?;
+        assert_eq!(rt; uncovered(&parent, &child), Some(ObjectId(5)));
+        Ok(())
+    }
+}
