@@ -7,7 +7,7 @@ ghost use Rattle.jade_syntax.specs.Objects.{input_names};
 ghost use Rattle.jade_meaning.specs.Report.{report};
 
 use crate::ledger::Ledger;
-use crate::task::root;
+use crate::task::Run;
 use jade_base::{Memory, Report};
 use jade_syntax::Checked;
 use jade_syntax::tree::Program;
@@ -39,6 +39,11 @@ fn serial_program(
     ensures { IfOk result (λ done. done ≡ report (abstracted program.now) numbers.now limit) }
 {
     let mut ledger = Ledger::start(alloc, &program.items)?;
-    root(alloc, &program.items, limit, &program.main, &mut ledger)?;
+    let run = Run {
+        alloc,
+        items: &program.items,
+        limit,
+    };
+    run.root(&program.main, &mut ledger)?;
     ledger.into_report(alloc)
 }
