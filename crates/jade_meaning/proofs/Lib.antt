@@ -10,3 +10,4 @@ mod Walking
 mod Making
 mod Carrying
 mod Telling
+mod Examples

@@ -7,6 +7,8 @@ pub mod laws;
 mod ledger;
 mod plain;
 pub mod serial;
+#[cfg(test)]
+mod serial_tests;
 mod stop;
 mod task;
 

@@ -13,8 +13,9 @@ use jade_syntax::Checked;
 use jade_syntax::tree::Program;
 use std::alloc::Global;
 
-/// Runs a program serially, each child whole where it is created, and reports what it did. Each
-/// task may begin `limit` steps. The error is want of memory.
+/// Runs a program serially, each child whole where it is created, and reports what it did.
+/// `numbers` are the values of the inputs in declared order. A task ends with the fault `limit`
+/// where it would begin more than `limit` steps of its own. The error is want of memory.
 pub fn serial_run(
     alloc: Global,
     checked: &Checked,
@@ -28,8 +29,8 @@ pub fn serial_run(
     serial_program(alloc, checked.program(), numbers, limit)
 }
 
-// The serial run of a tree of the built forms.
-fn serial_program(
+/// The serial run of a tree of the built forms.
+pub(crate) fn serial_program(
     alloc: Global,
     program: &Program,
     numbers: &[i64],
