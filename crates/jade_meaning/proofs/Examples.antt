@@ -1,8 +1,7 @@
 -- Small programs and what they mean.
-use Rattle.std.specs.Prelude.{◌≡◌, ℕ, ◌+◌, List, [], ◌∷◌, Some, None, ℤ, pos, refl}
+use Rattle.std.specs.Prelude.{◌≡◌, ℕ, List, [], ◌∷◌, Some, pos, refl}
 use Rattle.std.specs.List.{sum_by}
 use Rattle.jade_base.specs.declared.place.Pos.{Pos}
-use Rattle.jade_base.specs.declared.report.Blame.{Blame}
 use Rattle.jade_base.specs.declared.report.FaultKind.{FaultKind}
 use Rattle.jade_base.specs.declared.report.FaultKind.TheVariants.{Object, Right, Change}
 use Rattle.jade_base.specs.declared.report.FaultNote.{FaultNote}
@@ -16,7 +15,7 @@ use Rattle.jade_syntax.specs.declared.tree.ProductOp.TheVariants.{Times}
 use Rattle.jade_syntax.specs.Abstract.{Adds, Multiplies, Whole, Variable, Chain, Cell, Last, Link, Alone, Member, Local, Assign, Store, For, Withonly, With, Declare, Done, Then, AbstractProgram}
 use Rattle.jade_meaning.specs.Course.{limit_blame}
 use Rattle.jade_meaning.specs.Serial.{serial_run, parts}
-use Rattle.jade_meaning.specs.Answer.{Answer, Faulted, Cells, answer, run_answer, stopping_run}
+use Rattle.jade_meaning.specs.Answer.{Faulted, Cells, answer, run_answer, stopping_run}
 use Rattle.jade_meaning.specs.Report.{report}
 
 abbrev at : ℕ → ℕ → Pos
