@@ -4,4 +4,10 @@ mod Bounds
 mod Ascent
 mod Openings
 mod Cells
+mod Finding
+mod Stores
+mod Walking
+mod Making
+mod Carrying
 mod Telling
+mod Examples

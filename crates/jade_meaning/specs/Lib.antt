@@ -10,4 +10,5 @@ pub mod Proper
 pub mod Report
 pub mod Built
 pub mod Carry
+pub mod Steps
 pub mod Told

@@ -1,12 +1,12 @@
 //! What a run has done so far: the cells of the objects, the faults, and the steps of the parts.
 
-ghost use Rattle.std.specs.Prelude.{◌≡◌, [], ◌∷◌, ◌++◌, IfOk, OnOk, true, List};
+ghost use Rattle.std.specs.Prelude.{◌≡◌, [], ◌∷◌, ◌++◌, IfOk, OnOk, true, List, length, replicate};
 ghost use Rattle.std.specs.List.{list_all};
 ghost use Rattle.jade_syntax.specs.declared.tree.Item.{Item};
 ghost use Rattle.jade_syntax.specs.Built.{is_single};
 ghost use Rattle.jade_syntax.specs.Objects.{sizes, amount};
 ghost use Rattle.jade_meaning.specs.Serial.{with_cell, zeros};
-ghost use Rattle.jade_meaning.specs.Carry.{noted, put, report_of};
+ghost use Rattle.jade_meaning.specs.Carry.{noted, report_of};
 
 use jade_base::{
     Blame, CellLists, FaultNote, FaultNotes, Memory, Numbers, PartStep, PartSteps, Path, Report,
@@ -44,6 +44,24 @@ impl Store {
         Ok(Store { objects })
     }
 
+    /// The number of objects.
+    fn len(&self) -> usize
+        ensures { result ≡ length self.now }
+    {
+        self.objects.len()
+    }
+
+    /// The cells of each object as a list.
+    fn into_lists(self, alloc: Global) -> Result<CellLists, Memory>
+        ensures { IfOk result (λ lists. lists ≡ self) }
+    {
+        let mut lists = Sequence::empty(alloc);
+        for cells in self.objects {
+            push(&mut lists, Sequence::from_vec(cells))?;
+        }
+        Ok(lists)
+    }
+
     /// Puts a number into a cell; where there is no such cell nothing happens.
     pub(crate) fn write(&mut self, object: usize, cell: usize, value: i64)
         ensures { self.new ≡ with_cell self.old object cell value }
@@ -61,7 +79,7 @@ fn size_of(item: &Item) -> usize
 {
     match item {
         Item::Single { size, .. } => amount_of(size.value),
-        Item::Input { .. } | Item::Family { .. } => 0,
+        Item::Input { .. } | Item::Family { .. } => unreachable!(),
     }
 }
 
@@ -81,21 +99,79 @@ pub(crate) struct Ledger {
 }
 
 impl Ledger {
+    /// Nothing is done yet: each cell of these items' objects is zero.
+    pub(crate) fn start(alloc: Global, items: &Items) -> Result<Ledger, Memory>
+        requires { list_all is_single items.now ≡ true }
+        ensures { IfOk result (λ ledger. ledger ≡ record { objects = zeros (sizes items.now); faults = []; steps = [] }) }
+    {
+        Ok(Ledger {
+            objects: Store::zeroed(alloc, items)?,
+            faults: Sequence::empty(alloc),
+            steps: Sequence::empty(alloc),
+        })
+    }
+
+    /// The report of it, with an empty list of turns for each object.
+    pub(crate) fn into_report(self, alloc: Global) -> Result<Report, Memory>
+        ensures { IfOk result (λ report. report ≡ report_of self) }
+    {
+        let turns = no_turns(alloc, self.objects.len())?;
+        let objects = self.objects.into_lists(alloc)?;
+        Ok(Report {
+            objects,
+            faults: self.faults,
+            turns,
+            steps: self.steps,
+        })
+    }
+
     /// Notes a part of a task that has ended, and the fault that ended it, if one did.
-    pub(crate) fn note(&mut self, alloc: Global, path: &Path, children: u32, steps: u32, blame: Option<Blame>) -> Result<(), Memory>
+    pub(crate) fn note(
+        &mut self,
+        alloc: Global,
+        path: &Path,
+        children: u32,
+        steps: u32,
+        blame: Option<Blame>,
+    ) -> Result<(), Memory>
         ensures { OnOk result (self.new ≡ noted path.now children steps blame self.old) }
     {
         if let Some(blame) = blame {
             let path = path.copy(alloc)?;
-            push_note(&mut self.faults, FaultNote { path, children, blame })?;
+            push(
+                &mut self.faults,
+                FaultNote {
+                    path,
+                    children,
+                    blame,
+                },
+            )?;
         }
         let path = path.copy(alloc)?;
-        push_note(&mut self.steps, PartStep { path, children, steps: u64::from(steps) })
+        push(
+            &mut self.steps,
+            PartStep {
+                path,
+                children,
+                steps: u64::from(steps),
+            },
+        )
     }
 }
 
+// An empty list for each object.
+fn no_turns(alloc: Global, objects: usize) -> Result<TurnLists, Memory>
+    ensures { IfOk result (λ turns. turns ≡ replicate objects []) }
+{
+    let mut turns = Sequence::empty(alloc);
+    for _ in 0..objects {
+        push(&mut turns, Sequence::empty(alloc))?;
+    }
+    Ok(turns)
+}
+
 // One more item; without memory the list is as it was.
-fn push_note<T: Drop>(list: &mut Sequence<T>, item: T) -> Result<(), Memory>
+fn push<T: Drop>(list: &mut Sequence<T>, item: T) -> Result<(), Memory>
     ensures { OnOk result (list.new ≡ list.old ++ item ∷ []) }
 {
     match list.push(item) {

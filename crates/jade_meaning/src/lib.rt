@@ -2,5 +2,14 @@
 #![tactic(auto)]
 
 mod built;
-mod ledger;
+mod count;
 pub mod laws;
+mod ledger;
+mod plain;
+pub mod serial;
+#[cfg(test)]
+mod serial_tests;
+mod stop;
+mod task;
+
+pub use serial::serial_run;
