@@ -4,6 +4,9 @@ ghost use Rattle.std.specs.Prelude.{◌≡◌, ◌≤◌, length, IfOk, IfErr, t
 ghost use Rattle.jade_syntax.specs.Small.{IsRead, IsSmallRefusal, Reads, SmallProgram, first_word};
 ghost use Rattle.jade_syntax.specs.CheckedProgram.{IsChecked};
 
+mod parse;
+mod tokens;
+
 use crate::checked::Checked;
 use jade_base::Pos;
 use std::alloc::Global;
@@ -25,4 +28,11 @@ pub fn read_small(alloc: Global, text: &[u8]) -> Result<Checked, SmallError>
     ensures refused { IfErr result (IsSmallRefusal text.now) }
 {
     Err(SmallError::Memory)
+}
+
+/// A text is read as at most one small program.
+pub fn at_most_one(text: &[u8])
+    ensures { (x y : SmallProgram) → Reads text.now x → Reads text.now y → x ≡ y }
+{
+    let _ = text;
 }
