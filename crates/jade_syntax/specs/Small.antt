@@ -146,12 +146,20 @@ statement_tree (Makes at section body) = statement.Withonly at (map declare_tree
 abbrev pub tree_of : SmallProgram → Program
 tree_of p = record { items = map item_tree p.items; main = map statement_tree p.main }
 
--- the place of the first byte that is in no comment and separates nothing, or of the end; `inside` a comment
+-- whether a comment goes on after the first of some bytes, where it is inside one; `None` where a word begins with it
+abbrev pub goes_on : (inside : Bool) → List ℕ → Option Bool
+goes_on inside [] = None
+goes_on true (b ∷ bytes) = Some (not (b == 10))
+goes_on false (b ∷ bytes) = if begins_comment (b ∷ bytes) then Some true else (if is_separator b then Some false else None)
+
+abbrev pub word_after : Pos → Option Bool → (Bool → Pos) → Pos
+word_after p None rest = p
+word_after p (Some inside) rest = rest inside
+
+-- the place of the first byte that is in no comment and separates nothing, or of the end
 abbrev pub word_from : Pos → (inside : Bool) → List ℕ → Pos
 word_from p inside [] = p
-word_from p true (b ∷ bytes) = word_from (next_pos p b) (not (b == 10)) bytes
-word_from p false (b ∷ bytes) =
-    if is_separator b || begins_comment (b ∷ bytes) then word_from (next_pos p b) (begins_comment (b ∷ bytes)) bytes else p
+word_from p inside (b ∷ bytes) = word_after p (goes_on inside (b ∷ bytes)) (λ next. word_from (next_pos p b) next bytes)
 
 -- the place of the first word of a text
 abbrev pub first_word : List ℕ → Pos

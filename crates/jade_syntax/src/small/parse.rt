@@ -4,7 +4,7 @@ ghost use Rattle.std.specs.Prelude.{◌≡◌, ◌+◌, ◌<◌, ◌≤◌, leng
 ghost use Rattle.jade_syntax.specs.Small.{item_tree, item_parts, store_tree, store_parts, declare_tree, declare_parts, statement_tree, statement_parts, listed, main_opening, body_opening, closing};
 ghost use Rattle.jade_syntax.specs.Parsing.{Read, Never, ReadWhole, NeverWhole, IsStop, makes_shape};
 
-use crate::small::tokens::{
+use crate::small::lexemes::{
     is_body, is_closing, is_declare, is_item, is_main, is_makes, is_store, name_from, number_expr,
     number_from, pos_at,
 };

@@ -2,7 +2,7 @@ use Rattle.std.proofs.Common.{◌≡◌, ◌≤◌, drop}
 use Rattle.std.specs.List.{list_all}
 use Rattle.std.specs.Char.{is_ascii_digit}
 use Rattle.jade_lexer.specs.Alphabet.{value_after}
-use Rattle.jade_syntax.proofs.small.tokens.value.Given as goal
+use Rattle.jade_syntax.proofs.small.lexemes.value.Given as goal
 
 abbrev pub invariant-loop-byte : goal.invariant-loop-byte
 invariant-loop-byte l = record {
