@@ -43,20 +43,24 @@ name_placed_apart None x w p q d g h = g
 name_placed_apart (Some t) x w p q d g h = let e : x ≡ w = sym g.1 ∙ h.0 in let f : is_name w ≡ true = sym (ap is_name e) ∙ g.0 in cc
 
 pub item_alone : Alone item_parts
-item_alone = record { same = λ tokens x y a b c g h.
-    let n = same_called (slice_get tokens (a + 1)) x.name y.name x.at y.at g.1.0 h.1.0 in
-    let s = same_figure (slice_get tokens (a + 1 + 1 + 1)) x.size y.size g.1.1.1.0 h.1.1.1.0 in
-    made x y n.0 n.1 s }
+item_alone = record {
+  same = λ tokens x y a b c g h.
+      let n = same_called (slice_get tokens (a + 1)) x.name y.name x.at y.at g.1.0 h.1.0 in
+      let s = same_figure (slice_get tokens (a + 1 + 1 + 1)) x.size y.size g.1.1.1.0 h.1.1.1.0 in
+      made x y n.0 n.1 s;
+}
   where
     made : (x y : SmallItem) → x.name ≡ y.name → x.at ≡ y.at → x.size ≡ y.size → x ≡ y
     made x y e f k = ap (λ z. record { name = z; at = x.at; size = x.size }) e ∙ ap (λ z. record { name = y.name; at = z; size = x.size }) f ∙ ap (λ z. record { name = y.name; at = y.at; size = z }) k
 
 pub store_alone : Alone store_parts
-store_alone = record { same = λ tokens x y a b c g h.
-    let n = same_called (slice_get tokens a) x.name y.name x.at y.at g.0 h.0 in
-    let s = same_figure (slice_get tokens (a + 1 + 1)) x.cell y.cell g.1.1.0 h.1.1.0 in
-    let v = same_figure (slice_get tokens (a + 1 + 1 + 1 + 1 + 1)) x.value y.value g.1.1.1.1.1.0 h.1.1.1.1.1.0 in
-    made x y n.0 n.1 s v }
+store_alone = record {
+  same = λ tokens x y a b c g h.
+      let n = same_called (slice_get tokens a) x.name y.name x.at y.at g.0 h.0 in
+      let s = same_figure (slice_get tokens (a + 1 + 1)) x.cell y.cell g.1.1.0 h.1.1.0 in
+      let v = same_figure (slice_get tokens (a + 1 + 1 + 1 + 1 + 1)) x.value y.value g.1.1.1.1.1.0 h.1.1.1.1.1.0 in
+      made x y n.0 n.1 s v;
+}
   where
     made : (x y : SmallStore) → x.name ≡ y.name → x.at ≡ y.at → x.cell ≡ y.cell → x.value ≡ y.value → x ≡ y
     made x y e f k l =
@@ -64,10 +68,12 @@ store_alone = record { same = λ tokens x y a b c g h.
         ∙ ap (λ z. record { name = y.name; at = y.at; cell = z; value = x.value }) k ∙ ap (λ z. record { name = y.name; at = y.at; cell = y.cell; value = z }) l
 
 pub declare_alone : Alone declare_parts
-declare_alone = record { same = λ tokens x y a b c g h.
-    let p = same_placed (slice_get tokens a) (codes "wr") x.begins y.begins g.0 h.0 in
-    let n = same_called (slice_get tokens (a + 1 + 1)) x.name y.name x.at y.at g.1.1.0 h.1.1.0 in
-    made x y p n.0 n.1 }
+declare_alone = record {
+  same = λ tokens x y a b c g h.
+      let p = same_placed (slice_get tokens a) (codes "wr") x.begins y.begins g.0 h.0 in
+      let n = same_called (slice_get tokens (a + 1 + 1)) x.name y.name x.at y.at g.1.1.0 h.1.1.0 in
+      made x y p n.0 n.1;
+}
   where
     made : (x y : SmallDeclare) → x.begins ≡ y.begins → x.name ≡ y.name → x.at ≡ y.at → x ≡ y
     made x y e f k = ap (λ z. record { begins = z; name = x.name; at = x.at }) e ∙ ap (λ z. record { begins = y.begins; name = z; at = x.at }) f ∙ ap (λ z. record { begins = y.begins; name = y.name; at = z }) k
@@ -124,9 +130,11 @@ pub main_alone : Alone (listed statement_parts closing)
 main_alone = listed_alone statement_parts closing statement_alone statement_apart
 
 pub program_alone : Alone spelling
-program_alone = record { same = λ tokens x y a b c g h.
-    let f = pair_alone (listed item_parts main_opening) (listed statement_parts closing) items_alone main_alone tokens x.items y.items x.main y.main a b c g h in
-    made x y f.0 f.1 }
+program_alone = record {
+  same = λ tokens x y a b c g h.
+      let f = pair_alone (listed item_parts main_opening) (listed statement_parts closing) items_alone main_alone tokens x.items y.items x.main y.main a b c g h in
+      made x y f.0 f.1;
+}
   where
     made : (x y : SmallProgram) → x.items ≡ y.items → x.main ≡ y.main → x ≡ y
     made x y e f = ap (λ z. record { items = z; main = x.main }) e ∙ ap (λ z. record { items = y.items; main = z }) f

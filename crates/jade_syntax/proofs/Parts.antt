@@ -70,7 +70,6 @@ at6 a = omega arith
 at7 : (a : ℕ) → a + 1 + 1 + 1 + 1 + 1 + 1 + 1 ≡ a + 7
 at7 a = omega arith
 
-
 -- a fact of one place is one of the same place written otherwise
 on : (ts : List TokenAt) (p : Part) (i j : ℕ) → i ≡ j → FitsAt p (slice_get ts i) → FitsAt p (slice_get ts j)
 on ts p i j e h = subst (λ (n : ℕ). FitsAt p (slice_get ts n)) e h
@@ -99,13 +98,15 @@ item_tests ts a h =
     record { t0 = b1.0; t1 = b1.1; t2 = b2.1; t3 = b3.1; t4 = b4.1 }
 
 pub item_never : (ts : List TokenAt) (a : ℕ) → item_shape ts a ≡ false → Never item_parts ts a
-item_never ts a none = record { never = λ x b h.
-    let e : item_shape ts a ≡ true = (two _ _ (two _ _ (two _ _ (two _ _ (word_fits (slice_get ts a) (codes "object") h.0)
-        (called_fits (slice_get ts (a + 1)) x.name x.at h.1.0))
-        (word_fits (slice_get ts (a + 2)) (codes ":") (on ts (Word (codes ":")) (a + 1 + 1) (a + 2) (at2 a) h.1.1.0)))
-        (figure_fits (slice_get ts (a + 3)) x.size (on ts (Figure x.size) (a + 1 + 1 + 1) (a + 3) (at3 a) h.1.1.1.0)))
-        (word_fits (slice_get ts (a + 4)) (codes ";") (on ts (Word (codes ";")) (a + 1 + 1 + 1 + 1) (a + 4) (at4 a) h.1.1.1.1.0))) in
-    let f : true ≡ false = sym e ∙ none in cc }
+item_never ts a none = record {
+  never = λ x b h.
+      let e : item_shape ts a ≡ true = (two _ _ (two _ _ (two _ _ (two _ _ (word_fits (slice_get ts a) (codes "object") h.0)
+      (called_fits (slice_get ts (a + 1)) x.name x.at h.1.0))
+      (word_fits (slice_get ts (a + 2)) (codes ":") (on ts (Word (codes ":")) (a + 1 + 1) (a + 2) (at2 a) h.1.1.0)))
+      (figure_fits (slice_get ts (a + 3)) x.size (on ts (Figure x.size) (a + 1 + 1 + 1) (a + 3) (at3 a) h.1.1.1.0)))
+      (word_fits (slice_get ts (a + 4)) (codes ";") (on ts (Word (codes ";")) (a + 1 + 1 + 1 + 1) (a + 4) (at4 a) h.1.1.1.1.0))) in
+      let f : true ≡ false = sym e ∙ none in cc;
+}
 
 pub item_within : (ts : List TokenAt) (a : ℕ) → item_shape ts a ≡ true → a + 5 ≤ length ts
 item_within ts a h = let w = word_within ts (codes ";") (a + 4) (item_tests ts a h).t4 in omega arith
@@ -134,15 +135,17 @@ store_tests ts a h =
     record { t0 = b1.0; t1 = b1.1; t2 = b2.1; t3 = b3.1; t4 = b4.1; t5 = b5.1; t6 = b6.1 }
 
 pub store_never : (ts : List TokenAt) (a : ℕ) → store_shape ts a ≡ false → Never store_parts ts a
-store_never ts a none = record { never = λ x b h.
-    let e : store_shape ts a ≡ true = (two _ _ (two _ _ (two _ _ (two _ _ (two _ _ (two _ _ (called_fits (slice_get ts a) x.name x.at h.0)
-        (word_fits (slice_get ts (a + 1)) (codes "[") h.1.0))
-        (figure_fits (slice_get ts (a + 2)) x.cell (on ts (Figure x.cell) (a + 1 + 1) (a + 2) (at2 a) h.1.1.0)))
-        (word_fits (slice_get ts (a + 3)) (codes "]") (on ts (Word (codes "]")) (a + 1 + 1 + 1) (a + 3) (at3 a) h.1.1.1.0)))
-        (word_fits (slice_get ts (a + 4)) (codes "=") (on ts (Word (codes "=")) (a + 1 + 1 + 1 + 1) (a + 4) (at4 a) h.1.1.1.1.0)))
-        (figure_fits (slice_get ts (a + 5)) x.value (on ts (Figure x.value) (a + 1 + 1 + 1 + 1 + 1) (a + 5) (at5 a) h.1.1.1.1.1.0)))
-        (word_fits (slice_get ts (a + 6)) (codes ";") (on ts (Word (codes ";")) (a + 1 + 1 + 1 + 1 + 1 + 1) (a + 6) (at6 a) h.1.1.1.1.1.1.0))) in
-    let f : true ≡ false = sym e ∙ none in cc }
+store_never ts a none = record {
+  never = λ x b h.
+      let e : store_shape ts a ≡ true = (two _ _ (two _ _ (two _ _ (two _ _ (two _ _ (two _ _ (called_fits (slice_get ts a) x.name x.at h.0)
+      (word_fits (slice_get ts (a + 1)) (codes "[") h.1.0))
+      (figure_fits (slice_get ts (a + 2)) x.cell (on ts (Figure x.cell) (a + 1 + 1) (a + 2) (at2 a) h.1.1.0)))
+      (word_fits (slice_get ts (a + 3)) (codes "]") (on ts (Word (codes "]")) (a + 1 + 1 + 1) (a + 3) (at3 a) h.1.1.1.0)))
+      (word_fits (slice_get ts (a + 4)) (codes "=") (on ts (Word (codes "=")) (a + 1 + 1 + 1 + 1) (a + 4) (at4 a) h.1.1.1.1.0)))
+      (figure_fits (slice_get ts (a + 5)) x.value (on ts (Figure x.value) (a + 1 + 1 + 1 + 1 + 1) (a + 5) (at5 a) h.1.1.1.1.1.0)))
+      (word_fits (slice_get ts (a + 6)) (codes ";") (on ts (Word (codes ";")) (a + 1 + 1 + 1 + 1 + 1 + 1) (a + 6) (at6 a) h.1.1.1.1.1.1.0))) in
+      let f : true ≡ false = sym e ∙ none in cc;
+}
 
 pub store_within : (ts : List TokenAt) (a : ℕ) → store_shape ts a ≡ true → a + 7 ≤ length ts
 store_within ts a h = let w = word_within ts (codes ";") (a + 6) (store_tests ts a h).t6 in omega arith
@@ -170,13 +173,15 @@ declare_tests ts a h =
     record { t0 = b1.0; t1 = b1.1; t2 = b2.1; t3 = b3.1; t4 = b4.1 }
 
 pub declare_never : (ts : List TokenAt) (a : ℕ) → declare_shape ts a ≡ false → Never declare_parts ts a
-declare_never ts a none = record { never = λ x b h.
-    let e : declare_shape ts a ≡ true = (two _ _ (two _ _ (two _ _ (two _ _ (placed_fits (slice_get ts a) (codes "wr") x.begins h.0)
-        (word_fits (slice_get ts (a + 1)) (codes "(") h.1.0))
-        (called_fits (slice_get ts (a + 2)) x.name x.at (on ts (Called x.name x.at) (a + 1 + 1) (a + 2) (at2 a) h.1.1.0)))
-        (word_fits (slice_get ts (a + 3)) (codes ")") (on ts (Word (codes ")")) (a + 1 + 1 + 1) (a + 3) (at3 a) h.1.1.1.0)))
-        (word_fits (slice_get ts (a + 4)) (codes ";") (on ts (Word (codes ";")) (a + 1 + 1 + 1 + 1) (a + 4) (at4 a) h.1.1.1.1.0))) in
-    let f : true ≡ false = sym e ∙ none in cc }
+declare_never ts a none = record {
+  never = λ x b h.
+      let e : declare_shape ts a ≡ true = (two _ _ (two _ _ (two _ _ (two _ _ (placed_fits (slice_get ts a) (codes "wr") x.begins h.0)
+      (word_fits (slice_get ts (a + 1)) (codes "(") h.1.0))
+      (called_fits (slice_get ts (a + 2)) x.name x.at (on ts (Called x.name x.at) (a + 1 + 1) (a + 2) (at2 a) h.1.1.0)))
+      (word_fits (slice_get ts (a + 3)) (codes ")") (on ts (Word (codes ")")) (a + 1 + 1 + 1) (a + 3) (at3 a) h.1.1.1.0)))
+      (word_fits (slice_get ts (a + 4)) (codes ";") (on ts (Word (codes ";")) (a + 1 + 1 + 1 + 1) (a + 4) (at4 a) h.1.1.1.1.0))) in
+      let f : true ≡ false = sym e ∙ none in cc;
+}
 
 pub declare_within : (ts : List TokenAt) (a : ℕ) → declare_shape ts a ≡ true → a + 5 ≤ length ts
 declare_within ts a h = let w = word_within ts (codes ";") (a + 4) (declare_tests ts a h).t4 in omega arith
@@ -194,41 +199,90 @@ item_read ts a name at size h is_name is_at is_size =
     let s = item_tests ts a h in
     let x : SmallItem = record { name = name; at = at; size = size } in
     let w = item_within ts a h in
-    record { from = x; is = refl; stands = ((fits_word (slice_get ts a) (codes "object") s.t0),
-      ((called_as (slice_get ts (a + 1)) name at s.t1 is_name is_at),
-      ((back ts (Word (codes ":")) (a + 1 + 1) (a + 2) (at2 a) (fits_word (slice_get ts (a + 2)) (codes ":") s.t2)),
-      ((back ts (Figure size) (a + 1 + 1 + 1) (a + 3) (at3 a) is_size),
-      ((back ts (Word (codes ";")) (a + 1 + 1 + 1 + 1) (a + 4) (at4 a) (fits_word (slice_get ts (a + 4)) (codes ";") s.t4)),
-      at5 a)))));
-      forward = omega arith; within = w }
+    record {
+      from = x;
+      is = refl;
+      stands = (
+        (fits_word (slice_get ts a) (codes "object") s.t0),
+        (
+          (called_as (slice_get ts (a + 1)) name at s.t1 is_name is_at),
+          (
+            (back ts (Word (codes ":")) (a + 1 + 1) (a + 2) (at2 a) (fits_word (slice_get ts (a + 2)) (codes ":") s.t2)),
+            (
+              (back ts (Figure size) (a + 1 + 1 + 1) (a + 3) (at3 a) is_size),
+              (
+                (back ts (Word (codes ";")) (a + 1 + 1 + 1 + 1) (a + 4) (at4 a) (fits_word (slice_get ts (a + 4)) (codes ";") s.t4)),
+                at5 a,
+              ),
+            ),
+          ),
+        ),
+      );
+      forward = omega arith;
+      within = w;
+    }
 
 pub store_read : (ts : List TokenAt) (a : ℕ) (name : List ℕ) (at : Pos) (cell value : Number) (c v : Expr) → store_shape ts a ≡ true → name ≡ bytes_at (slice_get ts a) → at ≡ place_at (slice_get ts a) → FitsAt (Figure cell) (slice_get ts (a + 2)) → FitsAt (Figure value) (slice_get ts (a + 5)) → c ≡ number_tree cell → v ≡ number_tree value → Read store_tree store_parts ts a (statement.Store (roll-CellRef (record { name = name; pos = at; family = None; cell = c })) v) (a + 7)
 store_read ts a name at cell value c v h is_name is_at is_cell is_value e f =
     let s = store_tests ts a h in
     let x : SmallStore = record { name = name; at = at; cell = cell; value = value } in
     let w = store_within ts a h in
-    record { from = x; is = ap (λ z. statement.Store (roll-CellRef (record { name = name; pos = at; family = None; cell = z })) v) e ∙ ap (λ z. statement.Store (roll-CellRef (record { name = name; pos = at; family = None; cell = number_tree cell })) z) f; stands = ((called_as (slice_get ts a) name at s.t0 is_name is_at),
-      ((fits_word (slice_get ts (a + 1)) (codes "[") s.t1),
-      ((back ts (Figure cell) (a + 1 + 1) (a + 2) (at2 a) is_cell),
-      ((back ts (Word (codes "]")) (a + 1 + 1 + 1) (a + 3) (at3 a) (fits_word (slice_get ts (a + 3)) (codes "]") s.t3)),
-      ((back ts (Word (codes "=")) (a + 1 + 1 + 1 + 1) (a + 4) (at4 a) (fits_word (slice_get ts (a + 4)) (codes "=") s.t4)),
-      ((back ts (Figure value) (a + 1 + 1 + 1 + 1 + 1) (a + 5) (at5 a) is_value),
-      ((back ts (Word (codes ";")) (a + 1 + 1 + 1 + 1 + 1 + 1) (a + 6) (at6 a) (fits_word (slice_get ts (a + 6)) (codes ";") s.t6)),
-      at7 a)))))));
-      forward = omega arith; within = w }
+    record {
+      from = x;
+      is = ap (λ z. statement.Store (roll-CellRef (record { name = name; pos = at; family = None; cell = z })) v) e ∙ ap (λ z. statement.Store (roll-CellRef (record { name = name; pos = at; family = None; cell = number_tree cell })) z) f;
+      stands = (
+        (called_as (slice_get ts a) name at s.t0 is_name is_at),
+        (
+          (fits_word (slice_get ts (a + 1)) (codes "[") s.t1),
+          (
+            (back ts (Figure cell) (a + 1 + 1) (a + 2) (at2 a) is_cell),
+            (
+              (back ts (Word (codes "]")) (a + 1 + 1 + 1) (a + 3) (at3 a) (fits_word (slice_get ts (a + 3)) (codes "]") s.t3)),
+              (
+                (back ts (Word (codes "=")) (a + 1 + 1 + 1 + 1) (a + 4) (at4 a) (fits_word (slice_get ts (a + 4)) (codes "=") s.t4)),
+                (
+                  (back ts (Figure value) (a + 1 + 1 + 1 + 1 + 1) (a + 5) (at5 a) is_value),
+                  (
+                    (back ts (Word (codes ";")) (a + 1 + 1 + 1 + 1 + 1 + 1) (a + 6) (at6 a) (fits_word (slice_get ts (a + 6)) (codes ";") s.t6)),
+                    at7 a,
+                  ),
+                ),
+              ),
+            ),
+          ),
+        ),
+      );
+      forward = omega arith;
+      within = w;
+    }
 
 pub declare_read : (ts : List TokenAt) (a : ℕ) (begins : Pos) (name : List ℕ) (at : Pos) → declare_shape ts a ≡ true → begins ≡ place_at (slice_get ts a) → name ≡ bytes_at (slice_get ts (a + 2)) → at ≡ place_at (slice_get ts (a + 2)) → Read declare_tree declare_parts ts a (statement.Declare Wr begins (record { name = name; pos = at; member = None })) (a + 5)
 declare_read ts a begins name at h is_begins is_name is_at =
     let s = declare_tests ts a h in
     let x : SmallDeclare = record { begins = begins; name = name; at = at } in
     let w = declare_within ts a h in
-    record { from = x; is = refl; stands = ((placed_as (slice_get ts a) (codes "wr") begins s.t0 is_begins),
-      ((fits_word (slice_get ts (a + 1)) (codes "(") s.t1),
-      ((back ts (Called name at) (a + 1 + 1) (a + 2) (at2 a) (called_as (slice_get ts (a + 2)) name at s.t2 is_name is_at)),
-      ((back ts (Word (codes ")")) (a + 1 + 1 + 1) (a + 3) (at3 a) (fits_word (slice_get ts (a + 3)) (codes ")") s.t3)),
-      ((back ts (Word (codes ";")) (a + 1 + 1 + 1 + 1) (a + 4) (at4 a) (fits_word (slice_get ts (a + 4)) (codes ";") s.t4)),
-      at5 a)))));
-      forward = omega arith; within = w }
+    record {
+      from = x;
+      is = refl;
+      stands = (
+        (placed_as (slice_get ts a) (codes "wr") begins s.t0 is_begins),
+        (
+          (fits_word (slice_get ts (a + 1)) (codes "(") s.t1),
+          (
+            (back ts (Called name at) (a + 1 + 1) (a + 2) (at2 a) (called_as (slice_get ts (a + 2)) name at s.t2 is_name is_at)),
+            (
+              (back ts (Word (codes ")")) (a + 1 + 1 + 1) (a + 3) (at3 a) (fits_word (slice_get ts (a + 3)) (codes ")") s.t3)),
+              (
+                (back ts (Word (codes ";")) (a + 1 + 1 + 1 + 1) (a + 4) (at4 a) (fits_word (slice_get ts (a + 4)) (codes ";") s.t4)),
+                at5 a,
+              ),
+            ),
+          ),
+        ),
+      );
+      forward = omega arith;
+      within = w;
+    }
 
 pub main_stands : (ts : List TokenAt) (a : ℕ) → main_shape ts a ≡ true → Stands ts main_opening a (a + 2)
 main_stands ts a h =

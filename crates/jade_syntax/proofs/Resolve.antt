@@ -48,8 +48,8 @@ pub resolved_join : (items : List Item) (xs ys : List Name) (a b c : List Stand)
 resolved_join items xs ys a b c ok g h = record {
   test = h.test ∙ sym (all_append (λ x. occurs x (item_names items)) xs ys (sym g.test));
   stands = λ e. h.stands e ∙ ap (λ z. z ++ map (λ x. stand_of x (declared items)) ys) (g.stands refl)
-    ∙ append_assoc a (map (λ x. stand_of x (declared items)) xs) (map (λ x. stand_of x (declared items)) ys)
-    ∙ ap (λ z. a ++ z) (sym (map-append (λ x. stand_of x (declared items)) xs ys));
+      ∙ append_assoc a (map (λ x. stand_of x (declared items)) xs) (map (λ x. stand_of x (declared items)) ys)
+      ∙ ap (λ z. a ++ z) (sym (map-append (λ x. stand_of x (declared items)) xs ys));
 }
 
 pub resolved_stop : (items : List Item) (xs ys : List Name) (a b : List Stand) → Resolved items xs a b false → Resolved items (xs ++ ys) a b false
@@ -66,9 +66,11 @@ used_first : (ss : List Statement) (i : ℕ) (s : Statement) → slice_get ss i 
 used_first ss i s e = ap used (drop_item ss i s e)
 
 pub coming_more : (items : List Item) (ss : List Statement) (old : List Stand) (i : ℕ) (stands next : List Stand) (s : Statement) → slice_get ss i ≡ Some s → Coming items ss old i stands → Resolved items (names_used (action s)) stands next true → Coming items ss old (i + 1) next
-coming_more items ss old i stands next s e c r = record { comes = λ new ok h.
-    let P : List Name → Type 0 = λ z. Resolved items z stands new ok in
-    c.comes new ok (subst P (sym (used_first ss i s e)) (resolved_join items (names_used (action s)) (used (drop (i + 1) ss)) stands next new ok r h)) }
+coming_more items ss old i stands next s e c r = record {
+  comes = λ new ok h.
+      let P : List Name → Type 0 = λ z. Resolved items z stands new ok in
+      c.comes new ok (subst P (sym (used_first ss i s e)) (resolved_join items (names_used (action s)) (used (drop (i + 1) ss)) stands next new ok r h));
+}
 
 pub coming_stop : (items : List Item) (ss : List Statement) (old : List Stand) (i : ℕ) (stands next : List Stand) (s : Statement) → slice_get ss i ≡ Some s → Coming items ss old i stands → Resolved items (names_used (action s)) stands next false → Resolved items (used ss) old next false
 coming_stop items ss old i stands next s e c r =
@@ -249,9 +251,9 @@ module _ (t : Program) where
   pub all_numbered : (first all : List Stand) → is_built (program t) ≡ true → within_limits t.items ≡ true → are_distinct (map name_of t.items) ≡ true
       → first ≡ [] ++ stands_alone (declared t.items) → Resolved t.items (used t.main) first all true → IsNumbered t all
   all_numbered first all built w d f r = record {
-      faultless = ap (λ z. z && are_distinct (item_names t.items) && list_all (λ x. occurs x (item_names t.items)) (used t.main)) w
+    faultless = ap (λ z. z && are_distinct (item_names t.items) && list_all (λ x. occurs x (item_names t.items)) (used t.main)) w
         ∙ ap (λ z. are_distinct z && list_all (λ x. occurs x (item_names t.items)) (used t.main)) (names_are t.items)
         ∙ ap (λ z. z && list_all (λ x. occurs x (item_names t.items)) (used t.main)) d ∙ sym r.test;
-      numbered = r.stands refl ∙ ap (λ z. z ++ map (λ x. stand_of x (declared t.items)) (used t.main)) f
+    numbered = r.stands refl ∙ ap (λ z. z ++ map (λ x. stand_of x (declared t.items)) (used t.main)) f
         ∙ ap (λ z. stands_alone (declared t.items) ++ z) (sym (plains_add (declared t.items) 0 (block t.main) (both _ _ built).1).stands);
-    }
+  }

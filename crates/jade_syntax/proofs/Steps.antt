@@ -115,17 +115,23 @@ whole_read ts next end items main i m le =
     }
 
 pub no_items : (ts : List TokenAt) → Never (listed item_parts main_opening) ts 0 → NeverWhole ts
-no_items ts none = record { never = λ p g.
-    let s = stands_split ts (listed item_parts main_opening p.items) (listed statement_parts closing p.main) 0 (length ts) g in none.never p.items s.place s.first }
+no_items ts none = record {
+  never = λ p g.
+      let s = stands_split ts (listed item_parts main_opening p.items) (listed statement_parts closing p.main) 0 (length ts) g in none.never p.items s.place s.first;
+}
 
 pub no_main : (ts : List TokenAt) (next : ℕ) (items : List Item) → Read (map item_tree) (listed item_parts main_opening) ts 0 items next → Never (listed statement_parts closing) ts next → NeverWhole ts
-no_main ts next items i none = record { never = λ p g.
-    none.never p.main (length ts) (after_first (listed item_parts main_opening) ts items_alone i.from p.items (listed statement_parts closing p.main) 0 next (length ts) i.stands g) }
+no_main ts next items i none = record {
+  never = λ p g.
+      none.never p.main (length ts) (after_first (listed item_parts main_opening) ts items_alone i.from p.items (listed statement_parts closing p.main) 0 next (length ts) i.stands g);
+}
 
 pub too_long : (ts : List TokenAt) (next end : ℕ) (items : List Item) (main : List Statement) → Alone (listed statement_parts closing) → Read (map item_tree) (listed item_parts main_opening) ts 0 items next → Read (map statement_tree) (listed statement_parts closing) ts next main end → end < length ts → NeverWhole ts
-too_long ts next end items main one i m lt = record { never = λ p g.
-    let s = after_first (listed item_parts main_opening) ts items_alone i.from p.items (listed statement_parts closing p.main) 0 next (length ts) i.stands g in
-    let e = one.same ts p.main m.from next (length ts) end s m.stands in
-    let P : List SmallStatement → Type 0 = λ z. Stands ts (listed statement_parts closing z) next (length ts) in
-    let k : length ts ≡ end = same_end ts (listed statement_parts closing m.from) next (length ts) end (subst P e s) m.stands in
-    omega arith }
+too_long ts next end items main one i m lt = record {
+  never = λ p g.
+      let s = after_first (listed item_parts main_opening) ts items_alone i.from p.items (listed statement_parts closing p.main) 0 next (length ts) i.stands g in
+      let e = one.same ts p.main m.from next (length ts) end s m.stands in
+      let P : List SmallStatement → Type 0 = λ z. Stands ts (listed statement_parts closing z) next (length ts) in
+      let k : length ts ≡ end = same_end ts (listed statement_parts closing m.from) next (length ts) end (subst P e s) m.stands in
+      omega arith;
+}

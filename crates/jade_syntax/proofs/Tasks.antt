@@ -71,8 +71,8 @@ module _ (items : Scope) where
       let b = both _ _ h in let c = both _ _ b.0 in
       record {
         stands = ap (λ z. z ++ expression_stands items e ++ expression_stands items v) (alone_stands items o c.0)
-          ∙ ap (λ z. (stand_of (place_name o) items ∷ []) ++ z ++ expression_stands items v) (number_stands items e c.1)
-          ∙ ap (λ z. (stand_of (place_name o) items ∷ []) ++ [] ++ z) (number_stands items v b.1);
+            ∙ ap (λ z. (stand_of (place_name o) items ∷ []) ++ z ++ expression_stands items v) (number_stands items e c.1)
+            ∙ ap (λ z. (stand_of (place_name o) items ∷ []) ++ [] ++ z) (number_stands items v b.1);
         scope_is = refl;
         slots_are = refl;
       }
@@ -118,8 +118,8 @@ module _ (items : Scope) where
       let g = leaves_add 0 b (each_weaker is_plain_store is_leaf store_leaf b (both _ _ h).1) in
       record {
         stands = ap (λ z. z ++ [] ++ (numbered_all items items 0 b).stands) f.stands ∙ ap (λ z. map (λ x. stand_of x items) (all_names_used s) ++ [] ++ z) g.stands
-          ∙ append_assoc_nil (map (λ x. stand_of x items) (all_names_used s)) (map (λ x. stand_of x items) (all_names_used b))
-          ∙ sym (map-append (λ x. stand_of x items) (all_names_used s) (all_names_used b));
+            ∙ append_assoc_nil (map (λ x. stand_of x items) (all_names_used s)) (map (λ x. stand_of x items) (all_names_used b))
+            ∙ sym (map-append (λ x. stand_of x items) (all_names_used s) (all_names_used b));
         scope_is = refl;
         slots_are = f.slots_are;
       }

@@ -19,10 +19,12 @@ pub refused_unbuilt : (text : List ℕ) (error : LexError) → reading text ≡ 
 refused_unbuilt text error e = record { never = λ p r h. let k = sym r.whole ∙ e in cc }
 
 pub tokens_unbuilt : (text : List ℕ) (tokens : TokenList) → reading text ≡ Whole tokens → NeverWhole tokens.lexemes → IsUnbuilt text
-tokens_unbuilt text tokens e n = record { never = λ p r h.
-    let k : r.tokens ≡ tokens = (let f = sym r.whole ∙ e in cc) in
-    let P : TokenList → Type 0 = λ t. Stands t.lexemes (spelling p) 0 (length t.lexemes) in
-    n.never p (subst P k r.stands) }
+tokens_unbuilt text tokens e n = record {
+  never = λ p r h.
+      let k : r.tokens ≡ tokens = (let f = sym r.whole ∙ e in cc) in
+      let P : TokenList → Type 0 = λ t. Stands t.lexemes (spelling p) 0 (length t.lexemes) in
+      n.never p (subst P k r.stands);
+}
 
 whole_reads : (text : List ℕ) (tokens : TokenList) (tree : Program) → reading text ≡ Whole tokens → (w : ReadWhole tokens.lexemes tree) → Reads text w.from
 whole_reads text tokens tree e w = record { tokens = tokens; whole = e; stands = w.stands }
@@ -34,11 +36,13 @@ pub whole_built : (tokens : TokenList) (tree : Program) → ReadWhole tokens.lex
 whole_built tokens tree w = ap (λ t. is_built (program t)) w.is ∙ small_built w.from
 
 pub faulty_unbuilt : (text : List ℕ) (tokens : TokenList) (tree : Program) → reading text ≡ Whole tokens → ReadWhole tokens.lexemes tree → is_faultless (program tree) ≡ false → IsUnbuilt text
-faulty_unbuilt text tokens tree e w n = record { never = λ p r h.
-    let q : Reads text w.from = record { tokens = tokens; whole = e; stands = w.stands } in
-    let k = reads_one text p w.from r q in
-    let f : is_faultless (program tree) ≡ true = ap (λ t. is_faultless (program t)) w.is ∙ sym (ap (λ s. is_faultless (program (tree_of s))) k) ∙ h in
-    let g : true ≡ false = sym f ∙ n in cc }
+faulty_unbuilt text tokens tree e w n = record {
+  never = λ p r h.
+      let q : Reads text w.from = record { tokens = tokens; whole = e; stands = w.stands } in
+      let k = reads_one text p w.from r q in
+      let f : is_faultless (program tree) ≡ true = ap (λ t. is_faultless (program t)) w.is ∙ sym (ap (λ s. is_faultless (program (tree_of s))) k) ∙ h in
+      let g : true ≡ false = sym f ∙ n in cc;
+}
 
 pub whole_checked : (tokens : TokenList) (tree : Program) (stands : List Stand) → ReadWhole tokens.lexemes tree → IsNumbered tree stands → IsChecked tree stands
 whole_checked tokens tree stands w n = record { built = whole_built tokens tree w; faultless = n.faultless; numbered = n.numbered }

@@ -124,9 +124,16 @@ pub record Reads (text : List ℕ) (p : SmallProgram) : Type 0 where
 -- a number as an expression
 abbrev pub number_tree : Number → Expr
 number_tree n =
-    roll-Expr (record { first = roll-AndExpr (record { first = roll-Compare (record {
-      left = roll-Sum (record { first = roll-Product (record { first = roll-Unary (record { signs = []; atom = atom.Whole n }); rest = [] }); rest = [] });
-      right = None }); rest = [] }); rest = [] })
+    roll-Expr (record {
+      first = roll-AndExpr (record {
+        first = roll-Compare (record {
+          left = roll-Sum (record { first = roll-Product (record { first = roll-Unary (record { signs = []; atom = atom.Whole n }); rest = [] }); rest = [] });
+          right = None;
+        });
+        rest = [];
+      });
+      rest = [];
+    })
 
 abbrev pub item_tree : SmallItem → Item
 item_tree i = item.Single i.name i.at i.size

@@ -9,6 +9,6 @@ pub mod stands;
 pub mod tree;
 
 pub use checked::Checked;
-pub use small::{SmallError, read_small};
 pub use name::{Name, NameError};
+pub use small::{SmallError, read_small};
 pub use stands::{Stand, Stands};

@@ -6,9 +6,9 @@ ghost use Rattle.jade_lexer.specs.Reading.{reading, Whole};
 ghost use Rattle.jade_syntax.specs.CheckedProgram.{IsChecked};
 
 mod first;
+mod lexemes;
 mod parse;
 mod resolve;
-mod lexemes;
 
 use crate::checked::Checked;
 use crate::small::first::first_word;

@@ -78,11 +78,7 @@ pub(super) fn pos_at(tokens: &Tokens<'_>, at: usize) -> Pos
 }
 
 /// The name that a token is.
-pub(super) fn name_from(
-    alloc: Global,
-    tokens: &Tokens<'_>,
-    at: usize,
-) -> Result<Name, AllocError>
+pub(super) fn name_from(alloc: Global, tokens: &Tokens<'_>, at: usize) -> Result<Name, AllocError>
     requires { at < length tokens.now.lexemes }
     ensures { IfOk result (λ n. n ≡ bytes_at (slice_get tokens.now.lexemes at)) }
 {

@@ -186,11 +186,7 @@ fn number_leaf(
 }
 
 /// The names of plain stores and declarations.
-fn number_leaves(
-    items: &Items,
-    leaves: &Block,
-    stands: &mut Stands,
-) -> Result<bool, AllocError>
+fn number_leaves(items: &Items, leaves: &Block, stands: &mut Stands) -> Result<bool, AllocError>
     requires singles { list_all is_single items.now ≡ true }
     requires few { length items.now ≤ 4096 }
     requires leaves { each_action is_leaf (block leaves.now) ≡ true }
