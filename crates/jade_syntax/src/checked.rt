@@ -35,6 +35,15 @@ impl Model for Checked {
 }
 
 impl Checked {
+    /// A program that nothing is wrong with, and what its names stand for.
+    pub(crate) fn of(program: Program, stands: Stands) -> Checked
+        requires { IsChecked program stands }
+        ensures program { result.program ≡ program }
+        ensures stands { result.stands ≡ stands }
+    {
+        Checked { program, stands }
+    }
+
     /// The tree. It takes no memory.
     pub fn program(&self) -> &Program
         ensures program { result.now ≡ self.now.program }

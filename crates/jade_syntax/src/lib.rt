@@ -4,9 +4,11 @@
 pub mod checked;
 pub mod name;
 mod objects;
+pub mod small;
 pub mod stands;
 pub mod tree;
 
 pub use checked::Checked;
 pub use name::{Name, NameError};
+pub use small::{SmallError, read_small};
 pub use stands::{Stand, Stands};

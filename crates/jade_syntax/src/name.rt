@@ -4,7 +4,7 @@ ghost use Rattle.jade_syntax.specs.Numbering.{same_name};
 ghost use Rattle.jade_syntax.specs.Names.{is_letter, is_letter_or_digit, is_spelled, item_words, statement_words, declare_words, is_reserved, is_name};
 ghost use Rattle.jade_syntax.specs.Refusals.{IsNameRefusal};
 
-use std::alloc::Global;
+use std::alloc::{AllocError, Global};
 use std::marker::Model;
 
 /// The most bytes of a name.
@@ -50,10 +50,18 @@ impl Name {
         if !is_name(bytes) {
             return Err(NameError::Shape);
         }
-        match Vec::from_slice(alloc, bytes) {
-            Ok(bytes) => Ok(Name { bytes }),
+        match Name::copied(alloc, bytes) {
+            Ok(name) => Ok(name),
             Err(_) => Err(NameError::Memory),
         }
+    }
+
+    /// A name of these bytes.
+    pub(crate) fn copied(alloc: Global, bytes: &[u8]) -> Result<Name, AllocError>
+        ensures { IfOk result (λ n. n ≡ bytes.now) }
+    {
+        let bytes = Vec::from_slice(alloc, bytes)?;
+        Ok(Name { bytes })
     }
 }
 

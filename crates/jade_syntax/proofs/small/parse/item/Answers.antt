@@ -1,0 +1,14 @@
+use Rattle.std.proofs.Common.{◌≡◌, ◌+◌, ◌<◌, ◌≤◌, true, false, length, map, codes, slice_get, sym, ◌∙◌, arith}
+use Rattle.jade_syntax.specs.Small.{Stands, listed, item_parts, store_parts, declare_parts, statement_parts, closing, body_opening, main_opening, item_tree, store_tree, declare_tree, statement_tree}
+use Rattle.jade_syntax.specs.Parsing.{Never, NeverWhole, item_shape, store_shape, declare_shape, main_shape, body_shape, makes_shape, word_at}
+use Rattle.jade_syntax.proofs.Parts.{item_read, item_size, item_within}
+use Rattle.jade_syntax.proofs.small.parse.item.Goals as goal
+
+pub number_from-size-requires : goal.number_from-size-requires
+number_from-size-requires c = let h : item_shape c.args.tokens.now.lexemes c.args.at ≡ true = sym c.is_item.ensures ∙ c.if-not-is_item.false in item_size c.args.tokens.now.lexemes c.args.at h
+
+pub name_from-requires : goal.name_from-requires
+name_from-requires c = let h : item_shape c.args.tokens.now.lexemes c.args.at ≡ true = sym c.is_item.ensures ∙ c.if-not-is_item.false in let k = item_within c.args.tokens.now.lexemes c.args.at h in omega arith
+
+pub returns-in-Ok-clause-read : goal.returns-in-Ok-clause-read
+returns-in-Ok-clause-read c = let h : item_shape c.args.tokens.now.lexemes c.args.at ≡ true = sym c.is_item.ensures ∙ c.if-not-is_item.false in item_read c.args.tokens.now.lexemes c.args.at _ _ _ h c.in-Ok.ensures c.pos_at-pos.ensures c.number_from-size.ensures

@@ -1,0 +1,21 @@
+use Rattle.std.proofs.Common.{◌≡◌, ◌+◌, ◌<◌, ◌≤◌, true, false, length, map, codes, slice_get, sym, ◌∙◌, arith}
+use Rattle.jade_syntax.specs.Small.{Stands, listed, item_parts, store_parts, declare_parts, statement_parts, closing, body_opening, main_opening, item_tree, store_tree, declare_tree, statement_tree}
+use Rattle.jade_syntax.specs.Parsing.{Never, NeverWhole, item_shape, store_shape, declare_shape, main_shape, body_shape, makes_shape, word_at}
+use Rattle.jade_syntax.proofs.Alone.{main_alone}
+use Rattle.jade_syntax.proofs.Steps.{stop_then, whole_read, no_items, no_main, too_long}
+use Rattle.jade_syntax.proofs.small.parse.program.Goals as goal
+
+pub returns-then-end-len-clause-refused : goal.returns-then-end-len-clause-refused
+returns-then-end-len-clause-refused c = too_long c.args.tokens.now.lexemes c.in-Ok.next c.in-Ok-statements.end c.in-Ok.items c.in-Ok-statements.main main_alone c.in-Ok.ensures.read c.in-Ok-statements.ensures.read (omega arith)
+
+pub returns-else-end-len-clause-read : goal.returns-else-end-len-clause-read
+returns-else-end-len-clause-read c = whole_read c.args.tokens.now.lexemes c.in-Ok.next c.in-Ok-statements.end c.in-Ok.items c.in-Ok-statements.main c.in-Ok.ensures.read c.in-Ok-statements.ensures.read (omega arith)
+
+pub returns-in-Err-statements-clause-refused : goal.returns-in-Err-statements-clause-refused
+returns-in-Err-statements-clause-refused c =
+    stop_then (Never (listed statement_parts closing) c.args.tokens.now.lexemes c.in-Ok.next) (NeverWhole c.args.tokens.now.lexemes) c.in-Err-statements.stop
+    (no_main c.args.tokens.now.lexemes c.in-Ok.next c.in-Ok.items c.in-Ok.ensures.read) c.in-Err-statements.ensures.refused
+
+pub returns-in-Err-clause-refused : goal.returns-in-Err-clause-refused
+returns-in-Err-clause-refused c =
+    stop_then (Never (listed item_parts main_opening) c.args.tokens.now.lexemes 0) (NeverWhole c.args.tokens.now.lexemes) c.in-Err.stop (no_items c.args.tokens.now.lexemes) c.in-Err.ensures.refused

@@ -1,0 +1,13 @@
+use Rattle.std.proofs.Common.{◌≡◌, ◌+◌, ◌<◌, ◌≤◌, true, false, length, map, codes, slice_get, sym, ◌∙◌, arith}
+use Rattle.jade_syntax.specs.Small.{Stands, listed, item_parts, store_parts, declare_parts, statement_parts, closing, body_opening, main_opening, item_tree, store_tree, declare_tree, statement_tree}
+use Rattle.jade_syntax.specs.Parsing.{Never, NeverWhole, item_shape, store_shape, declare_shape, main_shape, body_shape, makes_shape, word_at}
+use Rattle.jade_syntax.proofs.Steps.{stop_then, store_read_as, no_statement}
+use Rattle.jade_syntax.proofs.small.parse.statement.Goals as goal
+
+pub returns-in-Ok-clause-read : goal.returns-in-Ok-clause-read
+returns-in-Ok-clause-read c = store_read_as c.args.tokens.now.lexemes c.args.at c.in-Ok.next c.in-Ok.statement c.in-Ok.ensures.read
+
+pub returns-in-Err-clause-refused : goal.returns-in-Err-clause-refused
+returns-in-Err-clause-refused c =
+    let h : makes_shape c.args.tokens.now.lexemes c.args.at ≡ false = sym c.is_makes.ensures ∙ c.if-is_makes.false in
+    stop_then (Never store_parts c.args.tokens.now.lexemes c.args.at) (Never statement_parts c.args.tokens.now.lexemes c.args.at) c.in-Err.stop (no_statement c.args.tokens.now.lexemes c.args.at h) c.in-Err.ensures.refused

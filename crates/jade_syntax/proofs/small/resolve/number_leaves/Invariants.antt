@@ -1,0 +1,13 @@
+use Rattle.std.proofs.Common.{◌≡◌, ◌+◌, ◌*◌, ◌≤◌, ◌++◌, drop, map, true, sum}
+use Rattle.std.specs.List.{list_all}
+use Rattle.jade_syntax.specs.Resolving.{name_of, is_leaf}
+use Rattle.jade_syntax.specs.Built.{each_action}
+use Rattle.jade_syntax.specs.Image.{block}
+use Rattle.jade_syntax.proofs.Resolve.{Coming}
+use Rattle.jade_syntax.proofs.small.resolve.number_leaves.Given as goal
+
+abbrev pub invariant-loop-i : goal.invariant-loop-i
+invariant-loop-i l = record {
+  coming : Coming l.items l.leaves l.initial.stands l.i l.stands;
+  leaves : each_action is_leaf (block (drop l.i l.leaves)) ≡ true;
+}
