@@ -5,4 +5,4 @@ pub mod limit;
 pub mod note;
 
 pub use limit::limit_place;
-pub use note::first;
+pub use note::{first, key_is_before};

@@ -1,8 +1,8 @@
 ghost use Rattle.std.specs.Prelude.{◌≡◌, [], length, IfSome, IfNone};
-ghost use Rattle.jade_base.specs.Places.{key, path_order};
+ghost use Rattle.jade_base.specs.Places.{is_before, key, path_order};
 ghost use Rattle.fault_order.specs.Order.{IsFirstNote, comes_before, key_of};
 
-use jade_base::{FaultNote, FaultNotes};
+use jade_base::{FaultNote, FaultNotes, Path};
 use std::cmp::Ordering;
 
 /// The note with the least key; of notes with one key the one that stands first in the list.
@@ -27,13 +27,15 @@ pub fn first(notes: &FaultNotes) -> Option<&FaultNote>
 fn comes_before(left: &FaultNote, right: &FaultNote) -> bool
     ensures { result ≡ comes_before left.now right.now }
 {
-    let order = compare_keys(
-        left.path.numbers(),
-        left.children,
-        right.path.numbers(),
-        right.children,
-    );
-    order == Ordering::Less
+    key_is_before(&left.path, left.children, &right.path, right.children)
+}
+
+/// Whether one key is less than another, each given as a path and a number of children. It takes
+/// no memory.
+pub fn key_is_before(left: &Path, children: u32, right: &Path, others: u32) -> bool
+    ensures { result ≡ is_before (key left.now children) (key right.now others) }
+{
+    compare_keys(left.numbers(), children, right.numbers(), others) == Ordering::Less
 }
 
 // The order of two keys, each given as a path and a number of children.

@@ -1,1 +1,6 @@
 pub mod Joins
+pub mod Lines
+pub mod Inputs
+pub mod Deciding
+pub mod Calls
+pub mod Once

@@ -1,2 +1,6 @@
+pub mod Complete
+pub mod Headline
+pub mod Numbers
+pub mod Outcome
 pub mod Texts
 pub mod Words

@@ -2,11 +2,12 @@
 
 ghost use Rattle.std.specs.Prelude.{◌≡◌, ◌++◌, ◌∷◌, [], codes, IfOk, OnOk, ◌<◌, length, slice_get, Some};
 ghost use Rattle.std.specs.Fmt.{decimal, signed_decimal};
-ghost use Rattle.jade_run.specs.Texts.{place_text, path_text, fault_word, fault_text, place_before, refused_text, line_of, cells_text, member_text, object_text, between};
+ghost use Rattle.jade_run.specs.Texts.{place_text, path_text, fault_word, fault_text, place_before, refused_text, line_of, cells_text, member_text, object_text, objects_text, between};
+ghost use Rattle.jade_syntax.specs.Objects.{labels};
 
 use itoa::Buffer;
-use jade_base::{Blame, FaultKind, Numbers, Path, Pos};
-use jade_syntax::Name;
+use jade_base::{Blame, CellLists, FaultKind, Numbers, ObjectId, Path, Pos};
+use jade_syntax::{Checked, Name};
 use std::alloc::{AllocError, Global};
 
 /// Puts a number last, in decimal.
@@ -145,4 +146,20 @@ fn push_object(
     push_cells(text, cells.as_slice())?;
     text.push(b'\n')?;
     Ok(())
+}
+
+/// What a run is answered with that has no fault: one line for each object, in declared order.
+pub fn objects(alloc: Global, checked: &Checked, cells: &CellLists) -> Result<Vec<u8>, AllocError>
+    ensures { IfOk result (λ text. text.items ≡ objects_text (labels checked.now.program.items) cells.now) }
+{
+    let mut text = Vec::new(alloc);
+    for i in 0..checked.objects() {
+        let place = i as usize;
+        if place >= cells.len() {
+            break;
+        }
+        let (name, member) = checked.label(ObjectId(i));
+        push_object(&mut text, name, member, cells.at(place))?;
+    }
+    Ok(text)
 }

@@ -1,6 +1,6 @@
 //! Reading the programs that can be run today.
 
-ghost use Rattle.std.specs.Prelude.{◌≡◌, ◌≤◌, length, IfOk, IfErr, true};
+ghost use Rattle.std.specs.Prelude.{◌≡◌, ◌≤◌, length, IfOk, IfErr, true, ℕ, List};
 ghost use Rattle.jade_syntax.specs.Small.{IsRead, IsSmallRefusal, Reads, SmallProgram, first_word};
 ghost use Rattle.jade_lexer.specs.Reading.{reading, Whole};
 ghost use Rattle.jade_syntax.specs.CheckedProgram.{IsChecked};
@@ -70,11 +70,9 @@ fn read_tokens(alloc: Global, text: &[u8], tokens: &Tokens<'_>) -> Result<Checke
 }
 
 /// A text is read as at most one small program.
-pub fn at_most_one(text: &[u8])
-    ensures { (x y : SmallProgram) → Reads text.now x → Reads text.now y → x ≡ y }
-{
-    let _ = text;
-}
+pub fn at_most_one()
+    ensures { (text : List ℕ) (x y : SmallProgram) → Reads text x → Reads text y → x ≡ y }
+{}
 
 #[cfg(test)]
 mod tests {
@@ -118,7 +116,7 @@ mod tests {
 
     #[test]
     fn reads_the_empty_program(rt: HostRuntime) {
-        at_most_one(b"main { }");
+        at_most_one();
         match read_small(rt.alloc(), b"main { }") {
             Ok(checked) => assert_eq!(rt; checked.objects(), 0),
             Err(_) => panic!(rt; "refused a program"),

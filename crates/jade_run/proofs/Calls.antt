@@ -1,0 +1,67 @@
+-- What the parts of a call come to, each in one step.
+use Rattle.std.proofs.Common.{◌≡◌, ℕ, zero, suc, ◌+◌, ◌<◌, ◌≤◌, List, [], ◌∷◌, length, take, drop, replicate, Option, Some, None, refl, ap, sym, ◌∙◌, subst, arith}
+use Rattle.std.specs.Prelude.{codes}
+use Rattle.std.proofs.lemmas.List.{drop_all}
+use Rattle.jade_base.specs.Bytes.{WholeText, CutText, left_after}
+use Rattle.jade_run.specs.declared.status.Status.{Status}
+use Rattle.jade_run.specs.declared.status.Status.TheVariants.{Good, Fault, Refused, Words, Numbers, Reading, Writing, Memory}
+use Rattle.jade_run.specs.Headline.{Answers, Comes, most_read}
+use Rattle.jade_run.specs.Outcome.{IsOutcome, IsAnswered, usage, too_long, run, unbuilt, answered, first_place, answer_status}
+use Rattle.jade_run.specs.Texts.{usage_text, refused_text}
+use Rattle.jade_run.specs.Words.{RunWords}
+use Rattle.jade_meaning.specs.Answer.{Answer, Faulted, Cells}
+
+-- the bytes that are told, or none
+bytes_of : Option (List ℕ) → List ℕ
+bytes_of None = []
+bytes_of (Some b) = b
+
+told_bytes : (left : Option (List ℕ)) (b : List ℕ) → left ≡ Some b → bytes_of left ≡ b
+unfolding bytes_of
+told_bytes left b e = ap bytes_of e
+
+pub usage_answers : (words : List (List ℕ)) (left : Option (List ℕ)) (text : List ℕ) (status : Status) → ((w l : ℕ) → RunWords words w l → ⊥) → text ≡ usage_text → status ≡ Words → Answers words left left text status
+usage_answers words left text status never t s = record {
+  comes = record { bytes = bytes_of left; told = told_bytes left; outcome = usage never t s };
+  read = λ b e. e ∙ ap (λ z. Some (drop (most_read z) b)) (sym s);
+}
+
+-- there is a list as long as is wanted
+long : (n : ℕ) → (xs : List ℕ) × (n ≤ length xs)
+long zero = ([], omega arith)
+long (suc n) = let more = long n in (0 ∷ more.0, omega (arith, more.1))
+
+-- bytes that are told, or enough of others
+pub record Many (left : Option (List ℕ)) : Type 0 where
+  pub bytes : List ℕ
+  pub told : (b : List ℕ) → left ≡ Some b → bytes ≡ b
+  pub more : 1048576 < length bytes
+
+many : (left : Option (List ℕ)) → ((b : List ℕ) → left ≡ Some b → 1048577 ≤ length b) → Many left
+many None h = let some = long 1048577 in record { bytes = some.0; told = λ b e. absurd (cc); more = omega (arith, some.1) }
+many (Some b) h = record { bytes = b; told = λ x e. cc; more = omega (arith, h b refl) }
+
+pub too_long_answers : (words : List (List ℕ)) (before after : Option (List ℕ)) (w l : ℕ) (text : List ℕ) (status : Status) → RunWords words w l → CutText before after → text ≡ refused_text first_place (codes "text") → status ≡ Refused → Answers words before after text status
+too_long_answers words before after w l text status named cut t s =
+    let m = many before cut.too_long in
+    record {
+      comes = record { bytes = m.bytes; told = m.told; outcome = too_long w l named m.more t s };
+      read = λ b e. cut.cut ∙ ap (left_after 1048577) e ∙ ap (λ z. Some (drop (most_read z) b)) (sym s);
+    }
+
+read_most : (a : Answer) → most_read (answer_status a) ≡ 1048577
+read_most (Faulted p b) = refl
+read_most (Cells store) = refl
+
+answered_read : {bytes : List ℕ} {limit : ℕ} {text : List ℕ} {status : Status} → IsAnswered bytes limit text status → most_read status ≡ 1048577
+answered_read (unbuilt never t s) = ap most_read s
+answered_read (answered tree reads good shows) = ap most_read shows.ended ∙ read_most _
+
+pub run_answers : (words : List (List ℕ)) (before after : Option (List ℕ)) (w l : ℕ) (bytes read text : List ℕ) (status : Status) → RunWords words w l → WholeText before after bytes → read ≡ bytes → IsAnswered read l text status → Answers words before after text status
+run_answers words before after w l bytes read text status named whole all h = record {
+  comes = record { bytes = bytes; told = whole.whole; outcome = run w l named whole.within (let P : List ℕ → Type 0 = λ z. IsAnswered z l text status in subst P all h) };
+  read = λ b e.
+      let same : bytes ≡ b = whole.whole b e in
+      let within : length b ≤ 1048577 = subst (λ z. length z ≤ 1048577) same (omega (arith, whole.within)) in
+      whole.none_left b e ∙ ap (λ z. Some z) (sym (drop_all 1048577 b within)) ∙ ap (λ n. Some (drop n b)) (sym (answered_read h));
+}

@@ -1,0 +1,5 @@
+use Rattle.jade_run.proofs.Once.{same_outcomes}
+use Rattle.jade_run.proofs.laws.one_outcome.Goals as goal
+
+pub returns : goal.returns
+returns c = same_outcomes c.at_most_one.ensures

@@ -1,0 +1,90 @@
+//! The top call.
+
+ghost use Rattle.std.specs.Prelude.{◌≡◌, IfOk, MatchResult, codes};
+ghost use Rattle.jade_run.specs.Headline.{Answers, Headline, Stops};
+ghost use Rattle.jade_run.specs.Outcome.{first_place};
+ghost use Rattle.jade_run.specs.Texts.{refused_text, usage_text};
+
+use crate::answer::{Answer, run_text};
+use crate::gate::Gate;
+use crate::status::Status;
+use crate::texts;
+use crate::words::run_command;
+use jade_base::{Memory, Pos, Sink, Source, TextError, Word, read_text, write_text};
+use std::alloc::Global;
+
+/// Where every text begins.
+const FIRST_PLACE: Pos = Pos { line: 1, column: 1 };
+
+/// Runs the command that the words after the program's name ask for: reads the text from the
+/// source where the command has one, writes what it comes to, and answers the status.
+///
+/// The words are tested first, then the length of the text, then the text. The whole text of the
+/// answer is built before its first byte is written.
+pub fn jade_main<R, S: Source, K: Sink, G: Gate>(
+    _rt: &R,
+    alloc: Global,
+    words: &[Word],
+    source: &mut S,
+    sink: &mut K,
+    _gate: &G,
+) -> Status
+    ensures { Headline words.now result
+        (record { left = S.left source.old; taken = K.taken sink.old; room = K.room sink.old; source_faults = S.faults source.old; sink_faults = K.faults sink.old })
+        (record { left = S.left source.new; taken = K.taken sink.new; room = K.room sink.new; source_faults = S.faults source.new; sink_faults = K.faults sink.new }) }
+{
+    match answer(alloc, words, source) {
+        Ok(answer) => match write_text(sink, &answer.text) {
+            Ok(()) => answer.status,
+            Err(_) => Status::Writing,
+        },
+        Err(status) => status,
+    }
+}
+
+/// What words and a source come to. The error is the status of a failed source, or of want of
+/// memory.
+fn answer<S: Source>(alloc: Global, words: &[Word], source: &mut S) -> Result<Answer, Status>
+    ensures { MatchResult result (λ a. Answers words.now (S.left source.old) (S.left source.new) a.text.items a.status) (λ s. Stops s (S.faults source.old) (S.faults source.new)) }
+{
+    let Some(command) = run_command(words) else {
+        return match usage(alloc) {
+            Ok(answer) => Ok(answer),
+            Err(Memory) => Err(Status::Memory),
+        };
+    };
+    match read_text(alloc, source) {
+        Ok(text) => match run_text(alloc, &text, command.limit) {
+            Ok(answer) => Ok(answer),
+            Err(Memory) => Err(Status::Memory),
+        },
+        Err(TextError::TooLong) => match too_long(alloc) {
+            Ok(answer) => Ok(answer),
+            Err(Memory) => Err(Status::Memory),
+        },
+        Err(TextError::Failed) => Err(Status::Reading),
+        Err(TextError::Memory) => Err(Status::Memory),
+    }
+}
+
+/// What refused words are answered with.
+fn usage(alloc: Global) -> Result<Answer, Memory>
+    ensures text { IfOk result (λ a. a.text.items ≡ usage_text) }
+    ensures status { IfOk result (λ a. a.status ≡ Status.Words) }
+{
+    Ok(Answer {
+        text: Vec::from_slice(alloc, b"usage\n")?,
+        status: Status::Words,
+    })
+}
+
+/// What a text that is too long is answered with.
+fn too_long(alloc: Global) -> Result<Answer, Memory>
+    ensures text { IfOk result (λ a. a.text.items ≡ refused_text first_place (codes "text")) }
+    ensures status { IfOk result (λ a. a.status ≡ Status.Refused) }
+{
+    Ok(Answer {
+        text: texts::refused(alloc, FIRST_PLACE, b"text")?,
+        status: Status::Refused,
+    })
+}
