@@ -1,12 +1,12 @@
 -- What the parts of a call come to, each in one step.
-use Rattle.std.proofs.Common.{◌≡◌, ℕ, zero, suc, ◌+◌, ◌<◌, ◌≤◌, List, [], ◌∷◌, length, take, drop, replicate, Option, Some, None, refl, ap, sym, ◌∙◌, subst, arith}
+use Rattle.std.proofs.Common.{◌≡◌, ℕ, zero, suc, ◌<◌, ◌≤◌, List, [], ◌∷◌, length, drop, Option, Some, None, refl, ap, sym, ◌∙◌, subst, arith}
 use Rattle.std.specs.Prelude.{codes}
 use Rattle.std.proofs.lemmas.List.{drop_all}
 use Rattle.jade_base.specs.Bytes.{WholeText, CutText, left_after}
 use Rattle.jade_run.specs.declared.status.Status.{Status}
-use Rattle.jade_run.specs.declared.status.Status.TheVariants.{Good, Fault, Refused, Words, Numbers, Reading, Writing, Memory}
-use Rattle.jade_run.specs.Headline.{Answers, Comes, most_read}
-use Rattle.jade_run.specs.Outcome.{IsOutcome, IsAnswered, usage, too_long, run, unbuilt, answered, first_place, answer_status}
+use Rattle.jade_run.specs.declared.status.Status.TheVariants.{Refused, Words}
+use Rattle.jade_run.specs.Headline.{Answers, most_read}
+use Rattle.jade_run.specs.Outcome.{IsAnswered, usage, too_long, run, unbuilt, answered, first_place, answer_status}
 use Rattle.jade_run.specs.Texts.{usage_text, refused_text}
 use Rattle.jade_run.specs.Words.{RunWords}
 use Rattle.jade_meaning.specs.Answer.{Answer, Faulted, Cells}

@@ -1,8 +1,8 @@
 -- What the first fault and the place of the limit are, in lists that stand by ascending key.
-use Rattle.std.proofs.Common.{◌≡◌, ℕ, zero, suc, ◌+◌, ◌-◌, ◌<◌, ◌≤◌, Bool, true, false, List, [], ◌∷◌, map, length, take, get_or, Option, Some, None, IfSome, refl, ap, sym, ◌∙◌, arith, subst}
+use Rattle.std.proofs.Common.{◌≡◌, ℕ, zero, suc, ◌+◌, ◌-◌, ◌<◌, ◌≤◌, true, false, List, [], ◌∷◌, map, take, get_or, Option, Some, None, IfSome, refl, ap, sym, ◌∙◌, arith, subst}
 use denote.Bor.{Bor}
-use Rattle.std.specs.Prelude.{nat_lt, IfNone, if◌then◌else◌}
-use Rattle.std.specs.List.{slice_get, sum_by}
+use Rattle.std.specs.Prelude.{IfNone, if◌then◌else◌}
+use Rattle.std.specs.List.{slice_get}
 use Rattle.std.specs.Option.{option_copied}
 use Rattle.std.proofs.lemmas.Bool.{lt-ltb, le-ltb}
 use Rattle.std.proofs.lemmas.List.Sums.{sum_by-cons}

@@ -1,5 +1,5 @@
 -- The lines of objects, one more at a time.
-use Rattle.std.proofs.Common.{◌≡◌, ℕ, ◌+◌, ◌<◌, ◌≤◌, ◌⊎◌, inl, inr, List, [], ◌∷◌, ◌++◌, length, take, replicate, Some, refl, ap, sym, ◌∙◌, arith, zero, suc, append_assoc, append-nil, length-append, ℤ, add-one}
+use Rattle.std.proofs.Common.{◌≡◌, ℕ, ◌+◌, ◌≤◌, ◌⊎◌, inl, inr, List, [], ◌∷◌, ◌++◌, length, take, replicate, Some, refl, ap, sym, ◌∙◌, arith, zero, suc, append_assoc, append-nil, length-append, ℤ, add-one}
 use Rattle.std.specs.List.{slice_get}
 use Rattle.jade_syntax.specs.declared.tree.Item.{Item}
 use Rattle.jade_syntax.specs.declared.tree.Item.TheVariants as item

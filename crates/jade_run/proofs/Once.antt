@@ -1,5 +1,5 @@
 -- Words and a text come to one text and one status.
-use Rattle.std.proofs.Common.{◌≡◌, ℕ, ◌<◌, ◌≤◌, ◌^◌, ◌⊎◌, inl, inr, true, List, [], ◌∷◌, length, Some, refl, ap, sym, ◌∙◌, subst, arith}
+use Rattle.std.proofs.Common.{◌≡◌, ℕ, ◌<◌, ◌≤◌, ◌⊎◌, inl, inr, true, List, [], ◌∷◌, length, Some, refl, ap, sym, ◌∙◌, subst, arith}
 use Rattle.std.specs.Prelude.{codes}
 use Rattle.std.specs.Fmt.{decimal}
 use Rattle.std.proofs.lemmas.Fmt.{decimal_injective}
@@ -11,8 +11,8 @@ use Rattle.jade_meaning.specs.Answer.{answer}
 use Rattle.jade_run.specs.declared.status.Status.{Status}
 use Rattle.jade_run.specs.declared.status.Status.TheVariants.{Good, Fault, Refused, Words, Numbers, Reading, Writing, Memory}
 use Rattle.jade_run.specs.Complete.{Completes}
-use Rattle.jade_run.specs.Headline.{Headline, Moment, Comes, WroteAll, WrotePart}
-use Rattle.jade_run.specs.Outcome.{IsOutcome, IsAnswered, Shows, SameOutcome, usage, too_long, run, unbuilt, answered, answer_text, answer_status}
+use Rattle.jade_run.specs.Headline.{Headline, Moment, WroteAll, WrotePart}
+use Rattle.jade_run.specs.Outcome.{IsOutcome, IsAnswered, SameOutcome, usage, too_long, run, unbuilt, answered, answer_text, answer_status}
 use Rattle.jade_run.specs.Words.{RunWords}
 
 limit_of_lists : (words : List (List ℕ)) (a b c d e f : List ℕ) → words ≡ a ∷ b ∷ c ∷ [] → words ≡ d ∷ e ∷ f ∷ [] → c ≡ f

@@ -1,7 +1,5 @@
-use Rattle.std.proofs.Common.{◌≡◌, ◌≤◌, length, arith, inl, inr, ◌∙◌, ap, ◌++◌}
-use Rattle.jade_syntax.specs.Objects.{labels}
+use Rattle.std.proofs.Common.{arith, inl, inr, ◌∙◌}
 use Rattle.jade_run.proofs.Lines.{length-labels, text_lines_more, lines_all}
-use Rattle.jade_run.specs.Texts.{object_text, objects_text}
 use Rattle.jade_run.proofs.texts.objects.Goals as goal
 use Rattle.jade_run.proofs.texts.objects.Goals.{else-loop-i-test, then-loop-i-test+then-place-len}
 

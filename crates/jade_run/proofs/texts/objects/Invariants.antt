@@ -1,4 +1,4 @@
-use Rattle.std.proofs.Common.{◌≡◌, take, ◌≤◌}
+use Rattle.std.proofs.Common.{◌≡◌, take}
 use Rattle.jade_syntax.specs.Objects.{labels}
 use Rattle.jade_run.specs.Texts.{objects_text}
 use Rattle.jade_run.proofs.texts.objects.Given as goal

@@ -1,4 +1,4 @@
-use Rattle.std.proofs.Common.{◌≡◌, ◌++◌, ◌≤◌, take}
+use Rattle.std.proofs.Common.{◌≡◌, ◌++◌, take}
 use Rattle.jade_run.specs.Texts.{cells_text}
 use Rattle.jade_run.proofs.texts.push_cells.Given as goal
 

@@ -1,4 +1,4 @@
-use Rattle.std.proofs.Common.{◌≡◌, ℕ, ◌<◌, ◌^◌, Some, arith}
+use Rattle.std.proofs.Common.{◌≡◌, arith}
 use Rattle.jade_run.proofs.words.amount_of.Goals as goal
 
 pub returns-in_default : goal.returns-in_default
