@@ -1,3 +1,6 @@
+pub mod Cuts
 pub mod Longest
-pub mod Values
+pub mod Parts
+pub mod Standing
 pub mod Steps
+pub mod Values

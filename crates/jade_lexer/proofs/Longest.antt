@@ -19,7 +19,7 @@ greatest_is p (suc n) k le passes above =
     (cases_lt k (suc n))
 
 -- no prefix longer than this one passes whole
-prefix_passes : (q : ℕ → Bool) (k : ℕ) (xs : List ℕ) → k ≤ prefix_len q xs → list_all q (take k xs) ≡ true
+pub prefix_passes : (q : ℕ → Bool) (k : ℕ) (xs : List ℕ) → k ≤ prefix_len q xs → list_all q (take k xs) ≡ true
 prefix_passes q zero xs le = refl
 prefix_passes q (suc k) [] le = refl
 prefix_passes q (suc k) (x ∷ xs) le =
@@ -88,7 +88,7 @@ no_symbol f singles equals doubles b holds (c ∷ []) =
 no_symbol f singles equals doubles b holds (c ∷ d ∷ t) = refl
 
 -- no digit is a letter
-letter_is_no_digit : (b : ℕ) → is_letter b ≡ true → is_ascii_digit b ≡ false
+pub letter_is_no_digit : (b : ℕ) → is_letter b ≡ true → is_ascii_digit b ≡ false
 letter_is_no_digit b letter =
     false_from_ne_true (is_ascii_digit b) (λ digit.
     let low = leb-true 48 b (and_parts (leb 48 b) (leb b 57) digit).0 in
@@ -101,12 +101,12 @@ letter_is_no_digit b letter =
     (λ underscore. let is : b ≡ 95 = eqb-true b 95 underscore in omega arith)
     (or_cases (is_ascii_alphabetic b) (eqb b 95) letter))
 
-letter_token : (b : ℕ) → is_letter b ≡ true → (t : List ℕ) → is_token (b ∷ t) ≡ list_all is_word_byte t
+pub letter_token : (b : ℕ) → is_letter b ≡ true → (t : List ℕ) → is_token (b ∷ t) ≡ list_all is_word_byte t
 letter_token b letter t =
     first_only (is_word (b ∷ t)) (is_run (b ∷ t)) (is_symbol (b ∷ t)) (and_left (is_ascii_digit b) (list_all is_ascii_digit t) (letter_is_no_digit b letter)) (no_symbol is_letter refl refl refl b letter t)
     ∙ and_true (is_letter b) (list_all is_word_byte t) letter
 
-digit_token : (b : ℕ) → is_letter b ≡ false → is_ascii_digit b ≡ true → (t : List ℕ) → is_token (b ∷ t) ≡ list_all is_ascii_digit t
+pub digit_token : (b : ℕ) → is_letter b ≡ false → is_ascii_digit b ≡ true → (t : List ℕ) → is_token (b ∷ t) ≡ list_all is_ascii_digit t
 digit_token b letter digit t =
     second_only (is_word (b ∷ t)) (is_run (b ∷ t)) (is_symbol (b ∷ t)) (and_left (is_letter b) (list_all is_word_byte t) letter) (no_symbol is_ascii_digit refl refl refl b digit t)
     ∙ and_true (is_ascii_digit b) (list_all is_ascii_digit t) digit
@@ -185,3 +185,37 @@ greatest-le p (suc n) =
 -- the longest token is a part of the bytes
 pub longest-le : (bytes : List ℕ) → longest bytes ≤ length bytes
 longest-le bytes = greatest-le (λ n. is_token (take n bytes)) (length bytes)
+
+greatest_passes : (p : ℕ → Bool) (n : ℕ) → 0 < greatest p n → p (greatest p n) ≡ true
+greatest_passes p zero some = absurd (omega arith)
+greatest_passes p (suc n) some =
+    ⊎_elim
+    (λ holds. subst (λ m. p m ≡ true) (sym (cond-true (p (suc n)) (suc n) (greatest p n) holds)) holds)
+    (λ fails. let same = cond-false (p (suc n)) (suc n) (greatest p n) fails in
+    subst (λ m. p m ≡ true) (sym same) (greatest_passes p n (subst (λ m. 0 < m) same some)))
+    (cases_Bool (p (suc n)))
+
+greatest_above : (p : ℕ → Bool) (n k : ℕ) → greatest p n < k → k ≤ n → p k ≡ false
+greatest_above p zero k over under = absurd (omega arith)
+greatest_above p (suc n) k over under =
+    ⊎_elim
+    (λ holds. let high : suc n < k = subst (λ m. m < k) (cond-true (p (suc n)) (suc n) (greatest p n) holds) over in absurd (omega arith))
+    (λ fails. let low : greatest p n < k = subst (λ m. m < k) (cond-false (p (suc n)) (suc n) (greatest p n) fails) over in
+    ⊎_elim
+    (λ below. greatest_above p n k low (omega arith))
+    (λ beyond. let same : suc n ≡ k = omega arith in subst (λ m. p m ≡ false) same fails)
+    (cases_lt k (suc n)))
+    (cases_Bool (p (suc n)))
+
+-- the longest token is one, no longer one begins these bytes, and that fixes it
+pub longest_token : (bytes : List ℕ) → 0 < longest bytes → is_token (take (longest bytes) bytes) ≡ true
+longest_token bytes some = greatest_passes (λ n. is_token (take n bytes)) (length bytes) some
+
+pub longest_above : (bytes : List ℕ) (k : ℕ) → longest bytes < k → k ≤ length bytes → is_token (take k bytes) ≡ false
+longest_above bytes k over under = greatest_above (λ n. is_token (take n bytes)) (length bytes) k over under
+
+pub longest_is : (bytes : List ℕ) (n : ℕ) → n ≤ length bytes → is_token (take n bytes) ≡ true → ((k : ℕ) → n < k → k ≤ length bytes → is_token (take k bytes) ≡ false) → longest bytes ≡ n
+longest_is bytes n within token above = greatest_is (λ k. is_token (take k bytes)) (length bytes) n within (λ _. token) above
+
+pub longest_zero : (bytes : List ℕ) → ((k : ℕ) → 0 < k → k ≤ length bytes → is_token (take k bytes) ≡ false) → longest bytes ≡ 0
+longest_zero bytes above = greatest_is (λ k. is_token (take k bytes)) (length bytes) 0 (omega arith) (λ over. absurd (omega arith)) above

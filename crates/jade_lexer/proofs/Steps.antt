@@ -37,7 +37,7 @@ passed_one_less zero spot b bytes some = absurd (omega arith)
 passed_one_less (suc n) spot b bytes some = let less : suc n - 1 ≡ n = omega arith in ap (λ k. read_from k spot bytes) less ∙ passed n spot bytes
 
 -- a reading, by its first part
-blank_read : (spot : Spot) (bytes : List ℕ) (n : ℕ) → 0 < length bytes → 0 < n → Ok (Blank n) ≡ first_part spot bytes → read_from 0 spot bytes ≡ read_from 0 (spot_after spot (take n bytes) spot.depth) (drop n bytes)
+pub blank_read : (spot : Spot) (bytes : List ℕ) (n : ℕ) → 0 < length bytes → 0 < n → Ok (Blank n) ≡ first_part spot bytes → read_from 0 spot bytes ≡ read_from 0 (spot_after spot (take n bytes) spot.depth) (drop n bytes)
 blank_read spot [] n nonempty some part = absurd (omega arith)
 blank_read spot (b ∷ bytes) n nonempty some part =
     ap (λ p. part_reading spot (b ∷ bytes) p (λ k after. read_from k after bytes)) (sym part)
@@ -46,13 +46,13 @@ blank_read spot (b ∷ bytes) n nonempty some part =
 abbrev pub token_at : Spot → List ℕ → TokenAt
 token_at spot token = record { bytes = token; start = spot.start; pos = spot.pos }
 
-token_read : (spot : Spot) (bytes : List ℕ) (n : ℕ) → 0 < length bytes → 0 < n → Ok (Token n) ≡ first_part spot bytes → read_from 0 spot bytes ≡ add (token_at spot (take n bytes)) (read_from 0 (spot_after spot (take n bytes) (depth_after spot.depth (get_or bytes 0 0))) (drop n bytes))
+pub token_read : (spot : Spot) (bytes : List ℕ) (n : ℕ) → 0 < length bytes → 0 < n → Ok (Token n) ≡ first_part spot bytes → read_from 0 spot bytes ≡ add (token_at spot (take n bytes)) (read_from 0 (spot_after spot (take n bytes) (depth_after spot.depth (get_or bytes 0 0))) (drop n bytes))
 token_read spot [] n nonempty some part = absurd (omega arith)
 token_read spot (b ∷ bytes) n nonempty some part =
     ap (λ p. part_reading spot (b ∷ bytes) p (λ k after. read_from k after bytes)) (sym part)
     ∙ ap (add (token_at spot (take n (b ∷ bytes)))) (passed_one_less n (spot_after spot (take n (b ∷ bytes)) (depth_after spot.depth b)) b bytes some)
 
-refused_read : (spot : Spot) (bytes : List ℕ) (e : LexError) → 0 < length bytes → Err e ≡ first_part spot bytes → read_from 0 spot bytes ≡ Refused e
+pub refused_read : (spot : Spot) (bytes : List ℕ) (e : LexError) → 0 < length bytes → Err e ≡ first_part spot bytes → read_from 0 spot bytes ≡ Refused e
 refused_read spot [] e nonempty part = absurd (omega arith)
 refused_read spot (b ∷ bytes) e nonempty part =
     ap (λ p. part_reading spot (b ∷ bytes) p (λ k after. read_from k after bytes)) (sym part)

@@ -41,6 +41,7 @@ is_single b = list_any (λ c. c == b) (codes "{}()[];:,=<>+-*/%!")
 abbrev pub is_pair : ℕ → ℕ → Bool
 is_pair a b = (b == 61 && list_any (λ c. c == a) (codes "=!<>")) || (b == a && list_any (λ c. c == a) (codes "&|."))
 
+-- a symbol, of one byte or of two
 abbrev pub is_symbol : List ℕ → Bool
 is_symbol [] = false
 is_symbol (a ∷ []) = is_single a

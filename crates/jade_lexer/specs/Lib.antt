@@ -1,3 +1,4 @@
 pub mod Alphabet
+pub mod Cut
 pub mod Lexemes
 pub mod Reading

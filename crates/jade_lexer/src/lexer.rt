@@ -24,6 +24,13 @@ struct Spot {
     depth: u32,
 }
 
+/// Where every text begins.
+const FIRST_SPOT: Spot = Spot {
+    start: 0,
+    pos: Pos { line: 1, column: 1 },
+    depth: 0,
+};
+
 /// What stands first at a spot, and its length in bytes: what means nothing, or a token.
 #[derive(Clone, Copy, Debug)]
 enum Part {
@@ -158,11 +165,7 @@ pub fn tokens<'t>(alloc: Global, text: &'t [u8]) -> Result<Tokens<'t>, LexError>
     ensures refused { IfErr result (IsRefusal (reading text.now)) }
 {
     let mut items = Vec::new(alloc);
-    let mut spot = Spot {
-        start: 0,
-        pos: Pos { line: 1, column: 1 },
-        depth: 0,
-    };
+    let mut spot = FIRST_SPOT;
     let mut rest = text;
     'parts: while !rest.is_empty() {
         match first_part(spot, rest) {
@@ -192,4 +195,88 @@ pub fn tokens<'t>(alloc: Global, text: &'t [u8]) -> Result<Tokens<'t>, LexError>
         items,
         end: spot.pos,
     })
+}
+
+#[cfg(test)]
+mod tests {
+    use super::*;
+
+    /// What is refused of a short text, or nothing.
+    fn refusal(alloc: Global, text: &[u8]) -> Option<LexError>
+        requires { length text.now ≤ 1048576 }
+    {
+        match tokens(alloc, text) {
+            Ok(_) => None,
+            Err(error) => Some(error),
+        }
+    }
+
+    #[test]
+    fn the_first_refused_place(rt: HostRuntime) {
+        let at = |line, column| Pos { line, column };
+        let word = b"word_of_64_bytes_word_of_64_bytes_word_of_64_bytes_word_of_64_by";
+        let longer = b"  word_of_64_bytes_word_of_64_bytes_word_of_64_bytes_word_of_64_byt";
+        let deep =
+            b"main { int a = (((((((((((((((((((((((((((((((((((((((((((((((((((((((((((((((( ";
+        let table: [(&[u8], Option<LexError>); 17] = [
+            (b"main { # }", Some(LexError::Byte(at(1, 8)))),
+            (b"main { . }", Some(LexError::Byte(at(1, 8)))),
+            (b"\r\n\t& &&", Some(LexError::Byte(at(2, 2)))),
+            (b"// \xff #\n\xff", Some(LexError::Byte(at(2, 1)))),
+            (b"a...", Some(LexError::Byte(at(1, 4)))),
+            (word, None),
+            (longer, Some(LexError::Byte(at(1, 67)))),
+            (
+                b"main { int a = 9223372036854775808; }",
+                Some(LexError::Number(at(1, 16))),
+            ),
+            (b"main { int a = 9223372036854775807; }", None),
+            (b"main { int a = 007; }", Some(LexError::Number(at(1, 16)))),
+            (b"main { int a = 0; }", None),
+            (b"\n\n 7_", Some(LexError::Number(at(3, 2)))),
+            (
+                b"99999999999999999999999999999999999",
+                Some(LexError::Number(at(1, 1))),
+            ),
+            (deep, Some(LexError::Deep(at(1, 79)))),
+            (b")))]}", None),
+            (b"/", None),
+            (b"", None),
+        ];
+        for (text, wanted) in table {
+            assert!(rt; text.len() < 1000);
+            assert_eq!(rt; refusal(rt.alloc(), text), wanted);
+        }
+    }
+
+    #[test]
+    fn the_longest_tokens(rt: HostRuntime) {
+        let text = b"a1..2<=_b// = \r\n\t>=<(//";
+        let wanted: [(&[u8], usize, u32, u32); 8] = [
+            (b"a1", 0, 1, 1),
+            (b"..", 2, 1, 3),
+            (b"2", 4, 1, 5),
+            (b"<=", 5, 1, 6),
+            (b"_b", 7, 1, 8),
+            (b">=", 17, 2, 2),
+            (b"<", 19, 2, 4),
+            (b"(", 20, 2, 5),
+        ];
+        let found = tokens(rt.alloc(), text).expect(&rt, "memory");
+        assert_eq!(rt; found.len(), wanted.len());
+        for (place, (bytes, start, line, column)) in wanted.iter().enumerate() {
+            assert!(rt; place < found.len());
+            let lexeme = found.at(place);
+            assert_eq!(rt; lexeme.text, *bytes);
+            assert_eq!(rt; lexeme.start, *start);
+            assert_eq!(rt;
+                lexeme.pos,
+                Pos {
+                    line: *line,
+                    column: *column
+                }
+            );
+        }
+        assert_eq!(rt; found.end(), Pos { line: 2, column: 8 });
+    }
 }

@@ -2,6 +2,7 @@
 #![tactic(auto)]
 
 mod alphabet;
+pub mod laws;
 pub mod lexeme;
 pub mod lexer;
 
