@@ -1,13 +1,11 @@
 -- At most one small program is read from a text.
-use Rattle.std.proofs.Common.{◌≡◌, ℕ, ◌+◌, ◌<◌, ◌≤◌, Bool, true, false, List, [], ◌∷◌, ◌++◌, length, Option, Some, None, slice_get, refl, ap, sym, ◌∙◌, subst, arith, codes, ℤ}
+use Rattle.std.proofs.Common.{◌≡◌, ℕ, ◌+◌, true, false, List, ◌++◌, length, Option, Some, None, slice_get, refl, ap, sym, ◌∙◌, subst, codes}
 use Rattle.jade_base.specs.declared.place.Pos.{Pos}
 use Rattle.jade_lexer.specs.Lexemes.{TokenAt}
-use Rattle.jade_lexer.specs.Alphabet.{value_after}
-use Rattle.jade_lexer.specs.Reading.{reading, Whole}
 use Rattle.jade_syntax.specs.declared.tree.Number.{Number}
 use Rattle.jade_syntax.specs.Names.{is_name}
-use Rattle.jade_syntax.specs.Small.{Part, Word, Placed, Called, Figure, Fits, FitsAt, Stands, listed, SmallItem, SmallStore, SmallDeclare, SmallStatement, Stores, Makes, SmallProgram, item_parts, store_parts, declare_parts, statement_parts, closing, body_opening, main_opening, spelling, Reads}
-use Rattle.jade_syntax.proofs.Standing.{Alone, Apart, Parted, stands_split, same_end, listed_alone}
+use Rattle.jade_syntax.specs.Small.{Part, Word, Placed, Called, Figure, FitsAt, Stands, listed, SmallItem, SmallStore, SmallDeclare, SmallStatement, Stores, Makes, SmallProgram, item_parts, store_parts, declare_parts, statement_parts, closing, body_opening, main_opening, spelling, Reads}
+use Rattle.jade_syntax.proofs.Standing.{Alone, Apart, stands_split, same_end, listed_alone}
 
 -- one token is one name, one number, one place
 same_called : (o : Option TokenAt) (x y : List ℕ) (p q : Pos) → FitsAt (Called x p) o → FitsAt (Called y q) o → (x ≡ y) × (p ≡ q)

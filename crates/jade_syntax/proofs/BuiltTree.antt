@@ -1,5 +1,5 @@
 -- The tree of a small program is of the forms that can be run today.
-use Rattle.std.proofs.Common.{◌≡◌, ℕ, Bool, true, false, ◌&&◌, List, [], ◌∷◌, map, Option, Some, None, refl, ap, sym, ◌∙◌, subst}
+use Rattle.std.proofs.Common.{◌≡◌, Bool, true, false, ◌&&◌, List, [], ◌∷◌, map, None, refl, ap, ◌∙◌}
 use Rattle.std.specs.List.{list_all}
 use Rattle.jade_syntax.specs.declared.tree.CellRef.{roll-CellRef}
 use Rattle.jade_syntax.specs.declared.tree.DeclareWord.TheVariants.{Wr}
@@ -7,7 +7,7 @@ use Rattle.jade_syntax.specs.declared.tree.Statement.{Statement}
 use Rattle.jade_syntax.specs.Abstract as abstract
 use Rattle.jade_syntax.specs.Abstract.{Action, Actions, Name}
 use Rattle.jade_syntax.specs.Built.{is_single, is_plain_store, is_plain_wr, is_plain, is_built, each_action}
-use Rattle.jade_syntax.specs.Image.{action, block, program, expression, reference, Reference}
+use Rattle.jade_syntax.specs.Image.{action, block, program, expression, Reference}
 use Rattle.jade_syntax.specs.Small.{SmallItem, SmallStore, SmallDeclare, SmallStatement, SmallProgram, Stores, Makes, number_tree, item_tree, store_tree, declare_tree, statement_tree, tree_of}
 use Rattle.jade_syntax.proofs.Made.{number_made, cell_made, store_made, declare_made, withonly_made}
 

@@ -1,10 +1,10 @@
 -- A list that is being read.
-use Rattle.std.proofs.Common.{◌≡◌, ℕ, ◌+◌, ◌<◌, ◌≤◌, List, [], ◌∷◌, ◌++◌, length, map, refl, ap, sym, ◌∙◌, arith}
+use Rattle.std.proofs.Common.{◌≡◌, ℕ, ◌<◌, ◌≤◌, List, [], ◌∷◌, ◌++◌, length, map, refl, ap, sym, ◌∙◌, arith}
 use Rattle.std.proofs.lemmas.List.{map-append}
 use Rattle.jade_lexer.specs.Lexemes.{TokenAt}
 use Rattle.jade_syntax.specs.Small.{Part, Stands, listed}
 use Rattle.jade_syntax.specs.Parsing.{Read, Never}
-use Rattle.jade_syntax.proofs.Standing.{Alone, Apart, stands_within, stands_end, listed_more, listed_closed, listed_never}
+use Rattle.jade_syntax.proofs.Standing.{Alone, Apart, stands_within, listed_more, listed_closed, listed_never}
 
 -- from start up to a place stand some of a kind, which are made into ts
 pub record Going {X T : Type 0} (tree : X → T) (parts : X → List Part) (tokens : List TokenAt) (start : ℕ) (ts : List T) (at : ℕ) : Type 0 where

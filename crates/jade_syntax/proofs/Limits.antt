@@ -1,5 +1,5 @@
 -- What the limits of a program give, item by item.
-use Rattle.std.proofs.Common.{◌≡◌, ℕ, ◌+◌, ◌-◌, ◌<◌, ◌≤◌, Bool, true, false, ◌&&◌, List, [], ◌∷◌, ◌++◌, length, drop, sum, Some, zero, suc, refl, ap, sym, ◌∙◌, arith, add-one, add-zero, zero-add, drop-cons, length-append, length-drop, append_assoc, replicate, subst, ℤ, pos, negsuc}
+use Rattle.std.proofs.Common.{◌≡◌, ℕ, ◌+◌, ◌-◌, ◌<◌, ◌≤◌, Bool, true, false, ◌&&◌, List, [], ◌∷◌, ◌++◌, length, drop, sum, Some, zero, suc, refl, ap, sym, ◌∙◌, arith, add-one, add-zero, zero-add, drop-cons, length-append, append_assoc, replicate, subst}
 use Rattle.std.specs.List.{list_all, slice_get}
 use Rattle.std.proofs.lemmas.Bool.{leb-true}
 use Rattle.std.proofs.lemmas.Option.{slice_get_within, get_or_from_slice_get}
@@ -9,7 +9,7 @@ use Rattle.jade_syntax.specs.declared.tree.Number.{Number}
 use Rattle.jade_syntax.specs.declared.tree.Item.{Item}
 use Rattle.jade_syntax.specs.declared.tree.Item.TheVariants.{Input, Single, Family}
 use Rattle.jade_syntax.specs.Objects.{input_names, sizes, labels, amount, Label, member_labels, IsPlace}
-use Rattle.jade_syntax.specs.Faultless.{is_within, within_limits, is_amount}
+use Rattle.jade_syntax.specs.Faultless.{is_within, within_limits}
 
 -- the items from a place on are the one there and those after it
 pub drop_item : {A : Type 0} (xs : List A) (i : ℕ) (x : A) → slice_get xs i ≡ Some x → drop i xs ≡ x ∷ drop (i + 1) xs

@@ -1,18 +1,17 @@
 -- The abstract syntax of trees, opened one level.
-use Rattle.std.proofs.Common.{◌≡◌, ℕ, Bool, true, false, ◌&&◌, List, [], ◌∷◌, ◌++◌, map, Option, Some, None, refl, ap, sym, ◌∙◌}
-use Rattle.std.specs.List.{list_all}
+use Rattle.std.proofs.Common.{◌≡◌, ℕ, List, [], map, Some, None, refl, ap, ◌∙◌}
 use Rattle.jade_base.specs.declared.place.Pos.{Pos}
 use Rattle.jade_syntax.specs.declared.tree.Number.{Number}
 use Rattle.jade_syntax.specs.declared.tree.Named.{Named}
 use Rattle.jade_syntax.specs.declared.tree.ObjectRef.{ObjectRef}
 use Rattle.jade_syntax.specs.declared.tree.DeclareWord.{DeclareWord}
 use Rattle.jade_syntax.specs.declared.tree.ValueKind.{ValueKind}
-use Rattle.jade_syntax.specs.declared.tree.Atom.{Atom, fold_out-Atom}
+use Rattle.jade_syntax.specs.declared.tree.Atom.{fold_out-Atom}
 use Rattle.jade_syntax.specs.declared.tree.Atom.TheVariants as atom
 use Rattle.jade_syntax.specs.declared.tree.AndExpr.{AndExpr, roll-AndExpr, fold-roll-AndExpr}
-use Rattle.jade_syntax.specs.declared.tree.CellRef.{CellRef, out-CellRef, roll-CellRef, fold-roll-CellRef, fold_out-CellRef}
+use Rattle.jade_syntax.specs.declared.tree.CellRef.{CellRef, roll-CellRef, fold-roll-CellRef}
 use Rattle.jade_syntax.specs.declared.tree.Compare.{Compare, roll-Compare, fold-roll-Compare}
-use Rattle.jade_syntax.specs.declared.tree.Expr.{Expr, roll-Expr, fold-roll-Expr}
+use Rattle.jade_syntax.specs.declared.tree.Expr.{Expr, fold-roll-Expr}
 use Rattle.jade_syntax.specs.declared.tree.Product.{Product, roll-Product, fold-roll-Product}
 use Rattle.jade_syntax.specs.declared.tree.Sum.{Sum, roll-Sum, fold-roll-Sum}
 use Rattle.jade_syntax.specs.declared.tree.Unary.{Unary, roll-Unary, fold-roll-Unary}
@@ -21,7 +20,7 @@ use Rattle.jade_syntax.specs.declared.tree.Statement.TheOpen.{Statement-F}
 use Rattle.jade_syntax.specs.declared.tree.Statement.TheVariants.{Local, Assign, Store, If, For, Withonly, With, Declare, outs-Local, outs-Assign, outs-Store, outs-If, outs-For, outs-Withonly, outs-With, outs-Declare}
 use Rattle.jade_syntax.specs.Abstract as abstract
 use Rattle.jade_syntax.specs.Abstract.{Expression, Action, Place}
-use Rattle.jade_syntax.specs.Image.{Reference, at_atom, at_and, at_cell, at_compare, at_expr, at_product, at_sum, at_unary, expression, and_expression, compare_expression, sum_expression, product_expression, unary_expression, atom_expression, reference, at_statement, action, block, object, branched, placed}
+use Rattle.jade_syntax.specs.Image.{Reference, at_atom, at_and, at_cell, at_compare, at_expr, at_product, at_sum, at_unary, expression, and_expression, compare_expression, sum_expression, product_expression, unary_expression, atom_expression, reference, at_statement, action, block, object}
 use Rattle.jade_syntax.specs.Small.{number_tree}
 
 number_atom : (n : Number) → atom_expression (atom.Whole n) ≡ abstract.Whole n.value

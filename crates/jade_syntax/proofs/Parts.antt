@@ -1,21 +1,18 @@
 -- What the tests of tokens say of parts.
-use Rattle.std.proofs.Common.{◌≡◌, ℕ, ◌+◌, ◌<◌, ◌≤◌, Bool, true, false, ◌&&◌, List, [], ◌∷◌, ◌++◌, length, Option, Some, None, slice_get, codes, refl, ap, sym, ◌∙◌, subst, arith, map}
+use Rattle.std.proofs.Common.{◌≡◌, ℕ, ◌+◌, ◌<◌, ◌≤◌, Bool, true, false, ◌&&◌, List, length, Option, Some, None, slice_get, codes, refl, ap, sym, ◌∙◌, subst, arith}
 use Rattle.jade_base.specs.declared.place.Pos.{Pos}
 use Rattle.jade_lexer.specs.Lexemes.{TokenAt}
 use Rattle.jade_syntax.specs.declared.tree.Number.{Number}
-use Rattle.jade_syntax.specs.declared.tree.Item.{Item}
 use Rattle.jade_syntax.specs.declared.tree.CellRef.{roll-CellRef}
 use Rattle.jade_syntax.specs.declared.tree.Expr.{Expr}
-use Rattle.jade_syntax.specs.declared.tree.Statement.{Statement}
 use Rattle.jade_syntax.specs.declared.tree.Statement.TheVariants as statement
 use Rattle.jade_syntax.specs.declared.tree.Item.TheVariants as item
 use Rattle.jade_syntax.specs.declared.tree.DeclareWord.TheVariants.{Wr}
-use Rattle.jade_syntax.specs.Numbering.{same_name}
 use Rattle.jade_syntax.specs.Names.{is_name}
-use Rattle.jade_syntax.specs.Small.{Part, Word, Placed, Called, Figure, Fits, FitsAt, Stands, listed, SmallItem, SmallStore, SmallDeclare, SmallStatement, Stores, Makes, item_parts, store_parts, declare_parts, statement_parts, closing, body_opening, main_opening, is_figure, number_tree, item_tree, store_tree, declare_tree, statement_tree}
-use Rattle.jade_syntax.specs.Parsing.{Never, Read, word_at, name_at, figure_at, bytes_at, place_at, item_shape, store_shape, declare_shape, main_shape, makes_shape, body_shape}
+use Rattle.jade_syntax.specs.Small.{Part, Word, Placed, Called, Figure, FitsAt, Stands, SmallItem, SmallStore, SmallDeclare, item_parts, store_parts, declare_parts, closing, body_opening, main_opening, number_tree, item_tree, store_tree, declare_tree}
+use Rattle.jade_syntax.specs.Parsing.{Never, Read, word_at, name_at, figure_at, bytes_at, place_at, item_shape, store_shape, declare_shape, main_shape, body_shape}
 use Rattle.jade_syntax.proofs.Limits.{both}
-use Rattle.jade_syntax.proofs.Standing.{stands_within, fits_within}
+use Rattle.jade_syntax.proofs.Standing.{fits_within}
 use Rattle.jade_syntax.proofs.Same.{same_from, same_to}
 
 pub fits_word : (o : Option TokenAt) (w : List ℕ) → word_at w o ≡ true → FitsAt (Word w) o

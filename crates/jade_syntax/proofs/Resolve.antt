@@ -1,29 +1,25 @@
 -- Steps of looking up the names of a program.
-use Rattle.std.proofs.Common.{◌≡◌, ◌≢◌, ℕ, zero, suc, ◌+◌, ◌*◌, ◌<◌, ◌≤◌, Bool, true, false, not, ◌&&◌, ◌||◌, List, [], ◌∷◌, ◌++◌, length, map, drop, sum, Option, Some, None, slice_get, refl, ap, sym, ◌∙◌, subst, arith, if◌then◌else◌, append_assoc, append-nil, add-one, ℤ, pos, negsuc}
-use Rattle.std.specs.List.{list_all, list_any}
+use Rattle.std.proofs.Common.{◌≡◌, ℕ, zero, suc, ◌+◌, ◌<◌, ◌≤◌, Bool, true, false, not, ◌&&◌, ◌||◌, List, [], ◌∷◌, ◌++◌, length, map, drop, sum, Some, slice_get, refl, ap, sym, ◌∙◌, subst, arith, if◌then◌else◌, append_assoc, append-nil, add-one}
+use Rattle.std.specs.List.{list_all}
 use Rattle.std.proofs.lemmas.List.{drop_all, map-append}
-use Rattle.std.proofs.lemmas.Option.{slice_get_within}
-use Rattle.std.proofs.lemmas.Bool.{leb-true, le-leb, lt-leb}
+use Rattle.std.proofs.lemmas.Bool.{le-leb, lt-leb}
 use Rattle.std.proofs.Math.Dec.{leb}
 use Rattle.std.proofs.lemmas.List.Sums.{sum_by-cons}
-use Rattle.jade_base.specs.declared.place.ObjectId.{ObjectId}
-use Rattle.jade_base.specs.declared.place.Pos.{Pos}
 use Rattle.jade_syntax.specs.declared.stands.Stand.{Stand}
 use Rattle.jade_syntax.specs.declared.stands.Stand.TheVariants as stand
-use Rattle.jade_syntax.specs.declared.tree.Number.{Number}
 use Rattle.jade_syntax.specs.declared.tree.Item.{Item}
 use Rattle.jade_syntax.specs.declared.tree.Item.TheVariants as item
 use Rattle.jade_syntax.specs.declared.tree.Program.{Program}
 use Rattle.jade_syntax.specs.declared.tree.Statement.{Statement}
-use Rattle.jade_syntax.specs.Abstract.{Name, Action, Actions, Done, Then}
-use Rattle.jade_syntax.specs.Built.{is_single, is_built, is_plain, is_plain_store, is_plain_wr, each_action}
-use Rattle.jade_syntax.specs.Faultless.{is_within, within_limits, is_amount, occurs, are_distinct, item_names, names_used, all_names_used, is_faultless}
+use Rattle.jade_syntax.specs.Abstract.{Name, Action}
+use Rattle.jade_syntax.specs.Built.{is_single, is_built, each_action}
+use Rattle.jade_syntax.specs.Faultless.{is_within, within_limits, occurs, are_distinct, item_names, names_used, is_faultless}
 use Rattle.jade_syntax.specs.Image.{action, block, program}
 use Rattle.jade_syntax.specs.Numbering.{Meant, same_name, stand_of, items_from, declared, stands_alone}
 use Rattle.jade_syntax.specs.Objects.{amount, input_names, sizes}
-use Rattle.jade_syntax.specs.Resolving.{name_of, is_leaf, used, Resolved, IsFound, IsSize, IsNumbered}
+use Rattle.jade_syntax.specs.Resolving.{name_of, used, Resolved, IsFound, IsNumbered}
 use Rattle.jade_syntax.proofs.Limits.{drop_item, both, sizes_first, limits}
-use Rattle.jade_syntax.proofs.Tasks.{plains_add, Adds}
+use Rattle.jade_syntax.proofs.Tasks.{plains_add}
 
 -- names that are looked up one after another
 pub resolved_none : (items : List Item) (old : List Stand) → Resolved items [] old old true

@@ -1,5 +1,5 @@
 -- Equal names are the same bytes.
-use Rattle.std.proofs.Common.{◌≡◌, ℕ, Bool, true, List, rules}
+use Rattle.std.proofs.Common.{◌≡◌, ℕ, true, List, rules}
 use Rattle.std.proofs.lemmas.Slice.Eq.{compares_Decides, IsBytesEq}
 use Rattle.jade_syntax.specs.Numbering.{same_name}
 

@@ -1,9 +1,9 @@
 -- Parts one after another among the tokens of a text.
-use Rattle.std.proofs.Common.{◌≡◌, ℕ, ◌+◌, ◌<◌, ◌≤◌, List, [], ◌∷◌, ◌++◌, length, Option, Some, None, slice_get, refl, ap, sym, ◌∙◌, subst, arith, append_assoc}
+use Rattle.std.proofs.Common.{◌≡◌, ℕ, ◌+◌, ◌<◌, ◌≤◌, List, [], ◌∷◌, ◌++◌, length, Option, Some, None, slice_get, refl, ap, sym, ◌∙◌, subst, arith}
 use Rattle.std.proofs.lemmas.Option.{slice_get_within}
 use Rattle.jade_lexer.specs.Lexemes.{TokenAt}
 use Rattle.jade_syntax.specs.Parsing.{Never}
-use Rattle.jade_syntax.specs.Small.{Part, Word, Placed, Called, Figure, FitsAt, Stands, listed}
+use Rattle.jade_syntax.specs.Small.{Part, FitsAt, Stands, listed}
 
 -- where a part fits there is a token
 pub fits_within : (tokens : List TokenAt) (p : Part) (a : ℕ) → FitsAt p (slice_get tokens a) → a < length tokens

@@ -1,19 +1,18 @@
 -- Steps of reading a small program.
-use Rattle.std.proofs.Common.{◌≡◌, ℕ, ◌+◌, ◌<◌, ◌≤◌, Bool, true, false, ◌&&◌, List, [], ◌∷◌, ◌++◌, length, map, Option, Some, None, slice_get, codes, refl, ap, sym, ◌∙◌, subst, arith}
+use Rattle.std.proofs.Common.{◌≡◌, ℕ, ◌+◌, ◌<◌, ◌≤◌, Bool, true, false, ◌&&◌, List, [], ◌∷◌, ◌++◌, length, map, slice_get, codes, refl, ap, sym, ◌∙◌, subst, arith}
 use Rattle.jade_base.specs.declared.place.Pos.{Pos}
 use Rattle.jade_lexer.specs.Lexemes.{TokenAt}
 use Rattle.jade_syntax.specs.declared.small.parse.Stop.{Stop}
 use Rattle.jade_syntax.specs.declared.small.parse.Stop.TheVariants.{Refused, Memory}
 use Rattle.jade_syntax.specs.declared.tree.Item.{Item}
-use Rattle.jade_syntax.specs.declared.tree.Program.{Program}
 use Rattle.jade_syntax.specs.declared.tree.Statement.{Statement}
 use Rattle.jade_syntax.specs.declared.tree.Statement.TheVariants as statement
-use Rattle.jade_syntax.specs.Small.{Part, Word, Placed, Called, FitsAt, Stands, listed, SmallItem, SmallStore, SmallDeclare, SmallStatement, SmallProgram, Stores, Makes, item_parts, store_parts, declare_parts, statement_parts, closing, body_opening, main_opening, item_tree, store_tree, declare_tree, statement_tree, spelling, tree_of}
+use Rattle.jade_syntax.specs.Small.{Part, Word, Stands, listed, SmallStore, SmallDeclare, SmallStatement, Stores, Makes, item_parts, store_parts, declare_parts, statement_parts, closing, body_opening, main_opening, item_tree, store_tree, declare_tree, statement_tree}
 use Rattle.jade_syntax.specs.Parsing.{Never, Read, ReadWhole, NeverWhole, IsStop, word_at, place_at, makes_shape}
 use Rattle.jade_syntax.proofs.Limits.{both}
 use Rattle.jade_syntax.proofs.Alone.{name_apart, section_alone, items_alone}
-use Rattle.jade_syntax.proofs.Standing.{Alone, Parted, stands_split, stands_join, same_end, stands_within, stands_end}
-use Rattle.jade_syntax.proofs.Parts.{fits_word, fits_placed, placed_fits, word_fits, placed_as}
+use Rattle.jade_syntax.proofs.Standing.{Alone, stands_split, stands_join, same_end, stands_within}
+use Rattle.jade_syntax.proofs.Parts.{fits_word, placed_fits, word_fits, placed_as}
 
 -- what follows from a refusal
 pub stop_then : (P Q : Type 0) (s : Stop) → (P → Q) → IsStop P s → IsStop Q s

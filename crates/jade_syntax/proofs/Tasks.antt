@@ -1,19 +1,17 @@
 -- What the actions of a program that can be run today are to its names.
-use Rattle.std.proofs.Common.{◌≡◌, ℕ, Bool, true, false, ◌&&◌, ◌||◌, List, [], ◌∷◌, ◌++◌, map, length, refl, ap, sym, ◌∙◌, subst, append_assoc}
-use Rattle.std.specs.List.{list_all}
+use Rattle.std.proofs.Common.{◌≡◌, ℕ, Bool, true, false, ◌&&◌, ◌||◌, List, [], ◌∷◌, ◌++◌, map, refl, ap, sym, ◌∙◌, subst, append_assoc}
 use Rattle.jade_base.specs.declared.place.Pos.{Pos}
 use Rattle.std.proofs.lemmas.List.{map-append}
 use Rattle.jade_syntax.specs.declared.stands.Stand.{Stand}
-use Rattle.jade_syntax.specs.declared.tree.DeclareWord.{DeclareWord}
 use Rattle.jade_syntax.specs.declared.tree.Named.{Named}
 use Rattle.jade_syntax.specs.declared.tree.Statement.{Statement}
 use Rattle.jade_syntax.specs.declared.tree.Statement.TheVariants as statement
 use Rattle.jade_syntax.specs.Abstract.{Name, Expression, Whole, Truth, Variable, Group, Signed, Chain, Cell, Place, Alone, Member, Action, Local, Assign, Store, If, IfElse, For, Withonly, With, Declare, Actions, Done, Then}
-use Rattle.jade_syntax.specs.Built.{is_number, is_alone, is_wr, is_plain_store, is_plain_wr, is_plain, each_action, is_empty_list}
+use Rattle.jade_syntax.specs.Built.{is_number, is_alone, is_plain_store, is_plain_wr, is_plain, each_action}
 use Rattle.jade_syntax.specs.Faultless.{place_name, names_used, all_names_used}
 use Rattle.jade_syntax.specs.Image.{action, block}
-use Rattle.jade_syntax.specs.Numbering.{Scope, stand_of, expression_stands, place_stands, Numbered, numbered, numbered_all, parameters, name_stands}
-use Rattle.jade_syntax.specs.Resolving.{is_leaf, used, IsTask}
+use Rattle.jade_syntax.specs.Numbering.{Scope, stand_of, expression_stands, place_stands, Numbered, numbered, numbered_all}
+use Rattle.jade_syntax.specs.Resolving.{is_leaf, IsTask}
 use Rattle.jade_syntax.proofs.Limits.{both}
 use Rattle.jade_syntax.proofs.Made.{withonly_made}
 

@@ -1,8 +1,8 @@
 -- What a text is, from what its tokens are.
-use Rattle.std.proofs.Common.{◌≡◌, ℕ, ◌≤◌, true, false, List, length, refl, ap, sym, ◌∙◌, subst, arith}
+use Rattle.std.proofs.Common.{◌≡◌, ℕ, true, false, List, length, ap, sym, ◌∙◌, subst}
 use Rattle.jade_lexer.specs.declared.lexeme.LexError.{LexError}
 use Rattle.jade_lexer.specs.Lexemes.{TokenList}
-use Rattle.jade_lexer.specs.Reading.{Reading, Whole, Refused, reading}
+use Rattle.jade_lexer.specs.Reading.{Whole, Refused, reading}
 use Rattle.jade_syntax.specs.declared.tree.Program.{Program}
 use Rattle.jade_syntax.specs.declared.stands.Stand.{Stand}
 use Rattle.jade_syntax.specs.Built.{is_built}
@@ -11,7 +11,7 @@ use Rattle.jade_syntax.specs.Faultless.{is_faultless}
 use Rattle.jade_syntax.specs.Image.{program}
 use Rattle.jade_syntax.specs.Parsing.{ReadWhole, NeverWhole}
 use Rattle.jade_syntax.specs.Resolving.{IsNumbered}
-use Rattle.jade_syntax.specs.Small.{SmallProgram, Stands, spelling, tree_of, Reads, IsUnbuilt, IsRead}
+use Rattle.jade_syntax.specs.Small.{Stands, spelling, tree_of, Reads, IsUnbuilt, IsRead}
 use Rattle.jade_syntax.proofs.Alone.{reads_one}
 use Rattle.jade_syntax.proofs.BuiltTree.{small_built}
 

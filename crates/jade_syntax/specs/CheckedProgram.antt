@@ -1,5 +1,5 @@
 -- A program with what its names stand for.
-use Rattle.std.specs.Prelude.{◌≡◌, Bool, true, false, ◌&&◌, List, IsTrue}
+use Rattle.std.specs.Prelude.{◌≡◌, true, List}
 use Rattle.jade_syntax.specs.declared.tree.Program.{Program}
 use Rattle.jade_syntax.specs.declared.stands.Stand.{Stand}
 use Rattle.jade_syntax.specs.Image.{program}

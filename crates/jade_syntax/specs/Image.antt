@@ -1,11 +1,7 @@
 -- The abstract syntax of a tree. A chain without links is its first operand.
-use Rattle.std.specs.Prelude.{ℕ, Bool, List, [], ◌∷◌, map, Option, Some, None}
+use Rattle.std.specs.Prelude.{ℕ, List, [], ◌∷◌, map, Option, Some, None}
 use Rattle.jade_base.specs.declared.place.Pos.{Pos}
-use Rattle.jade_syntax.specs.declared.tree.Number.{Number}
-use Rattle.jade_syntax.specs.declared.tree.Named.{Named}
 use Rattle.jade_syntax.specs.declared.tree.Relation.{Relation}
-use Rattle.jade_syntax.specs.declared.tree.SumOp.{SumOp}
-use Rattle.jade_syntax.specs.declared.tree.ProductOp.{ProductOp}
 use Rattle.jade_syntax.specs.declared.tree.UnaryOp.{UnaryOp}
 use Rattle.jade_syntax.specs.declared.tree.Atom.{Atom, fold-Atom}
 use Rattle.jade_syntax.specs.declared.tree.Atom.TheOpen.{Atom-F, AndExpr-F, CellRef-F, Compare-F, Expr-F, Product-F, Sum-F, Unary-F}

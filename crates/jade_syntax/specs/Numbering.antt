@@ -1,6 +1,5 @@
 -- What each name of a program stands for, in text order, declarations included.
 use Rattle.std.specs.Prelude.{ℕ, suc, ◌+◌, List, [], ◌∷◌, ◌++◌, length, nat_eq, Bool, true, false, ◌&&◌, if◌then◌else◌}
-use Rattle.jade_base.specs.declared.place.ObjectId.{ObjectId}
 use Rattle.jade_syntax.specs.declared.tree.Item.{Item}
 use Rattle.jade_syntax.specs.declared.tree.Item.TheVariants as item
 use Rattle.jade_syntax.specs.declared.stands.Stand.{Stand}

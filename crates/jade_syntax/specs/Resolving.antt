@@ -1,7 +1,6 @@
 -- What the functions that look up the names of a program say.
-use Rattle.std.specs.Prelude.{◌≡◌, ◌≤◌, ℕ, Bool, true, false, ◌||◌, List, [], ◌∷◌, ◌++◌, map, Option, Some, None}
+use Rattle.std.specs.Prelude.{◌≡◌, ◌≤◌, ℕ, Bool, true, false, ◌||◌, List, [], ◌∷◌, ◌++◌, map}
 use Rattle.std.specs.List.{list_all}
-use Rattle.jade_base.specs.declared.place.ObjectId.{ObjectId}
 use Rattle.jade_syntax.specs.declared.small.resolve.Kind.{Kind}
 use Rattle.jade_syntax.specs.declared.small.resolve.Kind.TheVariants.{Names, Task, Other}
 use Rattle.jade_syntax.specs.declared.stands.Stand.{Stand}

@@ -1,5 +1,5 @@
 -- The small programs, which can be run today: single objects are declared, and `main` stores numbers and makes tasks that declare `wr` and store numbers.
-use Rattle.std.specs.Prelude.{◌≡◌, ℕ, ◌+◌, Bool, true, false, not, ◌&&◌, ◌||◌, ◌==◌, nat_le, List, [], ◌∷◌, ◌++◌, length, map, codes, Option, Some, None, slice_get, ℤ, if◌then◌else◌}
+use Rattle.std.specs.Prelude.{◌≡◌, ℕ, ◌+◌, Bool, true, false, not, ◌&&◌, ◌==◌, nat_le, List, [], ◌∷◌, ◌++◌, length, map, codes, Option, Some, None, slice_get, ℤ, if◌then◌else◌}
 use Rattle.jade_base.specs.declared.place.Pos.{Pos}
 use Rattle.jade_lexer.specs.Alphabet.{is_separator, is_run, value_after}
 use Rattle.jade_lexer.specs.Lexemes.{TokenAt, TokenList}
@@ -8,15 +8,14 @@ use Rattle.jade_syntax.specs.declared.tree.Number.{Number}
 use Rattle.jade_syntax.specs.declared.tree.Item.{Item}
 use Rattle.jade_syntax.specs.declared.tree.Item.TheVariants as item
 use Rattle.jade_syntax.specs.declared.tree.DeclareWord.TheVariants.{Wr}
-use Rattle.jade_syntax.specs.declared.tree.Atom.{Atom}
 use Rattle.jade_syntax.specs.declared.tree.Atom.TheVariants as atom
-use Rattle.jade_syntax.specs.declared.tree.AndExpr.{AndExpr, roll-AndExpr}
-use Rattle.jade_syntax.specs.declared.tree.CellRef.{CellRef, roll-CellRef}
-use Rattle.jade_syntax.specs.declared.tree.Compare.{Compare, roll-Compare}
+use Rattle.jade_syntax.specs.declared.tree.AndExpr.{roll-AndExpr}
+use Rattle.jade_syntax.specs.declared.tree.CellRef.{roll-CellRef}
+use Rattle.jade_syntax.specs.declared.tree.Compare.{roll-Compare}
 use Rattle.jade_syntax.specs.declared.tree.Expr.{Expr, roll-Expr}
-use Rattle.jade_syntax.specs.declared.tree.Product.{Product, roll-Product}
-use Rattle.jade_syntax.specs.declared.tree.Sum.{Sum, roll-Sum}
-use Rattle.jade_syntax.specs.declared.tree.Unary.{Unary, roll-Unary}
+use Rattle.jade_syntax.specs.declared.tree.Product.{roll-Product}
+use Rattle.jade_syntax.specs.declared.tree.Sum.{roll-Sum}
+use Rattle.jade_syntax.specs.declared.tree.Unary.{roll-Unary}
 use Rattle.jade_syntax.specs.declared.tree.Statement.{Statement}
 use Rattle.jade_syntax.specs.declared.tree.Statement.TheVariants as statement
 use Rattle.jade_syntax.specs.declared.tree.Program.{Program}

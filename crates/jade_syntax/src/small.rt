@@ -77,6 +77,8 @@ pub fn at_most_one()
 #[cfg(test)]
 mod tests {
     use super::*;
+    use crate::name::{Name, NameError};
+    use jade_base::ObjectId;
 
     const CHILD: &[u8] = b"object s : 1; main { withonly { wr(s); } do () { s[0] = 7; } }";
 
@@ -109,6 +111,11 @@ mod tests {
                 assert_eq!(rt; checked.objects(), 1);
                 assert_eq!(rt; checked.stands().len(), 3);
                 assert_eq!(rt; checked.program().main.len(), 1);
+                if checked.objects() > 0 {
+                    assert_eq!(rt; checked.size(ObjectId(0)), 1);
+                    let (name, member) = checked.label(ObjectId(0));
+                    assert!(rt; name.bytes() == b"s".as_slice() && member.is_none());
+                }
             }
             Err(_) => panic!(rt; "refused a program"),
         }
@@ -120,6 +127,20 @@ mod tests {
         match read_small(rt.alloc(), b"main { }") {
             Ok(checked) => assert_eq!(rt; checked.objects(), 0),
             Err(_) => panic!(rt; "refused a program"),
+        }
+    }
+
+    #[test]
+    fn takes_names_alone(rt: HostRuntime) {
+        for bytes in [b"wr".as_slice(), b"1a".as_slice(), b"".as_slice()] {
+            match Name::of(rt.alloc(), bytes) {
+                Ok(_) => panic!(rt; "took no name"),
+                Err(error) => assert!(rt; error == NameError::Shape),
+            }
+        }
+        match Name::of(rt.alloc(), b"wr_1") {
+            Ok(name) => assert!(rt; name.bytes() == b"wr_1".as_slice()),
+            Err(_) => panic!(rt; "refused a name"),
         }
     }
 }

@@ -1,4 +1,4 @@
-use Rattle.std.proofs.Common.{◌≡◌, ◌+◌, length, drop, [], ◌∷◌, subst, sym, ℕ}
+use Rattle.std.proofs.Common.{length}
 use Rattle.jade_syntax.specs.Objects.{input_names}
 use Rattle.jade_syntax.proofs.Limits.{inputs_step}
 use Rattle.jade_syntax.proofs.objects.count_inputs.Goals as goal

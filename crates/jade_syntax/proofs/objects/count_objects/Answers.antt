@@ -1,4 +1,4 @@
-use Rattle.std.proofs.Common.{◌≡◌, ◌+◌, ◌≤◌, length, drop, [], ◌∷◌, arith}
+use Rattle.std.proofs.Common.{length, arith}
 use Rattle.jade_syntax.specs.Objects.{sizes}
 use Rattle.jade_syntax.proofs.Limits.{item_within, objects_step, limits}
 use Rattle.jade_syntax.proofs.objects.count_objects.Goals as goal

@@ -1,4 +1,3 @@
-use Rattle.std.proofs.Common.{◌≡◌, ◌<◌, ◌≤◌, length, [], ◌∷◌}
 use Rattle.jade_syntax.proofs.Limits.{family_label}
 use Rattle.jade_syntax.proofs.objects.label_in.Goals as goal
 

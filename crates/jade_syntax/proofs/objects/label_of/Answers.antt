@@ -1,4 +1,4 @@
-use Rattle.std.proofs.Common.{◌≡◌, ◌<◌, length, [], ◌∷◌}
+use Rattle.std.proofs.Common.{[], ◌∷◌}
 use Rattle.jade_syntax.proofs.Limits.{labels_counted}
 use Rattle.jade_syntax.proofs.objects.label_of.Goals as goal
 

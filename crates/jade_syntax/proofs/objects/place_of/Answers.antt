@@ -1,5 +1,4 @@
-use Rattle.std.proofs.Common.{◌≡◌, ◌+◌, ◌≤◌, length, drop, [], ◌∷◌, arith}
-use Rattle.jade_syntax.proofs.Limits.{item_within, left_more, left_here, left_nowhere}
+use Rattle.jade_syntax.proofs.Limits.{item_within, left_more, left_here}
 use Rattle.jade_syntax.proofs.objects.place_of.Goals as goal
 
 pub objects_in-count-requires : goal.objects_in-count-requires

@@ -1,4 +1,3 @@
-use Rattle.std.proofs.Common.{◌≡◌, ◌≤◌, length}
 use Rattle.jade_syntax.proofs.Whole.{whole_built, whole_checked, faulty_unbuilt}
 use Rattle.jade_syntax.proofs.small.read_tokens.Goals as goal
 

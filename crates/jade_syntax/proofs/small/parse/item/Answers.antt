@@ -1,6 +1,5 @@
-use Rattle.std.proofs.Common.{◌≡◌, ◌+◌, ◌<◌, ◌≤◌, true, false, length, map, codes, slice_get, sym, ◌∙◌, arith}
-use Rattle.jade_syntax.specs.Small.{Stands, listed, item_parts, store_parts, declare_parts, statement_parts, closing, body_opening, main_opening, item_tree, store_tree, declare_tree, statement_tree}
-use Rattle.jade_syntax.specs.Parsing.{Never, NeverWhole, item_shape, store_shape, declare_shape, main_shape, body_shape, makes_shape, word_at}
+use Rattle.std.proofs.Common.{◌≡◌, true, sym, ◌∙◌, arith}
+use Rattle.jade_syntax.specs.Parsing.{item_shape}
 use Rattle.jade_syntax.proofs.Parts.{item_read, item_size, item_within}
 use Rattle.jade_syntax.proofs.small.parse.item.Goals as goal
 

@@ -1,6 +1,6 @@
-use Rattle.std.proofs.Common.{◌≡◌, ◌+◌, ◌<◌, ◌≤◌, true, false, length, map, codes, slice_get, sym, ◌∙◌, arith}
-use Rattle.jade_syntax.specs.Small.{Stands, listed, item_parts, store_parts, declare_parts, statement_parts, closing, body_opening, main_opening, item_tree, store_tree, declare_tree, statement_tree}
-use Rattle.jade_syntax.specs.Parsing.{Never, NeverWhole, item_shape, store_shape, declare_shape, main_shape, body_shape, makes_shape, word_at}
+use Rattle.std.proofs.Common.{◌≡◌, true, false, sym, ◌∙◌, arith}
+use Rattle.jade_syntax.specs.Small.{listed, item_parts, main_opening, item_tree}
+use Rattle.jade_syntax.specs.Parsing.{Never, main_shape}
 use Rattle.jade_syntax.proofs.Alone.{item_alone, item_apart}
 use Rattle.jade_syntax.proofs.Going.{going_more, going_closed, going_never}
 use Rattle.jade_syntax.proofs.Parts.{no_main, main_stands}

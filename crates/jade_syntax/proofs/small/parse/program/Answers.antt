@@ -1,6 +1,6 @@
-use Rattle.std.proofs.Common.{◌≡◌, ◌+◌, ◌<◌, ◌≤◌, true, false, length, map, codes, slice_get, sym, ◌∙◌, arith}
-use Rattle.jade_syntax.specs.Small.{Stands, listed, item_parts, store_parts, declare_parts, statement_parts, closing, body_opening, main_opening, item_tree, store_tree, declare_tree, statement_tree}
-use Rattle.jade_syntax.specs.Parsing.{Never, NeverWhole, item_shape, store_shape, declare_shape, main_shape, body_shape, makes_shape, word_at}
+use Rattle.std.proofs.Common.{arith}
+use Rattle.jade_syntax.specs.Small.{listed, item_parts, statement_parts, closing, main_opening}
+use Rattle.jade_syntax.specs.Parsing.{Never, NeverWhole}
 use Rattle.jade_syntax.proofs.Alone.{main_alone}
 use Rattle.jade_syntax.proofs.Steps.{stop_then, whole_read, no_items, no_main, too_long}
 use Rattle.jade_syntax.proofs.small.parse.program.Goals as goal

@@ -1,6 +1,6 @@
-use Rattle.std.proofs.Common.{◌≡◌, ◌+◌, ◌<◌, ◌≤◌, true, false, length, map, codes, slice_get, sym, ◌∙◌, arith}
-use Rattle.jade_syntax.specs.Small.{Stands, listed, item_parts, store_parts, declare_parts, statement_parts, closing, body_opening, main_opening, item_tree, store_tree, declare_tree, statement_tree}
-use Rattle.jade_syntax.specs.Parsing.{Never, NeverWhole, item_shape, store_shape, declare_shape, main_shape, body_shape, makes_shape, word_at}
+use Rattle.std.proofs.Common.{◌≡◌, true, false, codes, slice_get, sym, ◌∙◌, arith}
+use Rattle.jade_syntax.specs.Small.{listed, statement_parts, closing, statement_tree}
+use Rattle.jade_syntax.specs.Parsing.{Never, word_at}
 use Rattle.jade_syntax.proofs.Alone.{statement_alone, statement_apart}
 use Rattle.jade_syntax.proofs.Going.{going_more, going_closed, going_never}
 use Rattle.jade_syntax.proofs.Parts.{no_closing, closing_stands}

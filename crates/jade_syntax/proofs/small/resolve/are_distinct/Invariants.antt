@@ -1,6 +1,5 @@
-use Rattle.std.proofs.Common.{◌≡◌, ◌+◌, ◌*◌, ◌≤◌, ◌++◌, drop, map, true, sum}
-use Rattle.std.specs.List.{list_all}
-use Rattle.jade_syntax.specs.Resolving.{name_of, is_leaf}
+use Rattle.std.proofs.Common.{◌≡◌, drop, map}
+use Rattle.jade_syntax.specs.Resolving.{name_of}
 use Rattle.jade_syntax.specs.Faultless.{are_distinct}
 use Rattle.jade_syntax.proofs.small.resolve.are_distinct.Given as goal
 

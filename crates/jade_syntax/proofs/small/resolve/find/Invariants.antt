@@ -1,6 +1,6 @@
-use Rattle.std.proofs.Common.{◌≡◌, ◌+◌, ◌*◌, ◌≤◌, ◌++◌, drop, map, true, sum}
+use Rattle.std.proofs.Common.{◌≡◌, drop, map, true}
 use Rattle.std.specs.List.{list_all}
-use Rattle.jade_syntax.specs.Resolving.{name_of, is_leaf}
+use Rattle.jade_syntax.specs.Resolving.{name_of}
 use Rattle.jade_syntax.specs.Built.{is_single}
 use Rattle.jade_syntax.specs.Faultless.{occurs}
 use Rattle.jade_syntax.specs.Numbering.{stand_of, items_from, declared}

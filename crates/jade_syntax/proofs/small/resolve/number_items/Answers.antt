@@ -1,9 +1,4 @@
-use Rattle.std.proofs.Common.{◌≡◌, ◌+◌, ◌*◌, ◌<◌, ◌≤◌, ◌&&◌, true, false, length, map, drop, sum, sym, ap, ◌∙◌, arith, [], ◌∷◌}
-use Rattle.std.specs.List.{list_all}
-use Rattle.jade_syntax.specs.Resolving.{name_of, used}
-use Rattle.jade_syntax.specs.Faultless.{occurs, are_distinct, within_limits, is_within}
-use Rattle.jade_syntax.specs.Numbering.{same_name}
-use Rattle.jade_syntax.specs.Objects.{sizes}
+use Rattle.std.proofs.Common.{◌<◌, length, arith}
 use Rattle.jade_syntax.proofs.Resolve.{number_more, singles_more}
 use Rattle.jade_syntax.proofs.small.resolve.number_items.Goals as goal
 

@@ -1,4 +1,4 @@
-use Rattle.std.proofs.Common.{◌≡◌, ◌+◌, ◌*◌, ◌≤◌, ◌++◌, drop, map, true, sum}
+use Rattle.std.proofs.Common.{◌≡◌, ◌++◌, drop, true}
 use Rattle.std.specs.List.{list_all}
 use Rattle.jade_syntax.specs.Built.{is_single}
 use Rattle.jade_syntax.specs.Numbering.{items_from, declared, stands_alone}

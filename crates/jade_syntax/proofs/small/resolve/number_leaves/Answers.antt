@@ -1,9 +1,6 @@
-use Rattle.std.proofs.Common.{◌≡◌, ◌+◌, ◌*◌, ◌<◌, ◌≤◌, ◌&&◌, true, false, length, map, drop, sum, sym, ap, ◌∙◌, arith, [], ◌∷◌}
-use Rattle.std.specs.List.{list_all}
+use Rattle.std.proofs.Common.{true, false, arith}
 use Rattle.jade_syntax.specs.Resolving.{is_leaf}
-use Rattle.jade_syntax.specs.Built.{is_plain}
-use Rattle.jade_syntax.specs.Faultless.{names_used, occurs, are_distinct, within_limits, is_within}
-use Rattle.jade_syntax.specs.Numbering.{same_name}
+use Rattle.jade_syntax.specs.Faultless.{names_used}
 use Rattle.jade_syntax.specs.Image.{action}
 use Rattle.jade_syntax.proofs.Resolve.{resolved_is, coming_more, coming_stop, coming_end, each_first}
 use Rattle.jade_syntax.proofs.small.resolve.number_leaves.Goals as goal

@@ -1,6 +1,5 @@
-use Rattle.std.proofs.Common.{◌≡◌, ◌+◌, ◌*◌, ◌≤◌, ◌++◌, drop, map, true, sum}
-use Rattle.std.specs.List.{list_all}
-use Rattle.jade_syntax.specs.Resolving.{name_of, is_leaf}
+use Rattle.std.proofs.Common.{◌≡◌, drop, true}
+use Rattle.jade_syntax.specs.Resolving.{is_leaf}
 use Rattle.jade_syntax.specs.Built.{each_action}
 use Rattle.jade_syntax.specs.Image.{block}
 use Rattle.jade_syntax.proofs.Resolve.{Coming}

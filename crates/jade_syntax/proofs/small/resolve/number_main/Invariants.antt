@@ -1,5 +1,4 @@
-use Rattle.std.proofs.Common.{◌≡◌, ◌+◌, ◌*◌, ◌≤◌, ◌++◌, drop, map, true, sum}
-use Rattle.std.specs.List.{list_all}
+use Rattle.std.proofs.Common.{◌≡◌, drop, true}
 use Rattle.jade_syntax.specs.Built.{is_plain, each_action}
 use Rattle.jade_syntax.specs.Image.{block}
 use Rattle.jade_syntax.proofs.Resolve.{Coming}

@@ -1,9 +1,6 @@
-use Rattle.std.proofs.Common.{◌≡◌, ◌+◌, ◌*◌, ◌<◌, ◌≤◌, ◌&&◌, true, false, length, map, drop, sum, sym, ap, ◌∙◌, arith, [], ◌∷◌}
-use Rattle.std.specs.List.{list_all}
-use Rattle.jade_syntax.specs.Resolving.{name_of, used}
-use Rattle.jade_syntax.specs.Faultless.{occurs, are_distinct, within_limits, is_within}
+use Rattle.std.proofs.Common.{◌≡◌, true, false, sym, ◌∙◌}
+use Rattle.jade_syntax.specs.Resolving.{name_of}
 use Rattle.jade_syntax.specs.Numbering.{same_name}
-use Rattle.jade_syntax.specs.Objects.{sizes}
 use Rattle.jade_syntax.proofs.Resolve.{occurs_here, occurs_later}
 use Rattle.jade_syntax.proofs.small.resolve.occurs_from.Goals as goal
 

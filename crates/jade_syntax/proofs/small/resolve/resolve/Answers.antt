@@ -1,5 +1,4 @@
-use Rattle.std.proofs.Common.{◌≡◌, ◌≤◌, ◌++◌, [], true, false, length, map, sym, ◌∙◌}
-use Rattle.jade_syntax.specs.Built.{is_single}
+use Rattle.std.proofs.Common.{◌≡◌, true, map, sym, ◌∙◌}
 use Rattle.jade_syntax.specs.Faultless.{within_limits, are_distinct}
 use Rattle.jade_syntax.specs.Resolving.{name_of, used}
 use Rattle.jade_syntax.proofs.Limits.{both}

@@ -1,9 +1,4 @@
-use Rattle.std.proofs.Common.{◌≡◌, ◌+◌, ◌*◌, ◌<◌, ◌≤◌, ◌&&◌, true, false, length, map, drop, sum, sym, ap, ◌∙◌, arith, [], ◌∷◌}
-use Rattle.std.specs.List.{list_all}
-use Rattle.jade_syntax.specs.Resolving.{name_of, used}
-use Rattle.jade_syntax.specs.Faultless.{occurs, are_distinct, within_limits, is_within}
-use Rattle.jade_syntax.specs.Numbering.{same_name}
-use Rattle.jade_syntax.specs.Objects.{sizes}
+use Rattle.std.proofs.Common.{sym, ◌∙◌, arith}
 use Rattle.jade_syntax.proofs.Resolve.{too_many, single_at, item_over, within_not, within_first, sizes_step, limits_end}
 use Rattle.jade_syntax.proofs.small.resolve.within_limits.Goals as goal
 

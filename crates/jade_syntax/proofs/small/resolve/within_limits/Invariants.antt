@@ -1,6 +1,5 @@
-use Rattle.std.proofs.Common.{◌≡◌, ◌+◌, ◌*◌, ◌≤◌, ◌++◌, drop, map, true, sum}
+use Rattle.std.proofs.Common.{◌≡◌, ◌+◌, ◌*◌, ◌≤◌, drop, sum}
 use Rattle.std.specs.List.{list_all}
-use Rattle.jade_syntax.specs.Built.{is_single}
 use Rattle.jade_syntax.specs.Faultless.{is_within}
 use Rattle.jade_syntax.specs.Objects.{sizes}
 use Rattle.jade_syntax.proofs.small.resolve.within_limits.Given as goal
