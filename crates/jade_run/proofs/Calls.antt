@@ -2,11 +2,11 @@
 use Rattle.std.proofs.Common.{◌≡◌, ℕ, zero, suc, ◌<◌, ◌≤◌, List, [], ◌∷◌, length, drop, Option, Some, None, refl, ap, sym, ◌∙◌, subst, arith}
 use Rattle.std.specs.Prelude.{codes}
 use Rattle.std.proofs.lemmas.List.{drop_all}
-use Rattle.jade_base.specs.Bytes.{WholeText, CutText, left_after}
+use Rattle.jade_base.specs.Bytes.{WholeText, CutText, left_after, taken_with}
 use Rattle.jade_run.specs.declared.status.Status.{Status}
-use Rattle.jade_run.specs.declared.status.Status.TheVariants.{Refused, Words}
-use Rattle.jade_run.specs.Headline.{Answers, most_read}
-use Rattle.jade_run.specs.Outcome.{IsAnswered, usage, too_long, run, unbuilt, answered, first_place, answer_status}
+use Rattle.jade_run.specs.declared.status.Status.TheVariants.{Good, Fault, Refused, Words, Numbers, Reading, Writing, Memory}
+use Rattle.jade_run.specs.Headline.{Answers, Headline, Moment, most_read}
+use Rattle.jade_run.specs.Outcome.{IsOutcome, IsAnswered, usage, too_long, run, unbuilt, answered, first_place, answer_status}
 use Rattle.jade_run.specs.Texts.{usage_text, refused_text}
 use Rattle.jade_run.specs.Words.{RunWords}
 use Rattle.jade_meaning.specs.Answer.{Answer, Faulted, Cells}
@@ -65,3 +65,46 @@ run_answers words before after w l bytes read text status named whole all h = re
       let within : length b ≤ 1048577 = subst (λ z. length z ≤ 1048577) same (omega (arith, whole.within)) in
       whole.none_left b e ∙ ap (λ z. Some z) (sym (drop_all 1048577 b within)) ∙ ap (λ n. Some (drop n b)) (sym (answered_read h));
 }
+
+-- the statuses with which an outcome is written
+Written : Status → Type 0
+Written Good = Unit {0}
+Written Fault = Unit {0}
+Written Refused = Unit {0}
+Written Words = Unit {0}
+Written Numbers = Unit {0}
+Written Reading = ⊥
+Written Writing = ⊥
+Written Memory = ⊥
+
+answer_written : (a : Answer) → Written (answer_status a)
+unfolding Written
+answer_written (Faulted p b) = tt
+answer_written (Cells store) = tt
+
+answered_written : (bytes : List ℕ) (limit : ℕ) (text : List ℕ) (status : Status) → IsAnswered bytes limit text status → Written status
+unfolding Written
+answered_written bytes limit text status (unbuilt never t s) = subst Written (sym s) tt
+answered_written bytes limit text status (answered tree reads good shows) = subst Written (sym shows.ended) (answer_written _)
+
+outcome_written : (words : List (List ℕ)) (bytes text : List ℕ) (status : Status) → IsOutcome words bytes text status → Written status
+unfolding Written
+outcome_written words bytes text status (usage never t s) = subst Written (sym s) tt
+outcome_written words bytes text status (too_long w l named more t s) = subst Written (sym s) tt
+outcome_written words bytes text status (run w l named within h) = answered_written _ _ _ _ h
+
+written_headline : (words : List (List ℕ)) (status : Status) (before after : Moment) (text : List ℕ) → Written status → Answers words before.left after.left text status → after.taken ≡ taken_with before.taken text → Headline words status before after
+unfolding Written
+written_headline words Good before after text h a w = record { text = text; answers = a; written = w }
+written_headline words Fault before after text h a w = record { text = text; answers = a; written = w }
+written_headline words Refused before after text h a w = record { text = text; answers = a; written = w }
+written_headline words Words before after text h a w = record { text = text; answers = a; written = w }
+written_headline words Numbers before after text h a w = record { text = text; answers = a; written = w }
+written_headline words Reading before after text h a w = absurd h
+written_headline words Writing before after text h a w = absurd h
+written_headline words Memory before after text h a w = absurd h
+
+-- an outcome that was written whole
+pub wrote_headline : (words : List (List ℕ)) (status : Status) (before after : Moment) (text : List ℕ) → Answers words before.left after.left text status → after.taken ≡ taken_with before.taken text → Headline words status before after
+wrote_headline words status before after text a w =
+    written_headline words status before after text (outcome_written _ _ _ _ a.comes.outcome) a w

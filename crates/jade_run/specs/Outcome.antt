@@ -13,7 +13,7 @@ use Rattle.jade_meaning.specs.Answer.{Answer, Faulted, Cells, answer}
 use Rattle.jade_run.specs.declared.status.Status.{Status}
 use Rattle.jade_run.specs.declared.status.Status.TheVariants.{Good, Fault, Refused, Words}
 use Rattle.jade_run.specs.Texts.{usage_text, refused_text, fault_text, objects_text}
-use Rattle.jade_run.specs.Words.{RunWords}
+use Rattle.jade_run.specs.Words.{RefusesWords, RunWords}
 
 -- the key of a fault note
 abbrev pub fault_key : FaultNote → List ℕ
@@ -44,7 +44,7 @@ pub data IsAnswered (bytes : List ℕ) (limit : ℕ) (text : List ℕ) (status :
 
 -- what words and a text come to; the words are tested first, then the length of the text, then the text
 pub data IsOutcome (words : List (List ℕ)) (bytes : List ℕ) (text : List ℕ) (status : Status) : Type 0 where
-  usage : ((workers limit : ℕ) → RunWords words workers limit → ⊥) → text ≡ usage_text → status ≡ Words → IsOutcome words bytes text status
+  usage : RefusesWords words → text ≡ usage_text → status ≡ Words → IsOutcome words bytes text status
   too_long : (workers limit : ℕ) → RunWords words workers limit → 1048576 < length bytes → text ≡ refused_text first_place (codes "text") → status ≡ Refused → IsOutcome words bytes text status
   run : (workers limit : ℕ) → RunWords words workers limit → length bytes ≤ 1048576 → IsAnswered bytes limit text status → IsOutcome words bytes text status
 

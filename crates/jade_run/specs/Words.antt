@@ -15,3 +15,7 @@ pub record RunWords (words : List (List ℕ)) (workers limit : ℕ) : Type 0 whe
   pub most_workers : workers ≤ 64
   pub some_limit : 1 ≤ limit
   pub most_limit : limit ≤ 4294967295
+
+-- the words are those of no command
+abbrev pub RefusesWords : List (List ℕ) → Type 0
+RefusesWords words = (workers limit : ℕ) → RunWords words workers limit → ⊥

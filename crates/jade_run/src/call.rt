@@ -1,8 +1,9 @@
 //! The top call.
 
-ghost use Rattle.std.specs.Prelude.{◌≡◌, IfOk, MatchResult, codes};
+ghost use Rattle.std.specs.Prelude.{◌≡◌, IfOk, IfErr, MatchResult, codes};
 ghost use Rattle.jade_run.specs.Headline.{Answers, Headline, Stops};
 ghost use Rattle.jade_run.specs.Outcome.{first_place};
+ghost use Rattle.jade_run.specs.Words.{RefusesWords};
 ghost use Rattle.jade_run.specs.Texts.{refused_text, usage_text};
 
 use crate::answer::{Answer, run_text};
@@ -29,7 +30,8 @@ pub fn jade_main<R, S: Source, K: Sink, G: Gate>(
     sink: &mut K,
     _gate: &G,
 ) -> Status
-    ensures { Headline words.now result
+    ensures unread { RefusesWords words.now → (source.new ≡ source.old) × (result ≡ Status.Reading → ⊥) }
+    ensures headline { Headline words.now result
         (record { left = S.left source.old; taken = K.taken sink.old; room = K.room sink.old; source_faults = S.faults source.old; sink_faults = K.faults sink.old })
         (record { left = S.left source.new; taken = K.taken sink.new; room = K.room sink.new; source_faults = S.faults source.new; sink_faults = K.faults sink.new }) }
 {
@@ -45,7 +47,8 @@ pub fn jade_main<R, S: Source, K: Sink, G: Gate>(
 /// What words and a source come to. The error is the status of a failed source, or of want of
 /// memory.
 fn answer<S: Source>(alloc: Global, words: &[Word], source: &mut S) -> Result<Answer, Status>
-    ensures { MatchResult result (λ a. Answers words.now (S.left source.old) (S.left source.new) a.text.items a.status) (λ s. Stops s (S.faults source.old) (S.faults source.new)) }
+    ensures unread { RefusesWords words.now → (source.new ≡ source.old) × IfErr result (λ s. s ≡ Status.Memory) }
+    ensures answer { MatchResult result (λ a. Answers words.now (S.left source.old) (S.left source.new) a.text.items a.status) (λ s. Stops s (S.faults source.old) (S.faults source.new)) }
 {
     let Some(command) = run_command(words) else {
         return match usage(alloc) {

@@ -2,7 +2,7 @@
 
 ghost use Rattle.std.specs.Prelude.{◌≡◌, ◌≢◌, ℕ, ◌<◌, ◌≤◌, ◌^◌, ◌↔◌, Some, IfSome, IfNone, IsTrue, MatchOption};
 ghost use Rattle.std.specs.Fmt.{decimal};
-ghost use Rattle.jade_run.specs.Words.{RunWords, SpellsAmount};
+ghost use Rattle.jade_run.specs.Words.{RefusesWords, RunWords, SpellsAmount};
 
 use itoa::Buffer;
 use jade_base::Word;
@@ -70,7 +70,7 @@ pub struct RunCommand {
 /// The command that the words spell; `None` exactly where they are not `run WORKERS LIMIT` with
 /// 1 to 64 workers and a limit of 1 to 4,294,967,295. It takes no memory.
 pub fn run_command(words: &[Word]) -> Option<RunCommand>
-    ensures { MatchOption result ((w l : ℕ) → ¬ (RunWords words.now w l)) (λ c. RunWords words.now c.workers c.limit) }
+    ensures { MatchOption result (RefusesWords words.now) (λ c. RunWords words.now c.workers c.limit) }
 {
     match words {
         [run, workers, limit] if is_text(run.bytes(), b"run") => {
