@@ -12,10 +12,14 @@ use Rattle.jade_base.specs.Rights.{no_rights, is_immediate, is_there}
 use Rattle.jade_syntax.specs.declared.tree.DeclareWord.{DeclareWord}
 use Rattle.jade_syntax.specs.declared.tree.DeclareWord.TheVariants.{Rd, Wr, RdWr, DfRd, DfWr, DfRdWr, NoRd, NoWr, NoRdWr}
 use Rattle.jade_syntax.specs.Abstract.{Name, Expression, Whole, Truth, Variable, Group, Signed, Chain, Cell, Links, Last, Link, Place, Alone, Member, Action, Local, Assign, Store, If, IfElse, For, Withonly, With, Declare, Actions, Done, Then, AbstractProgram}
-use Rattle.jade_meaning.specs.Values.{Value, IntOf, Given, Gives, Fails, operated, decides, signed, whole, holds, is_index, magnitude, turn_count}
+use Rattle.jade_meaning.specs.declared.values.Value.{Value}
+use Rattle.jade_meaning.specs.declared.values.Value.TheVariants.{IntOf}
+use Rattle.jade_meaning.specs.declared.found.Range.{Range}
+use Rattle.jade_meaning.specs.declared.found.Found.{Found}
+use Rattle.jade_meaning.specs.Values.{Given, Gives, Fails, operated, decides, signed, whole, holds, is_index, magnitude, turn_count}
 use Rattle.jade_meaning.specs.Specification.{Specification, rights_on, covers, fitted}
 use Rattle.jade_meaning.specs.Changes.{amended}
-use Rattle.jade_meaning.specs.Course.{Course, root_spec, root_course, Mine, On, Draft, NoDraft, Building, Amending, drafted, Setting, finish, choose, step, given, place_of, Found, member, Range, reach, read_cell, write_cell, bind, leave, scoped, turns, amend, declare, create, working, change, child_start, eval, eval_links, find, run, run_all, range_from, assigned, inputs}
+use Rattle.jade_meaning.specs.Course.{Course, root_spec, root_course, Mine, On, Draft, NoDraft, Building, Amending, drafted, Setting, finish, choose, step, given, place_of, member, reach, read_cell, write_cell, bind, leave, scoped, turns, amend, declare, create, working, change, child_start, eval, eval_links, find, run, run_all, range_from, assigned, inputs}
 use Rattle.jade_meaning.specs.Proper.{NoMore, Proper, proper_read, proper_write, proper_step, proper_create, proper_change, proper_end}
 
 -- one right of some rights
@@ -60,7 +64,8 @@ scoped_good body b on m h fit = b (λ n. on (leave m n)) (λ n f. h (leave m n) 
 turns_good : (limit n : ℕ) (i : ℤ) (x : Name) (body : On → On) → ((on : On) → Good on → Good (body on)) → (on : On) → Good on → Good (turns limit n i x body on)
 turns_good limit zero i x body b on h m fit = h m fit
 turns_good limit (suc n) i x body b on h m fit =
-    step_good limit (λ a. scoped body (turns limit n (i +ℤ pos 1) x body (λ c. on (leave m c))) (bind x (IntOf i) a)) (λ a f. scoped_good body b (turns limit n (i +ℤ pos 1) x body (λ c. on (leave m c))) (bind x (IntOf i) a) (turns_good limit n (i +ℤ pos 1) x body b (λ c. on (leave m c)) (λ c g. h (leave m c) g)) f) m fit
+    let turn : On → On = λ k a. body k (bind x (IntOf i) a) in
+    step_good limit (λ a. scoped turn (turns limit n (i +ℤ pos 1) x body on) a) (λ a f. scoped_good turn (λ k g c d. b k g (bind x (IntOf i) c) d) (turns limit n (i +ℤ pos 1) x body on) a (turns_good limit n (i +ℤ pos 1) x body b on h) f) m fit
 
 no_more_refl : (spec : Specification) → Fewer spec spec
 no_more_refl spec = record { none = λ side o h. h }

@@ -7,11 +7,10 @@ use Rattle.std.proofs.lemmas.List.{map-append}
 use Rattle.std.proofs.lemmas.List.Elements.{filter_map-append}
 use Rattle.jade_base.specs.declared.report.Blame.{Blame}
 use Rattle.jade_meaning.specs.declared.ledger.Ledger.{Ledger}
-use Rattle.jade_meaning.specs.Course.{Course, Reads, Writes, Steps, Creates, Changes, Ends, root_course, inputs}
+use Rattle.jade_meaning.specs.Course.{Course, Reads, Writes, Steps, Creates, Changes, Ends, root_course}
 use Rattle.jade_meaning.specs.Serial.{Path, Store, Mark, Deed, DidRead, DidWrite, DidCreate, DidEnd, serial, own, under, after, cell, done_to, parts, zeros}
 use Rattle.jade_meaning.specs.Report.{faults, steps_of, fault_of, step_of, report}
 use Rattle.jade_meaning.specs.Carry.{carried, noted, put, report_of}
-use Rattle.jade_meaning.specs.Steps.{Runs, all_rights}
 use Rattle.jade_meaning.specs.Talk.{Task}
 use Rattle.jade_syntax.specs.Abstract.{AbstractProgram}
 use Rattle.jade_syntax.specs.Objects.{sizes}
@@ -99,12 +98,12 @@ as_many [] store = refl
 as_many (m ∷ ms) store = as_many ms (done_to m.deed store) ∙ kept m.deed store
 
 -- the report of the whole program
-pub reports : (p : AbstractProgram) (ns : List ℤ) (limit : ℕ) (start last : Ledger) → start ≡ record { objects = zeros (sizes p.items); faults = []; steps = [] } → Runs p.items limit (all_rights p.items) (0 ∷ []) p.main start last → report_of last ≡ report p ns limit
-reports p ns limit start last e h =
+pub reports : (p : AbstractProgram) (ns : List ℤ) (limit : ℕ) (last : Ledger) → last ≡ carried (0 ∷ []) (root_course p ns limit) 0 0 (record { objects = zeros (sizes p.items); faults = []; steps = [] }) → report_of last ≡ report p ns limit
+reports p ns limit last h =
     let c = root_course p ns limit in
     let store = zeros (sizes p.items) in
     let ms = serial c 0 0 store in
     let first : Ledger = record { objects = store; faults = []; steps = [] } in
-    ap report_of (h.same (inputs p.items ns) (inputs p.items ns) ∙ ap (carried (0 ∷ []) c 0 0) e ∙ carried_is (0 ∷ []) c 0 0 first)
+    ap report_of (h ∙ carried_is (0 ∷ []) c 0 0 first)
     ∙ ap (λ n. record { objects = after ms store; faults = faults (map (under 0) ms); turns = replicate n []; steps = steps_of (map (under 0) ms) }) (as_many ms store)
     ∙ ap (λ s. record { objects = s; faults = faults (map (under 0) ms); turns = replicate (length store) []; steps = steps_of (map (under 0) ms) }) (sym (after_under 0 ms store))

@@ -1,9 +1,9 @@
 -- Small programs and what they mean.
-use Rattle.std.specs.Prelude.{◌≡◌, ℕ, List, [], ◌∷◌, Some, pos, refl}
+use Rattle.std.specs.Prelude.{◌≡◌, ℕ, List, [], ◌∷◌, Some, pos, negsuc, refl}
 use Rattle.std.specs.List.{sum_by}
 use Rattle.jade_base.specs.declared.place.Pos.{Pos}
 use Rattle.jade_base.specs.declared.report.FaultKind.{FaultKind}
-use Rattle.jade_base.specs.declared.report.FaultKind.TheVariants.{Object, Right, Change}
+use Rattle.jade_base.specs.declared.report.FaultKind.TheVariants.{Overflow, Zero, Object, Right, Change}
 use Rattle.jade_base.specs.declared.report.FaultNote.{FaultNote}
 use Rattle.jade_base.specs.declared.report.PartStep.{PartStep}
 use Rattle.jade_syntax.specs.declared.tree.Item.{Item}
@@ -11,8 +11,10 @@ use Rattle.jade_syntax.specs.declared.tree.Item.TheVariants.{Input, Single, Fami
 use Rattle.jade_syntax.specs.declared.tree.ValueKind.TheVariants.{Int}
 use Rattle.jade_syntax.specs.declared.tree.DeclareWord.TheVariants.{Rd, Wr, RdWr, DfWr, NoWr}
 use Rattle.jade_syntax.specs.declared.tree.SumOp.TheVariants.{Plus, Minus}
-use Rattle.jade_syntax.specs.declared.tree.ProductOp.TheVariants.{Times}
+use Rattle.jade_syntax.specs.declared.tree.ProductOp.TheVariants.{Times, Over, Remainder}
 use Rattle.jade_syntax.specs.Abstract.{Adds, Multiplies, Whole, Variable, Chain, Cell, Last, Link, Alone, Member, Local, Assign, Store, For, Withonly, With, Declare, Done, Then, AbstractProgram}
+use Rattle.jade_meaning.specs.Values.{Gives, Fails, multiplied}
+use Rattle.jade_meaning.specs.declared.values.Value.TheVariants.{IntOf}
 use Rattle.jade_meaning.specs.Course.{limit_blame}
 use Rattle.jade_meaning.specs.Serial.{serial_run, parts}
 use Rattle.jade_meaning.specs.Answer.{Faulted, Cells, answer, run_answer, stopping_run}
@@ -98,3 +100,19 @@ column_limit = refl
 
 column_stops : run_answer (stopping_run column (pos 7 ∷ []) 36) [] ≡ Faulted (0 ∷ 6 ∷ []) limit_blame
 column_stops = refl
+
+-- `-7 / 2` and `-7 % 2`, a zero divisor, and the least number by -1
+quotient_truncates : multiplied Over (negsuc 6) (pos 2) ≡ Gives (IntOf (negsuc 2))
+quotient_truncates = refl
+
+remainder_has_dividends_sign : multiplied Remainder (negsuc 6) (pos 2) ≡ Gives (IntOf (negsuc 0))
+remainder_has_dividends_sign = refl
+
+no_quotient_by_zero : multiplied Over (pos 1) (pos 0) ≡ Fails Zero
+no_quotient_by_zero = refl
+
+least_by_minus_one : multiplied Over (negsuc 9223372036854775807) (negsuc 0) ≡ Fails Overflow
+least_by_minus_one = refl
+
+least_remainder_by_minus_one : multiplied Remainder (negsuc 9223372036854775807) (negsuc 0) ≡ Fails Overflow
+least_remainder_by_minus_one = refl

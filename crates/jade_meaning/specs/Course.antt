@@ -12,7 +12,11 @@ use Rattle.jade_syntax.specs.declared.tree.DeclareWord.{DeclareWord}
 use Rattle.jade_syntax.specs.Abstract.{Name, Expression, Whole, Truth, Variable, Group, Signed, Chain, Cell, Links, Last, Link, Place, Alone, Member, Action, Local, Assign, Store, If, IfElse, For, Withonly, With, Declare, Actions, Done, Then, AbstractProgram}
 use Rattle.jade_syntax.specs.Numbering.{same_name}
 use Rattle.jade_syntax.specs.Objects.{amount, sizes}
-use Rattle.jade_meaning.specs.Values.{Value, IntOf, BoolOf, Given, Gives, Fails, operated, decides, signed, whole, holds, is_index, magnitude, turn_count}
+use Rattle.jade_meaning.specs.declared.values.Value.{Value}
+use Rattle.jade_meaning.specs.declared.values.Value.TheVariants.{IntOf, BoolOf}
+use Rattle.jade_meaning.specs.declared.found.Range.{Range}
+use Rattle.jade_meaning.specs.declared.found.Found.{Found}
+use Rattle.jade_meaning.specs.Values.{Given, Gives, Fails, operated, decides, signed, whole, holds, is_index, magnitude, turn_count}
 use Rattle.jade_meaning.specs.Specification.{Specification, rights_on, covers, fitted}
 use Rattle.jade_meaning.specs.Changes.{declared, amended}
 
@@ -46,12 +50,6 @@ value_of x (b ∷ env) = if same_name x b.name then b.value else value_of x env
 abbrev pub assigned : Name → Value → Environment → Environment
 assigned x v [] = []
 assigned x v (b ∷ env) = if same_name x b.name then record b { value = v } ∷ env else b ∷ assigned x v env
-
--- the objects that a name stands for: their first number, how many they are, and the cells of each
-pub record Range : Type 0 where
-  pub first : ℕ
-  pub count : ℕ
-  pub size : ℕ
 
 -- the objects of a name, where o objects are declared before these items
 abbrev pub range_from : ℕ → Name → List Item → Range
@@ -132,11 +130,6 @@ abbrev pub place_of : Place → Pos
 place_of (Alone x at) = at
 place_of (Member x at e) = at
 
--- an object's number and size
-pub record Found : Type 0 where
-  pub number : ℕ
-  pub size : ℕ
-
 -- a member of a family, or the fault `object`
 abbrev pub member : Range → ℤ → Pos → Mine → (Found → Course) → Course
 member r i at m on =
@@ -168,11 +161,11 @@ leave before m = record m { env = drop (length m.env - length before.env) m.env 
 abbrev pub scoped : (On → On) → On → On
 scoped body on m = body (λ n. on (leave m n)) m
 
--- the turns of a loop that are left: n, from the value i of its variable on
+-- the turns of a loop that are left: n, from the value i of its variable on, which ends with its turn
 abbrev pub turns : ℕ → (n : ℕ) → (i : ℤ) → Name → (On → On) → On → On
 turns limit zero i x body on m = on m
 turns limit (suc n) i x body on m =
-    step limit (λ a. scoped body (turns limit n (i +ℤ pos 1) x body (λ b. on (leave m b))) (bind x (IntOf i) a)) m
+    step limit (λ a. scoped (λ k b. body k (bind x (IntOf i) b)) (turns limit n (i +ℤ pos 1) x body on) a) m
 
 -- the changed rights on an object, or the fault `change`
 abbrev pub amend : Option Rights → Specification → ℕ → Pos → On → On

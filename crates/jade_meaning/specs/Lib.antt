@@ -8,7 +8,11 @@ pub mod Laws
 pub mod Answer
 pub mod Proper
 pub mod Report
-pub mod Built
 pub mod Carry
-pub mod Steps
+pub mod Direct
+pub mod Links
+pub mod Tallied
+pub mod Perform
+pub mod Scopes
+pub mod Drafts
 pub mod Told

@@ -12,11 +12,8 @@ use Rattle.jade_syntax.specs.declared.tree.ProductOp.TheVariants.{Times, Over, R
 use Rattle.jade_syntax.specs.declared.tree.UnaryOp.{UnaryOp}
 use Rattle.jade_syntax.specs.declared.tree.UnaryOp.TheVariants.{Negative, Not}
 use Rattle.jade_syntax.specs.Abstract.{Operator, Or, And, Relates, Adds, Multiplies}
-
--- a value of an expression
-pub data Value : Type 0 where
-  IntOf : ℤ → Value
-  BoolOf : Bool → Value
+use Rattle.jade_meaning.specs.declared.values.Value.{Value}
+use Rattle.jade_meaning.specs.declared.values.Value.TheVariants.{IntOf, BoolOf}
 
 -- what an operator gives: a value, or a fault
 pub data Given : Type 0 where

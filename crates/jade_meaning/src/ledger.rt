@@ -1,13 +1,12 @@
 //! What a run has done so far: the cells of the objects, the faults, and the steps of the parts.
 
-ghost use Rattle.std.specs.Prelude.{◌≡◌, [], ◌∷◌, ◌++◌, IfOk, OnOk, true, List, length, replicate};
-ghost use Rattle.std.specs.List.{list_all};
+ghost use Rattle.std.specs.Prelude.{◌≡◌, [], ◌∷◌, ◌++◌, IfOk, OnOk, List, map, length, replicate, pos};
 ghost use Rattle.jade_syntax.specs.declared.tree.Item.{Item};
-ghost use Rattle.jade_syntax.specs.Built.{is_single};
-ghost use Rattle.jade_syntax.specs.Objects.{sizes, amount};
-ghost use Rattle.jade_meaning.specs.Serial.{with_cell, zeros};
+ghost use Rattle.jade_syntax.specs.Objects.{sizes};
+ghost use Rattle.jade_meaning.specs.Serial.{cell, with_cell, zeros};
 ghost use Rattle.jade_meaning.specs.Carry.{noted, report_of};
 
+use crate::found::amount_of;
 use jade_base::{
     Blame, CellLists, FaultNote, FaultNotes, Memory, Numbers, PartStep, PartSteps, Path, Report,
     TurnLists,
@@ -34,12 +33,12 @@ impl Model for Store {
 impl Store {
     /// The objects of these items, with zero in each cell.
     pub(crate) fn zeroed(alloc: Global, items: &Items) -> Result<Store, Memory>
-        requires { list_all is_single items.now ≡ true }
         ensures { IfOk result (λ store. store ≡ zeros (sizes items.now)) }
     {
         let mut objects = Vec::new(alloc);
         for i in 0..items.len() {
-            objects.push(Vec::from_elem(alloc, 0, size_of(items.at(i)))?)?;
+            let (count, size) = objects_of(items.at(i));
+            add_objects(&mut objects, alloc, count, size)?;
         }
         Ok(Store { objects })
     }
@@ -62,6 +61,17 @@ impl Store {
         Ok(lists)
     }
 
+    /// What a cell holds; zero where there is no such cell.
+    pub(crate) fn read(&self, object: usize, place: usize) -> i64
+        ensures { result ≡ cell self.now object place }
+    {
+        if object < self.objects.len() && place < self.objects[object].len() {
+            self.objects[object][place]
+        } else {
+            0
+        }
+    }
+
     /// Puts a number into a cell; where there is no such cell nothing happens.
     pub(crate) fn write(&mut self, object: usize, cell: usize, value: i64)
         ensures { self.new ≡ with_cell self.old object cell value }
@@ -72,22 +82,30 @@ impl Store {
     }
 }
 
-// The number of cells of the object that an item declares.
-fn size_of(item: &Item) -> usize
-    requires { is_single item.now ≡ true }
-    ensures { (more : List Item) → sizes (item.now ∷ more) ≡ result ∷ sizes more }
+// How many objects an item declares, and the number of cells of each.
+fn objects_of(item: &Item) -> (usize, usize)
+    ensures { (more : List Item) → sizes (item.now ∷ more) ≡ replicate result.0 result.1 ++ sizes more }
 {
     match item {
-        Item::Single { size, .. } => amount_of(size.value),
-        Item::Input { .. } | Item::Family { .. } => unreachable!(),
+        Item::Input { .. } => (0, 0),
+        Item::Single { size, .. } => (1, amount_of(size.value)),
+        Item::Family { count, size, .. } => (amount_of(count.value), amount_of(size.value)),
     }
 }
 
-// A number of cells; none where it is below zero.
-pub(crate) fn amount_of(number: i64) -> usize
-    ensures { result ≡ amount number }
+// So many more objects of this size, with zero in each cell.
+fn add_objects(
+    objects: &mut Vec<Vec<i64>>,
+    alloc: Global,
+    count: usize,
+    size: usize,
+) -> Result<(), Memory>
+    ensures { OnOk result (map (λ v. v.items) objects.new.items ≡ map (λ v. v.items) objects.old.items ++ replicate count (replicate size (pos 0))) }
 {
-    if number < 0 { 0 } else { number as usize }
+    for _ in 0..count {
+        objects.push(Vec::from_elem(alloc, 0, size)?)?;
+    }
+    Ok(())
 }
 
 /// What a run has done so far.
@@ -101,7 +119,6 @@ pub(crate) struct Ledger {
 impl Ledger {
     /// Nothing is done yet: each cell of these items' objects is zero.
     pub(crate) fn start(alloc: Global, items: &Items) -> Result<Ledger, Memory>
-        requires { list_all is_single items.now ≡ true }
         ensures { IfOk result (λ ledger. ledger ≡ record { objects = zeros (sizes items.now); faults = []; steps = [] }) }
     {
         Ok(Ledger {

@@ -1,15 +1,19 @@
 //! The meaning of programs: what each task says of itself, the serial run, and the answer.
 #![tactic(auto)]
 
-mod built;
-mod count;
+mod draft;
+mod found;
+mod grants;
 pub mod laws;
 mod ledger;
-mod plain;
+mod scope;
 pub mod serial;
 #[cfg(test)]
 mod serial_tests;
+mod setting;
+mod statements;
 mod stop;
-mod task;
+mod tally;
+pub mod values;
 
-pub use serial::serial_run;
+pub use serial::{serial_program, serial_run};

@@ -1,21 +1,24 @@
 //! The serial run of a program.
 
-ghost use Rattle.std.specs.Prelude.{◌≡◌, ◌≤◌, true, length, IfOk};
-ghost use Rattle.jade_syntax.specs.Built.{is_built};
+ghost use Rattle.std.specs.Prelude.{◌≡◌, ◌≤◌, length, IfOk};
 ghost use Rattle.jade_syntax.specs.Image.{program as abstracted};
-ghost use Rattle.jade_syntax.specs.Objects.{input_names};
+ghost use Rattle.jade_syntax.specs.Objects.{input_names, sizes};
+ghost use Rattle.jade_meaning.specs.Course.{inputs};
 ghost use Rattle.jade_meaning.specs.Report.{report};
 
+use crate::found::Declared;
+use crate::grants::Grants;
 use crate::ledger::Ledger;
-use crate::task::Run;
-use jade_base::{Memory, Report};
+use crate::scope::Scope;
+use crate::setting::Setting;
+use crate::values::Value;
+use jade_base::{Memory, Path, Report};
 use jade_syntax::Checked;
-use jade_syntax::tree::Program;
+use jade_syntax::tree::{Item, Items, Program};
 use std::alloc::Global;
 
-/// Runs a program serially, each child whole where it is created, and reports what it did.
-/// `numbers` are the values of the inputs in declared order. A task ends with the fault `limit`
-/// where it would begin more than `limit` steps of its own. The error is want of memory.
+/// Runs a program serially, each child whole where it is created, and reports what it did. Each
+/// task may begin `limit` steps. The error is want of memory.
 pub fn serial_run(
     alloc: Global,
     checked: &Checked,
@@ -29,22 +32,56 @@ pub fn serial_run(
     serial_program(alloc, checked.program(), numbers, limit)
 }
 
-/// The serial run of a tree of the built forms.
-pub(crate) fn serial_program(
+/// Runs a tree serially, whether or not its names and kinds are right: a name that stands for
+/// nothing is zero, or an object without cells. It declares at most 4,096 objects. The error is
+/// want of memory.
+pub fn serial_program(
     alloc: Global,
     program: &Program,
     numbers: &[i64],
     limit: u32,
 ) -> Result<Report, Memory>
-    requires { is_built (abstracted program.now) ≡ true }
+    requires given { length numbers.now ≡ length (input_names program.now.items) }
+    requires objects { length (sizes program.now.items) ≤ 4096 }
     ensures { IfOk result (λ done. done ≡ report (abstracted program.now) numbers.now limit) }
 {
+    let items = Declared::of(&program.items);
+    let given = inputs(alloc, &program.items, numbers)?;
+    let scope = given.copy(alloc)?;
+    let grants = Grants::all(alloc, items.objects())?;
+    let path = Path::root(alloc)?;
     let mut ledger = Ledger::start(alloc, &program.items)?;
-    let run = Run {
+    let setting = Setting {
         alloc,
-        items: &program.items,
+        items,
+        given,
         limit,
     };
-    run.root(&program.main, &mut ledger)?;
+    setting.run(scope, grants, &program.main, &path, &mut ledger)?;
     ledger.into_report(alloc)
+}
+
+// The inputs as variables with these values.
+fn inputs<'c>(alloc: Global, items: &'c Items, numbers: &[i64]) -> Result<Scope<'c>, Memory>
+    requires { length numbers.now ≡ length (input_names items.now) }
+    ensures { IfOk result (λ scope. scope ≡ inputs items.now numbers.now) }
+{
+    let mut scope = Scope::empty(alloc);
+    let mut number = numbers.len();
+    let mut left = items.len();
+    while left > 0 {
+        left -= 1;
+        match items.at(left) {
+            Item::Input { name, .. } => {
+                number -= 1;
+                match scope.bind(name, Value::IntOf(numbers[number])) {
+                    Ok(()) => {}
+                    Err(memory) => return Err(memory),
+                }
+            }
+            Item::Single { .. } => {}
+            Item::Family { .. } => {}
+        }
+    }
+    Ok(scope)
 }

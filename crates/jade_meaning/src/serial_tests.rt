@@ -1,10 +1,7 @@
-//! Small programs of the built forms, run.
+//! Small programs, run.
 
-ghost use Rattle.std.specs.Prelude.{◌≡◌, [], ◌∷◌, true, IfOk};
-ghost use Rattle.std.specs.List.{list_all};
-ghost use Rattle.jade_syntax.specs.Abstract.{Whole};
-ghost use Rattle.jade_syntax.specs.Built.{is_built, is_plain, is_plain_store, is_plain_wr, is_single, each_action};
-ghost use Rattle.jade_syntax.specs.Image.{action, block, expression, program as abstracted};
+ghost use Rattle.std.specs.Prelude.{◌≡◌, [], length, IfOk};
+ghost use Rattle.jade_syntax.specs.Objects.{input_names, sizes};
 
 use crate::serial::serial_program;
 use jade_base::{FaultKind, Memory, Pos, Report};
@@ -18,9 +15,7 @@ use std::test::Fail;
 
 const PLACE: Pos = Pos { line: 1, column: 1 };
 
-fn number(alloc: Global, value: i64) -> Expr
-    ensures { expression result ≡ Whole value }
-{
+fn number(alloc: Global, value: i64) -> Expr {
     let unary = Unary {
         signs: Signs::empty(alloc),
         atom: Atom::Whole(Number { value, pos: PLACE }),
@@ -52,9 +47,7 @@ fn the_name(alloc: Global) -> Result<Name, Memory> {
     }
 }
 
-fn store(alloc: Global, cell: i64, value: i64) -> Result<Statement, Memory>
-    ensures { IfOk result (λ s. is_plain_store (action s) ≡ true) }
-{
+fn store(alloc: Global, cell: i64, value: i64) -> Result<Statement, Memory> {
     let target = CellRef {
         name: the_name(alloc)?,
         pos: PLACE,
@@ -67,9 +60,7 @@ fn store(alloc: Global, cell: i64, value: i64) -> Result<Statement, Memory>
     })
 }
 
-fn one(alloc: Global, statement: Statement) -> Result<Block, Memory>
-    ensures { IfOk result (λ block. block ≡ statement ∷ []) }
-{
+fn one(alloc: Global, statement: Statement) -> Result<Block, Memory> {
     let mut block = Block::empty(alloc);
     match block.push(statement) {
         Ok(()) => Ok(block),
@@ -77,9 +68,7 @@ fn one(alloc: Global, statement: Statement) -> Result<Block, Memory>
     }
 }
 
-fn declaration(alloc: Global) -> Result<Statement, Memory>
-    ensures { IfOk result (λ s. is_plain_wr (action s) ≡ true) }
-{
+fn declaration(alloc: Global) -> Result<Statement, Memory> {
     let object = ObjectRef {
         name: the_name(alloc)?,
         pos: PLACE,
@@ -92,11 +81,7 @@ fn declaration(alloc: Global) -> Result<Statement, Memory>
     })
 }
 
-fn child(alloc: Global, section: Block, body: Block) -> Statement
-    requires declared { each_action is_plain_wr (block section) ≡ true }
-    requires plain { each_action is_plain_store (block body) ≡ true }
-    ensures { is_plain (action result) ≡ true }
-{
+fn child(alloc: Global, section: Block, body: Block) -> Statement {
     Statement::Withonly {
         pos: PLACE,
         section,
@@ -107,7 +92,8 @@ fn child(alloc: Global, section: Block, body: Block) -> Statement
 
 // `object s : 1`, and a `main` of one child, which stores a value to a cell of `s`.
 fn one_child(alloc: Global, declares: bool, cell: i64, value: i64) -> Result<Program, Memory>
-    ensures { IfOk result (λ p. is_built (abstracted p) ≡ true) }
+    ensures inputs { IfOk result (λ p. input_names p.items ≡ []) }
+    ensures objects { IfOk result (λ p. length (sizes p.items) ≡ 1) }
 {
     let section = if declares {
         one(alloc, declaration(alloc)?)?
@@ -116,14 +102,13 @@ fn one_child(alloc: Global, declares: bool, cell: i64, value: i64) -> Result<Pro
     };
     let body = one(alloc, store(alloc, cell, value)?)?;
     let main = one(alloc, child(alloc, section, body))?;
-    Ok(Program {
-        items: one_object(alloc)?,
-        main,
-    })
+    let items = one_object(alloc)?;
+    Ok(Program { items, main })
 }
 
 fn one_object(alloc: Global) -> Result<Items, Memory>
-    ensures { IfOk result (λ items. list_all is_single items ≡ true) }
+    ensures inputs { IfOk result (λ items. input_names items ≡ []) }
+    ensures objects { IfOk result (λ items. length (sizes items) ≡ 1) }
 {
     let mut items = Items::empty(alloc);
     let item = Item::Single {

@@ -1,12 +1,7 @@
-use Rattle.std.proofs.Common.{◌≡◌, ◌++◌, map, drop, true}
-use Rattle.std.specs.List.{list_all}
-use Rattle.jade_syntax.specs.Built.{is_single}
+use Rattle.std.proofs.Common.{◌≡◌, ◌++◌, map, drop}
 use Rattle.jade_syntax.specs.Objects.{sizes}
 use Rattle.jade_meaning.specs.Serial.{zeros}
 use Rattle.jade_meaning.proofs.ledger.Store.zeroed.Given as goal
 
 abbrev pub invariant-loop-i : goal.invariant-loop-i
-invariant-loop-i l = record {
-  made : map (λ v. v.items) l.objects.items ++ zeros (sizes (drop l.i l.items)) ≡ zeros (sizes l.items);
-  singles : list_all is_single (drop l.i l.items) ≡ true;
-}
+invariant-loop-i l = map (λ v. v.items) l.objects.items ++ zeros (sizes (drop l.i l.items)) ≡ zeros (sizes l.items)

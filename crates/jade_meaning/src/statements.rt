@@ -1,0 +1,502 @@
+//! A task that goes through its statements, with what it notes.
+
+ghost use Rattle.std.specs.Prelude.{◌≡◌, [], ◌∷◌, ◌++◌, map, OnOk, IfOk};
+ghost use Rattle.jade_syntax.specs.Image.{expression, reference, object, action, block};
+ghost use Rattle.jade_meaning.specs.Course.{NoDraft, Building, Amending, copied, drafted, none_of};
+ghost use Rattle.jade_meaning.specs.Carry.{noted};
+ghost use Rattle.jade_meaning.specs.Specification.{fitted};
+ghost use Rattle.jade_meaning.specs.Values.{turn_count};
+ghost use Rattle.jade_meaning.specs.Perform.{Follows, shown, begun, within, localized, reassigned, stored, declared_on, turned, turned_once, perform, perform_all, created, changed, child_task, ended, then_on};
+
+use crate::draft::Draft;
+use crate::grants::Grants;
+use crate::ledger::Ledger;
+use crate::scope::Scope;
+use crate::setting::{Setting, Task, blame_at, cell_of};
+use crate::stop::Stop;
+use crate::tally::Tally;
+use crate::values::Value;
+use jade_base::{FaultKind, Memory, Path, Pos, Right};
+use jade_syntax::Name;
+use jade_syntax::tree::{Block, CellRef, DeclareWord, Expr, NameList, ObjectRef, Statement};
+use std::mem::replace;
+
+impl<'c> Setting<'c> {
+    // Counts a step.
+    fn begin(&self, task: &mut Task<'c>, ledger: &Ledger) -> Result<(), Stop>
+        ensures { Follows result (begun self.now.limit task.old ledger.now) task.new ledger.now }
+    {
+        match task.tally.begin_step(self.limit) {
+            Ok(()) => Ok(()),
+            Err(blame) => Err(Stop::Fault(blame)),
+        }
+    }
+
+    // A new variable.
+    fn local(
+        &self,
+        name: &'c Name,
+        value: &Expr,
+        task: &mut Task<'c>,
+        ledger: &Ledger,
+    ) -> Result<(), Stop>
+        ensures { Follows result (localized (shown self.now) name.now (expression value.now) task.old ledger.now) task.new ledger.now }
+    {
+        match self.value(task, &ledger.objects, value) {
+            Ok(value) => match task.scope.bind(name, value) {
+                Ok(()) => Ok(()),
+                Err(Memory) => Err(Stop::Memory),
+            },
+            Err(blame) => Err(Stop::Fault(blame)),
+        }
+    }
+
+    // Another value for a variable.
+    fn assign(
+        &self,
+        name: &Name,
+        value: &Expr,
+        task: &mut Task<'c>,
+        ledger: &Ledger,
+    ) -> Result<(), Stop>
+        ensures { Follows result (reassigned (shown self.now) name.now (expression value.now) task.old ledger.now) task.new ledger.now }
+    {
+        match self.value(task, &ledger.objects, value) {
+            Ok(value) => {
+                task.scope.assign(name, value);
+                Ok(())
+            }
+            Err(blame) => Err(Stop::Fault(blame)),
+        }
+    }
+
+    // A write of a cell.
+    fn store(
+        &self,
+        target: &CellRef,
+        value: &Expr,
+        task: &Task<'c>,
+        ledger: &mut Ledger,
+    ) -> Result<(), Stop>
+        ensures { Follows result (stored (shown self.now) (reference target.now).place (reference target.now).cell (expression value.now) task.now ledger.old) task.now ledger.new }
+    {
+        let found = match self.located(
+            task,
+            &ledger.objects,
+            &target.name,
+            target.pos,
+            &target.family,
+        ) {
+            Ok(found) => found,
+            Err(blame) => return Err(Stop::Fault(blame)),
+        };
+        let index = match self.value(task, &ledger.objects, &target.cell) {
+            Ok(value) => value.whole(),
+            Err(blame) => return Err(Stop::Fault(blame)),
+        };
+        let cell = match cell_of(found, index, target.pos) {
+            Ok(cell) => cell,
+            Err(blame) => return Err(Stop::Fault(blame)),
+        };
+        let number = match self.value(task, &ledger.objects, value) {
+            Ok(value) => value.whole(),
+            Err(blame) => return Err(Stop::Fault(blame)),
+        };
+        match task.grants.on(found.number).writes {
+            Right::Immediate => {
+                ledger.objects.write(found.number, cell, number);
+                Ok(())
+            }
+            Right::Absent | Right::Deferred => {
+                Err(Stop::Fault(blame_at(FaultKind::Right, target.pos)))
+            }
+        }
+    }
+
+    // A word of a section.
+    fn declare(
+        &self,
+        word: DeclareWord,
+        at: Pos,
+        of: &ObjectRef,
+        task: &mut Task<'c>,
+        ledger: &Ledger,
+    ) -> Result<(), Stop>
+        ensures { Follows result (declared_on (shown self.now) word at (object of.now) task.old ledger.now) task.new ledger.now }
+    {
+        match self.located(task, &ledger.objects, &of.name, of.pos, &of.member) {
+            Ok(found) => match task.draft.declare(word, found.number, at) {
+                Ok(()) => Ok(()),
+                Err(blame) => Err(Stop::Fault(blame)),
+            },
+            Err(blame) => Err(Stop::Fault(blame)),
+        }
+    }
+
+    // Begins the section of a `withonly`.
+    fn begin_building(&self, task: &mut Task<'c>) -> Result<(), Memory>
+        ensures { OnOk result (task.new ≡ record task.old { draft = Building (none_of self.now.items) }) }
+    {
+        match Grants::none(self.alloc, self.items.objects()) {
+            Ok(grants) => {
+                task.draft = Draft::building(grants);
+                Ok(())
+            }
+            Err(memory) => Err(memory),
+        }
+    }
+
+    // Begins the section of a `with`.
+    fn begin_amending(&self, task: &mut Task<'c>) -> Result<(), Memory>
+        ensures { OnOk result (task.new ≡ record task.old { draft = Amending task.old.grants }) }
+    {
+        match task.grants.copy(self.alloc) {
+            Ok(grants) => {
+                task.draft = Draft::amending(grants);
+                Ok(())
+            }
+            Err(memory) => Err(memory),
+        }
+    }
+
+    // Ends the section of a `with`.
+    fn end_amending(&self, task: &mut Task<'c>) -> Result<(), Memory>
+        ensures { OnOk result (task.new ≡ changed task.old) }
+    {
+        let before = match task.grants.copy(self.alloc) {
+            Ok(grants) => grants,
+            Err(memory) => return Err(memory),
+        };
+        let draft = replace(&mut task.draft, Draft::absent(self.alloc));
+        let mut grants = draft.into_working(before);
+        match grants.fit(&task.grants) {
+            Ok(()) => {
+                task.grants = grants;
+                Ok(())
+            }
+            Err(memory) => Err(memory),
+        }
+    }
+
+    // The child's specification at the end of the section of a `withonly`, which ends the section.
+    fn end_building(&self, task: &mut Task<'c>) -> Result<Grants, Memory>
+        ensures child { IfOk result (λ child. child ≡ fitted task.old.grants (drafted task.old.draft)) }
+        ensures section { OnOk result (task.new ≡ record task.old { draft = NoDraft }) }
+    {
+        let draft = replace(&mut task.draft, Draft::absent(self.alloc));
+        let mut grants = draft.into_drafted(self.alloc);
+        match grants.fit(&task.grants) {
+            Ok(()) => Ok(grants),
+            Err(memory) => Err(memory),
+        }
+    }
+
+    // The variables of a child: those of the `do` list with their values now, and the inputs.
+    fn copied(&self, names: &'c NameList, task: &Task<'c>) -> Result<Scope<'c>, Memory>
+        ensures { IfOk result (λ scope. scope ≡ copied (map (λ n. n.name) names.now) task.now.scope ++ self.now.given) }
+    {
+        let mut scope = match self.given.copy(self.alloc) {
+            Ok(scope) => scope,
+            Err(memory) => return Err(memory),
+        };
+        let mut left = names.len();
+        while left > 0 {
+            left -= 1;
+            let name = &names.at(left).name;
+            match scope.bind(name, task.scope.value_of(name)) {
+                Ok(()) => {}
+                Err(memory) => return Err(memory),
+            }
+        }
+        Ok(scope)
+    }
+
+    // A statement.
+    #[cycle(statement)]
+    fn statement(
+        &self,
+        statement: &'c Statement,
+        path: &Path,
+        task: &mut Task<'c>,
+        ledger: &mut Ledger,
+    ) -> Result<(), Stop>
+        ensures { Follows result (perform (shown self.now) path.now (action statement.now) task.old ledger.old) task.new ledger.new }
+    {
+        match statement {
+            Statement::Local { name, value, .. } => self.local(name, value, task, ledger),
+            Statement::Assign { name, value, .. } => self.assign(name, value, task, ledger),
+            Statement::Store { target, value } => self.store(target, value, task, ledger),
+            Statement::If {
+                test,
+                then,
+                otherwise,
+            } => {
+                let holds = match self.value(task, &ledger.objects, test) {
+                    Ok(value) => value.holds(),
+                    Err(blame) => return Err(Stop::Fault(blame)),
+                };
+                if holds {
+                    return self.scoped(then, path, task, ledger);
+                }
+                match otherwise {
+                    None => Ok(()),
+                    Some(block) => self.scoped(block, path, task, ledger),
+                }
+            }
+            Statement::For {
+                name,
+                low,
+                high,
+                body,
+                ..
+            } => {
+                let low = match self.value(task, &ledger.objects, low) {
+                    Ok(value) => value.whole(),
+                    Err(blame) => return Err(Stop::Fault(blame)),
+                };
+                let high = match self.value(task, &ledger.objects, high) {
+                    Ok(value) => value.whole(),
+                    Err(blame) => return Err(Stop::Fault(blame)),
+                };
+                self.turns(name, low, high, body, path, task, ledger)
+            }
+            Statement::Withonly {
+                pos,
+                section,
+                names,
+                body,
+            } => {
+                match self.begin_building(task) {
+                    Ok(()) => {}
+                    Err(Memory) => return Err(Stop::Memory),
+                }
+                match self.scoped(section, path, task, ledger) {
+                    Ok(()) => {}
+                    Err(stop) => return Err(stop),
+                }
+                self.create(*pos, names, body, path, task, ledger)
+            }
+            Statement::With { section, .. } => {
+                match self.begin_amending(task) {
+                    Ok(()) => {}
+                    Err(Memory) => return Err(Stop::Memory),
+                }
+                match self.scoped(section, path, task, ledger) {
+                    Ok(()) => {}
+                    Err(stop) => return Err(stop),
+                }
+                match self.end_amending(task) {
+                    Ok(()) => Ok(()),
+                    Err(Memory) => Err(Stop::Memory),
+                }
+            }
+            Statement::Declare { word, pos, object } => {
+                self.declare(*word, *pos, object, task, ledger)
+            }
+        }
+    }
+
+    // A step: it is counted, and the statement is done.
+    #[cycle(statement)]
+    fn step(
+        &self,
+        statement: &'c Statement,
+        path: &Path,
+        task: &mut Task<'c>,
+        ledger: &mut Ledger,
+    ) -> Result<(), Stop>
+        ensures { Follows result (then_on (begun self.now.limit task.old ledger.old) (perform (shown self.now) path.now (action statement.now))) task.new ledger.new }
+    {
+        match self.begin(task, ledger) {
+            Ok(()) => self.statement(statement, path, task, ledger),
+            Err(stop) => Err(stop),
+        }
+    }
+
+    // Statements in order, each a step.
+    #[cycle(statement)]
+    fn block(
+        &self,
+        statements: &'c Block,
+        path: &Path,
+        task: &mut Task<'c>,
+        ledger: &mut Ledger,
+    ) -> Result<(), Stop>
+        ensures { Follows result (perform_all (shown self.now) path.now (block statements.now) task.old ledger.old) task.new ledger.new }
+    {
+        for i in 0..statements.len() {
+            match self.step(statements.at(i), path, task, ledger) {
+                Ok(()) => {}
+                Err(stop) => return Err(stop),
+            }
+        }
+        Ok(())
+    }
+
+    // A block, whose variables end with it.
+    #[cycle(statement)]
+    fn scoped(
+        &self,
+        statements: &'c Block,
+        path: &Path,
+        task: &mut Task<'c>,
+        ledger: &mut Ledger,
+    ) -> Result<(), Stop>
+        ensures { Follows result (within task.old (perform_all (shown self.now) path.now (block statements.now) task.old ledger.old)) task.new ledger.new }
+    {
+        let variables = task.scope.len();
+        match self.block(statements, path, task, ledger) {
+            Ok(()) => {
+                task.scope.leave(variables);
+                Ok(())
+            }
+            Err(stop) => Err(stop),
+        }
+    }
+
+    // The turns of a loop, from the value `low` of its variable on.
+    #[cycle(statement)]
+    fn turns(
+        &self,
+        name: &'c Name,
+        low: i64,
+        high: i64,
+        body: &'c Block,
+        path: &Path,
+        task: &mut Task<'c>,
+        ledger: &mut Ledger,
+    ) -> Result<(), Stop>
+        ensures { Follows result (turned self.now.limit (turn_count low high) low name.now (perform_all (shown self.now) path.now (block body.now)) task.old ledger.old) task.new ledger.new }
+    {
+        let mut index = low;
+        while index < high {
+            match self.turn(name, index, body, path, task, ledger) {
+                Ok(()) => {}
+                Err(stop) => return Err(stop),
+            }
+            index += 1;
+        }
+        Ok(())
+    }
+
+    // A turn of a loop: a step, and the body with the loop's variable.
+    #[cycle(statement)]
+    fn turn(
+        &self,
+        name: &'c Name,
+        index: i64,
+        body: &'c Block,
+        path: &Path,
+        task: &mut Task<'c>,
+        ledger: &mut Ledger,
+    ) -> Result<(), Stop>
+        ensures { Follows result (turned_once self.now.limit index name.now (perform_all (shown self.now) path.now (block body.now)) task.old ledger.old) task.new ledger.new }
+    {
+        match self.begin(task, ledger) {
+            Ok(()) => {}
+            Err(stop) => return Err(stop),
+        }
+        let variables = task.scope.len();
+        match task.scope.bind(name, Value::IntOf(index)) {
+            Ok(()) => {}
+            Err(Memory) => return Err(Stop::Memory),
+        }
+        match self.block(body, path, task, ledger) {
+            Ok(()) => {
+                task.scope.leave(variables);
+                Ok(())
+            }
+            Err(stop) => Err(stop),
+        }
+    }
+
+    // The end of the section of a `withonly`: a child is made and run.
+    #[cycle(statement)]
+    fn create(
+        &self,
+        at: Pos,
+        names: &'c NameList,
+        body: &'c Block,
+        path: &Path,
+        task: &mut Task<'c>,
+        ledger: &mut Ledger,
+    ) -> Result<(), Stop>
+        ensures { Follows result (created (shown self.now) path.now at (map (λ n. n.name) names.now) (λ q. perform_all (shown self.now) q (block body.now)) task.old ledger.old) task.new ledger.new }
+    {
+        let grants = match self.end_building(task) {
+            Ok(grants) => grants,
+            Err(Memory) => return Err(Stop::Memory),
+        };
+        if !task.grants.covers(&grants) {
+            return Err(Stop::Fault(blame_at(FaultKind::Cover, at)));
+        }
+        let scope = match self.copied(names, task) {
+            Ok(scope) => scope,
+            Err(Memory) => return Err(Stop::Memory),
+        };
+        match self.run_child(scope, grants, body, path, &task.tally, ledger) {
+            Ok(()) => {}
+            Err(Memory) => return Err(Stop::Memory),
+        }
+        match task.tally.begin_part() {
+            Ok(()) => Ok(()),
+            Err(Memory) => Err(Stop::Memory),
+        }
+    }
+
+    // Notes the part that a creation ends, and runs the child to its end.
+    #[cycle(statement)]
+    fn run_child(
+        &self,
+        scope: Scope<'c>,
+        grants: Grants,
+        body: &'c Block,
+        path: &Path,
+        tally: &Tally,
+        ledger: &mut Ledger,
+    ) -> Result<(), Memory>
+        ensures { OnOk result (let q = path.now ++ tally.now.children ∷ [] in ledger.new ≡ ended q (perform_all (shown self.now) q (block body.now) (child_task scope.entry grants) (noted path.now tally.now.children tally.now.part None ledger.old))) }
+    {
+        match ledger.note(self.alloc, path, tally.children(), tally.part(), None) {
+            Ok(()) => {}
+            Err(memory) => return Err(memory),
+        }
+        let child_path = match path.child(self.alloc, tally.children()) {
+            Ok(path) => path,
+            Err(memory) => return Err(memory),
+        };
+        self.run(scope, grants, body, &child_path, ledger)
+    }
+
+    /// Runs a task with these variables and rights to its end.
+    #[cycle(statement)]
+    pub(crate) fn run(
+        &self,
+        scope: Scope<'c>,
+        grants: Grants,
+        body: &'c Block,
+        path: &Path,
+        ledger: &mut Ledger,
+    ) -> Result<(), Memory>
+        ensures { OnOk result (ledger.new ≡ ended path.now (perform_all (shown self.now) path.now (block body.now) (child_task scope.entry grants) ledger.old)) }
+    {
+        let mut task = Task {
+            scope,
+            grants,
+            draft: Draft::absent(self.alloc),
+            tally: Tally::start(),
+        };
+        let blame = match self.block(body, path, &mut task, ledger) {
+            Ok(()) => None,
+            Err(Stop::Fault(blame)) => Some(blame),
+            Err(Stop::Memory) => return Err(Memory),
+        };
+        ledger.note(
+            self.alloc,
+            path,
+            task.tally.children(),
+            task.tally.part(),
+            blame,
+        )
+    }
+}
