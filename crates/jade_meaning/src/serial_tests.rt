@@ -1,178 +1,279 @@
-//! Small programs, run.
+//! Whole programs, built as trees, with one object `s` of two cells.
 
-ghost use Rattle.std.specs.Prelude.{◌≡◌, [], length, IfOk};
+ghost use Rattle.std.specs.Prelude.{◌≡◌, ◌≤◌, [], length, IfOk};
 ghost use Rattle.jade_syntax.specs.Objects.{input_names, sizes};
 
-use crate::serial::serial_program;
+use crate::serial_program;
 use jade_base::{FaultKind, Memory, Pos, Report};
+use jade_list::sequence::Sequence;
 use jade_syntax::Name;
 use jade_syntax::tree::{
-    AndExpr, AndExprs, Atom, Block, CellRef, Compare, Compares, DeclareWord, Expr, Item, Items,
-    NameList, Number, ObjectRef, Product, Products, Program, Signs, Statement, Sum, Unaries, Unary,
+    AndExpr, Atom, Block, CellRef, Compare, DeclareWord, Expr, Item, Number, ObjectRef, Product,
+    ProductOp, Program, Statement, Sum, Unary,
 };
 use std::alloc::Global;
 use std::test::Fail;
 
-const PLACE: Pos = Pos { line: 1, column: 1 };
+const AT: Pos = Pos { line: 1, column: 1 };
 
-fn number(alloc: Global, value: i64) -> Expr {
-    let unary = Unary {
-        signs: Signs::empty(alloc),
-        atom: Atom::Whole(Number { value, pos: PLACE }),
+// What is compared of a report: the cells of all objects, the kinds of the faults, and the steps.
+#[derive(Drop)]
+struct Outcome {
+    cells: Vec<i64>,
+    faults: Vec<FaultKind>,
+    steps: Vec<u64>,
+}
+
+fn put<T: Drop>(list: &mut Sequence<T>, item: T) -> Result<(), Memory> {
+    match list.push(item) {
+        Ok(()) => Ok(()),
+        Err(_) => Err(Memory),
+    }
+}
+
+fn amount(value: i64) -> Number {
+    Number { value, pos: AT }
+}
+
+fn unary(alloc: Global, atom: Atom) -> Unary {
+    Unary {
+        signs: Sequence::empty(alloc),
+        atom,
+    }
+}
+
+fn expr(alloc: Global, product: Product) -> Expr {
+    let left = Sum {
+        first: product,
+        rest: Sequence::empty(alloc),
     };
-    let product = Product {
-        first: unary,
-        rest: Unaries::empty(alloc),
-    };
-    let compare = Compare {
-        left: Sum {
-            first: product,
-            rest: Products::empty(alloc),
-        },
-        right: None,
+    let compare = Compare { left, right: None };
+    let first = AndExpr {
+        first: compare,
+        rest: Sequence::empty(alloc),
     };
     Expr {
-        first: AndExpr {
-            first: compare,
-            rest: Compares::empty(alloc),
+        first,
+        rest: Sequence::empty(alloc),
+    }
+}
+
+fn value(alloc: Global, atom: Atom) -> Expr {
+    expr(
+        alloc,
+        Product {
+            first: unary(alloc, atom),
+            rest: Sequence::empty(alloc),
         },
-        rest: AndExprs::empty(alloc),
-    }
+    )
 }
 
-fn the_name(alloc: Global) -> Result<Name, Memory> {
-    match Name::of(alloc, b"s") {
-        Ok(name) => Ok(name),
-        Err(_) => Err(Memory),
-    }
+fn number(alloc: Global, number: i64) -> Expr {
+    value(alloc, Atom::Whole(amount(number)))
 }
 
-fn store(alloc: Global, cell: i64, value: i64) -> Result<Statement, Memory> {
-    let target = CellRef {
-        name: the_name(alloc)?,
-        pos: PLACE,
-        family: None,
-        cell: number(alloc, cell),
+fn variable(alloc: Global) -> Result<Expr, Fail> {
+    Ok(value(alloc, Atom::Named(Name::of(alloc, b"i")?, AT)))
+}
+
+fn quotient(alloc: Global, left: i64, right: i64) -> Result<Expr, Fail> {
+    let mut product = Product {
+        first: unary(alloc, Atom::Whole(amount(left))),
+        rest: Sequence::empty(alloc),
     };
+    put(
+        &mut product.rest,
+        (
+            ProductOp::Over,
+            AT,
+            unary(alloc, Atom::Whole(amount(right))),
+        ),
+    )?;
+    Ok(expr(alloc, product))
+}
+
+fn store(alloc: Global, cell: i64, value: Expr) -> Result<Statement, Fail> {
     Ok(Statement::Store {
-        target,
-        value: number(alloc, value),
+        target: CellRef {
+            name: Name::of(alloc, b"s")?,
+            pos: AT,
+            family: None,
+            cell: number(alloc, cell),
+        },
+        value,
     })
 }
 
-fn one(alloc: Global, statement: Statement) -> Result<Block, Memory> {
-    let mut block = Block::empty(alloc);
-    match block.push(statement) {
-        Ok(()) => Ok(block),
-        Err(_) => Err(Memory),
-    }
+fn declare(alloc: Global, word: DeclareWord) -> Result<Block, Fail> {
+    let mut section = Block::empty(alloc);
+    put(
+        &mut section,
+        Statement::Declare {
+            word,
+            pos: AT,
+            object: ObjectRef {
+                name: Name::of(alloc, b"s")?,
+                pos: AT,
+                member: None,
+            },
+        },
+    )?;
+    Ok(section)
 }
 
-fn declaration(alloc: Global) -> Result<Statement, Memory> {
-    let object = ObjectRef {
-        name: the_name(alloc)?,
-        pos: PLACE,
-        member: None,
-    };
-    Ok(Statement::Declare {
-        word: DeclareWord::Wr,
-        pos: PLACE,
-        object,
-    })
-}
-
-fn child(alloc: Global, section: Block, body: Block) -> Statement {
-    Statement::Withonly {
-        pos: PLACE,
-        section,
-        names: NameList::empty(alloc),
+fn child(alloc: Global, word: DeclareWord, statement: Statement) -> Result<Statement, Fail> {
+    let mut body = Block::empty(alloc);
+    put(&mut body, statement)?;
+    Ok(Statement::Withonly {
+        pos: AT,
+        section: declare(alloc, word)?,
+        names: Sequence::empty(alloc),
         body,
-    }
+    })
 }
 
-// `object s : 1`, and a `main` of one child, which stores a value to a cell of `s`.
-fn one_child(alloc: Global, declares: bool, cell: i64, value: i64) -> Result<Program, Memory>
+fn change(alloc: Global, word: DeclareWord) -> Result<Statement, Fail> {
+    Ok(Statement::With {
+        pos: AT,
+        section: declare(alloc, word)?,
+    })
+}
+
+fn count(alloc: Global, high: i64) -> Result<Statement, Fail> {
+    let mut body = Block::empty(alloc);
+    put(&mut body, store(alloc, 0, variable(alloc)?)?)?;
+    Ok(Statement::For {
+        name: Name::of(alloc, b"i")?,
+        pos: AT,
+        low: number(alloc, 0),
+        high: number(alloc, high),
+        body,
+    })
+}
+
+fn program(alloc: Global, main: Block) -> Result<Program, Memory>
     ensures inputs { IfOk result (λ p. input_names p.items ≡ []) }
-    ensures objects { IfOk result (λ p. length (sizes p.items) ≡ 1) }
+    ensures objects { IfOk result (λ p. length (sizes p.items) ≤ 4096) }
 {
-    let section = if declares {
-        one(alloc, declaration(alloc)?)?
-    } else {
-        Block::empty(alloc)
+    let name = match Name::of(alloc, b"s") {
+        Ok(name) => name,
+        Err(_) => return Err(Memory),
     };
-    let body = one(alloc, store(alloc, cell, value)?)?;
-    let main = one(alloc, child(alloc, section, body))?;
-    let items = one_object(alloc)?;
+    let mut items = Sequence::empty(alloc);
+    put_item(&mut items, name)?;
     Ok(Program { items, main })
 }
 
-fn one_object(alloc: Global) -> Result<Items, Memory>
-    ensures inputs { IfOk result (λ items. input_names items ≡ []) }
-    ensures objects { IfOk result (λ items. length (sizes items) ≡ 1) }
+fn put_item(items: &mut Sequence<Item>, name: Name) -> Result<(), Memory>
+    ensures { IfOk result (λ _. items.old ≡ [] → (input_names items.new ≡ []) × (length (sizes items.new) ≤ 4096)) }
 {
-    let mut items = Items::empty(alloc);
-    let item = Item::Single {
-        name: the_name(alloc)?,
-        pos: PLACE,
-        size: Number {
-            value: 1,
-            pos: PLACE,
-        },
-    };
-    match items.push(item) {
-        Ok(()) => Ok(items),
+    match items.push(Item::Single {
+        name,
+        pos: AT,
+        size: amount(2),
+    }) {
+        Ok(()) => Ok(()),
         Err(_) => Err(Memory),
     }
 }
 
-// The number in the first cell of the first object.
-fn first_cell(report: &Report) -> Option<i64> {
-    let cells = report.objects.as_slice().first()?;
-    cells.as_slice().first().copied()
+fn run_main(alloc: Global, main: Block, limit: u32) -> Result<Outcome, Fail> {
+    let program = program(alloc, main)?;
+    let report = serial_program(alloc, &program, &[], limit)?;
+    Ok(told(alloc, &report)?)
 }
 
-// The steps of a part.
-fn steps(report: &Report, part: usize) -> Option<u64> {
-    Some(report.steps.as_slice().get(part)?.steps)
-}
-
-// The kind of the first fault.
-fn fault(report: &Report) -> Option<FaultKind> {
-    Some(report.faults.as_slice().first()?.blame.kind)
+fn told(alloc: Global, report: &Report) -> Result<Outcome, Memory> {
+    let mut cells = Vec::new(alloc);
+    for object in report.objects.as_slice() {
+        for cell in object.as_slice() {
+            cells.push(*cell)?;
+        }
+    }
+    let mut faults = Vec::new(alloc);
+    for fault in report.faults.as_slice() {
+        faults.push(fault.blame.kind)?;
+    }
+    let mut steps = Vec::new(alloc);
+    for part in report.steps.as_slice() {
+        steps.push(part.steps)?;
+    }
+    Ok(Outcome {
+        cells,
+        faults,
+        steps,
+    })
 }
 
 #[test]
-fn runs_one_child(rt: HostRuntime) -> Result<(), Fail> {
+fn a_faulted_child_leaves_its_writes(rt: HostRuntime) -> Result<(), Fail> {
     let alloc = rt.alloc();
-    let cases = [
-        (true, 0, 100, 7, None, [Some(2), Some(1), Some(0)]),
-        (
-            false,
-            0,
-            100,
-            0,
-            Some(FaultKind::Right),
-            [Some(1), Some(1), Some(0)],
-        ),
-        (
-            true,
-            1,
-            100,
-            0,
-            Some(FaultKind::Index),
-            [Some(2), Some(1), Some(0)],
-        ),
-        (true, 0, 1, 0, Some(FaultKind::Limit), [Some(1), None, None]),
-    ];
-    for (declares, cell, limit, want, kind, parts) in cases {
-        let program = one_child(alloc, declares, cell, 7)?;
-        let report = serial_program(alloc, &program, &[], limit)?;
-        assert_eq!(rt; first_cell(&report), Some(want));
-        assert_eq!(rt; fault(&report), kind);
-        assert_eq!(rt;
-            [steps(&report, 0), steps(&report, 1), steps(&report, 2)],
-            parts
-        );
-    }
+    let mut body = Block::empty(alloc);
+    put(&mut body, count(alloc, 3)?)?;
+    let mut faulty = Block::empty(alloc);
+    put(&mut faulty, store(alloc, 1, quotient(alloc, -7, 2)?)?)?;
+    put(&mut faulty, store(alloc, 0, quotient(alloc, 7, 0)?)?)?;
+    put(
+        &mut body,
+        Statement::Withonly {
+            pos: AT,
+            section: declare(alloc, DeclareWord::Wr)?,
+            names: Sequence::empty(alloc),
+            body: faulty,
+        },
+    )?;
+    put(&mut body, count(alloc, 6)?)?;
+    let outcome = run_main(alloc, body, 100)?;
+    assert_eq!(rt; outcome.cells.as_slice(), [5, -3].as_slice());
+    assert_eq!(rt; outcome.faults.as_slice(), [FaultKind::Zero].as_slice());
+    assert_eq!(rt; outcome.steps.as_slice(), [9, 2, 13].as_slice());
+    Ok(())
+}
+
+#[test]
+fn rights_are_those_of_the_moment(rt: HostRuntime) -> Result<(), Fail> {
+    let alloc = rt.alloc();
+    let mut taken = Block::empty(alloc);
+    put(&mut taken, change(alloc, DeclareWord::NoWr)?)?;
+    put(
+        &mut taken,
+        child(alloc, DeclareWord::Wr, store(alloc, 0, number(alloc, 1))?)?,
+    )?;
+    let uncovered = run_main(alloc, taken, 100)?;
+    assert_eq!(rt; uncovered.faults.as_slice(), [FaultKind::Cover].as_slice());
+    assert_eq!(rt; uncovered.cells.as_slice(), [0, 0].as_slice());
+
+    let mut asking = Block::empty(alloc);
+    put(
+        &mut asking,
+        child(alloc, DeclareWord::Wr, change(alloc, DeclareWord::Rd)?)?,
+    )?;
+    let unchanged = run_main(alloc, asking, 100)?;
+    assert_eq!(rt; unchanged.faults.as_slice(), [FaultKind::Change].as_slice());
+
+    let mut deferred = Block::empty(alloc);
+    put(
+        &mut deferred,
+        child(
+            alloc,
+            DeclareWord::DfWr,
+            child(alloc, DeclareWord::Wr, store(alloc, 1, number(alloc, 4))?)?,
+        )?,
+    )?;
+    let covered = run_main(alloc, deferred, 100)?;
+    assert_eq!(rt; covered.faults.as_slice().len(), 0);
+    assert_eq!(rt; covered.cells.as_slice(), [0, 4].as_slice());
+    Ok(())
+}
+
+#[test]
+fn too_many_steps_end_a_task(rt: HostRuntime) -> Result<(), Fail> {
+    let alloc = rt.alloc();
+    let mut main = Block::empty(alloc);
+    put(&mut main, count(alloc, 10)?)?;
+    let outcome = run_main(alloc, main, 7)?;
+    assert_eq!(rt; outcome.cells.as_slice(), [2, 0].as_slice());
+    assert_eq!(rt; outcome.faults.as_slice(), [FaultKind::Limit].as_slice());
+    assert_eq!(rt; outcome.steps.as_slice(), [7].as_slice());
     Ok(())
 }

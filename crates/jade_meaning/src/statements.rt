@@ -231,11 +231,7 @@ impl<'c> Setting<'c> {
                 then,
                 otherwise,
             } => {
-                let holds = match self.value(task, &ledger.objects, test) {
-                    Ok(value) => value.holds(),
-                    Err(blame) => return Err(Stop::Fault(blame)),
-                };
-                if holds {
+                if self.value(task, &ledger.objects, test)?.holds() {
                     return self.scoped(then, path, task, ledger);
                 }
                 match otherwise {
@@ -250,14 +246,8 @@ impl<'c> Setting<'c> {
                 body,
                 ..
             } => {
-                let low = match self.value(task, &ledger.objects, low) {
-                    Ok(value) => value.whole(),
-                    Err(blame) => return Err(Stop::Fault(blame)),
-                };
-                let high = match self.value(task, &ledger.objects, high) {
-                    Ok(value) => value.whole(),
-                    Err(blame) => return Err(Stop::Fault(blame)),
-                };
+                let low = self.value(task, &ledger.objects, low)?.whole();
+                let high = self.value(task, &ledger.objects, high)?.whole();
                 self.turns(name, low, high, body, path, task, ledger)
             }
             Statement::Withonly {
@@ -266,29 +256,15 @@ impl<'c> Setting<'c> {
                 names,
                 body,
             } => {
-                match self.begin_building(task) {
-                    Ok(()) => {}
-                    Err(Memory) => return Err(Stop::Memory),
-                }
-                match self.scoped(section, path, task, ledger) {
-                    Ok(()) => {}
-                    Err(stop) => return Err(stop),
-                }
+                self.begin_building(task)?;
+                self.scoped(section, path, task, ledger)?;
                 self.create(*pos, names, body, path, task, ledger)
             }
             Statement::With { section, .. } => {
-                match self.begin_amending(task) {
-                    Ok(()) => {}
-                    Err(Memory) => return Err(Stop::Memory),
-                }
-                match self.scoped(section, path, task, ledger) {
-                    Ok(()) => {}
-                    Err(stop) => return Err(stop),
-                }
-                match self.end_amending(task) {
-                    Ok(()) => Ok(()),
-                    Err(Memory) => Err(Stop::Memory),
-                }
+                self.begin_amending(task)?;
+                self.scoped(section, path, task, ledger)?;
+                self.end_amending(task)?;
+                Ok(())
             }
             Statement::Declare { word, pos, object } => {
                 self.declare(*word, *pos, object, task, ledger)
