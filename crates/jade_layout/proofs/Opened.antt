@@ -1,13 +1,17 @@
 -- The tokens of a tree, opened one level.
 use Rattle.std.proofs.Common.{◌≡◌, ℕ, List, [], ◌∷◌, ◌++◌, refl, ap, ◌∙◌, Option, Some, None, codes, append-nil}
+use Rattle.std.specs.Prelude.{Box}
+use Rattle.std.specs.declared.alloc.Global.{Global}
 use Rattle.std.specs.List.{flat_map}
 use Rattle.std.proofs.lemmas.List.Folds.{flat_map-map}
 use Rattle.jade_base.specs.declared.place.Pos.{Pos}
-use Rattle.jade_syntax.specs.declared.tree.Atom.TheOpen.{CellRef-F}
-use Rattle.jade_syntax.specs.declared.tree.Atom.{Atom}
+use Rattle.jade_syntax.specs.declared.tree.Atom.TheOpen.{Atom-F, CellRef-F, Compare-F}
+use Rattle.jade_syntax.specs.declared.tree.Relation.{Relation}
+use Rattle.jade_syntax.specs.declared.tree.Atom.{Atom, out-Atom, fold_out-Atom, map-Atom}
+use Rattle.jade_syntax.specs.declared.tree.Atom.TheVariants.{Group, outs-Group}
 use Rattle.jade_syntax.specs.declared.tree.AndExpr.{AndExpr, out-AndExpr, fold_out-AndExpr}
 use Rattle.jade_syntax.specs.declared.tree.CellRef.{CellRef, out-CellRef, fold_out-CellRef, map-CellRef}
-use Rattle.jade_syntax.specs.declared.tree.Compare.{Compare}
+use Rattle.jade_syntax.specs.declared.tree.Compare.{Compare, out-Compare, fold_out-Compare, map-Compare}
 use Rattle.jade_syntax.specs.declared.tree.DeclareWord.{DeclareWord}
 use Rattle.jade_syntax.specs.declared.tree.Expr.{Expr, out-Expr, fold_out-Expr}
 use Rattle.jade_syntax.specs.declared.tree.Named.{Named}
@@ -22,7 +26,7 @@ use Rattle.jade_syntax.specs.declared.tree.SumOp.{SumOp}
 use Rattle.jade_syntax.specs.declared.tree.Unary.{Unary, fold_out-Unary}
 use Rattle.jade_syntax.specs.declared.tree.UnaryOp.{UnaryOp}
 use Rattle.jade_syntax.specs.declared.tree.ValueKind.{ValueKind}
-use Rattle.jade_layout.specs.Spelling.{Token, Tokens, expr_tokens, and_tokens, cell_tokens, sum_tokens, product_tokens, unary_tokens, atom_tokens, compare_tokens, at_atom, at_and, at_cell, at_compare, at_expr, at_product, at_sum, at_unary, bracketed, index_before, object_index as index_of, statement_tokens, block_tokens, at_statement, kind_word, declare_word, name_tokens, object_tokens, sum_sign, product_sign, unary_sign}
+use Rattle.jade_layout.specs.Spelling.{Token, Tokens, expr_tokens, and_tokens, cell_tokens, sum_tokens, product_tokens, unary_tokens, atom_tokens, compare_tokens, at_atom, at_and, at_cell, at_compare, at_expr, at_product, at_sum, at_unary, bracketed, index_before, object_index as index_of, statement_tokens, block_tokens, at_statement, kind_word, declare_word, name_tokens, object_tokens, sum_sign, product_sign, unary_sign, relation_sign}
 
 abbrev pub or_part : Pos × AndExpr → Tokens
 or_part p = codes "||" ∷ and_tokens p.1
@@ -53,6 +57,29 @@ product_opens e = fold_out-Product Tokens Tokens Tokens Tokens Tokens Tokens Tok
 
 pub unary_opens : (e : Unary) → unary_tokens e ≡ flat_map sign_part e.signs ++ atom_tokens e.atom
 unary_opens e = fold_out-Unary Tokens Tokens Tokens Tokens Tokens Tokens Tokens Tokens at_atom at_and at_cell at_compare at_expr at_product at_sum at_unary e
+
+-- the second operand of a comparison
+abbrev pub second_part : Option (Relation × Pos × Sum) → Tokens
+second_part None = []
+second_part (Some r) = relation_sign r.0 ∷ sum_tokens r.2
+
+abbrev compare_layer : Compare-F Atom AndExpr CellRef Compare Expr Product Sum Unary → Tokens
+compare_layer f = at_compare (map-Compare Atom AndExpr CellRef Compare Expr Product Sum Unary Tokens Tokens Tokens Tokens Tokens Tokens Tokens Tokens
+    atom_tokens and_tokens cell_tokens compare_tokens expr_tokens product_tokens sum_tokens unary_tokens f)
+
+compare_layer_is : (l : Sum) (r : Option (Relation × Pos × Sum)) → compare_layer (record { left = l; right = r }) ≡ sum_tokens l ++ second_part r
+compare_layer_is l None = refl
+compare_layer_is l (Some r) = refl
+
+pub compare_opens : (e : Compare) → compare_tokens e ≡ sum_tokens (out-Compare e).left ++ second_part (out-Compare e).right
+compare_opens e = fold_out-Compare Tokens Tokens Tokens Tokens Tokens Tokens Tokens Tokens at_atom at_and at_cell at_compare at_expr at_product at_sum at_unary e ∙ compare_layer_is _ _
+
+abbrev atom_layer : Atom-F Atom AndExpr CellRef Compare Expr Product Sum Unary → Tokens
+atom_layer f = at_atom (map-Atom Atom AndExpr CellRef Compare Expr Product Sum Unary Tokens Tokens Tokens Tokens Tokens Tokens Tokens Tokens
+    atom_tokens and_tokens cell_tokens compare_tokens expr_tokens product_tokens sum_tokens unary_tokens f)
+
+pub group_opens : (p : Pos) (b : Box Expr Global) → atom_tokens (Group p b) ≡ codes "(" ∷ (expr_tokens b.value ++ codes ")" ∷ [])
+group_opens p b = fold_out-Atom Tokens Tokens Tokens Tokens Tokens Tokens Tokens Tokens at_atom at_and at_cell at_compare at_expr at_product at_sum at_unary (Group p b) ∙ ap atom_layer (outs-Group p b)
 
 abbrev Layer : Type 0
 Layer = CellRef-F Atom AndExpr CellRef Compare Expr Product Sum Unary

@@ -4,7 +4,7 @@ use Rattle.jade_syntax.specs.declared.tree.Expr.{out-Expr}
 use Rattle.jade_syntax.specs.declared.tree.AndExpr.{out-AndExpr}
 use Rattle.jade_syntax.specs.declared.tree.Sum.{out-Sum}
 use Rattle.jade_syntax.specs.declared.tree.Product.{out-Product}
-use Rattle.jade_layout.proofs.Opened.{or_part, and_part, sum_part, product_part, sign_part, expr_opens, and_opens, sum_opens, product_opens, unary_opens, cell_opens}
+use Rattle.jade_layout.proofs.Opened.{or_part, and_part, sum_part, product_part, sign_part, expr_opens, and_opens, sum_opens, product_opens, unary_opens, cell_opens, compare_opens, group_opens}
 use Rattle.jade_layout.proofs.Adding.{after, more, all}
 use Rattle.jade_layout.proofs.expressions.+expr.Goals as goal
 
@@ -53,3 +53,16 @@ pub put_cell-returns : goal.put_cell-returns
 put_cell-returns t c =
     rw (cell_opens c.args.e.now)
     (on_ok_weaker _ (λ last. after c.in_ok-put_name.ensures (after c.in_ok-put_member.ensures last)) c.put_index.ensures)
+
+pub put_index-returns : goal.put_index-returns
+put_index-returns t c = on_ok_weaker _ (λ last. after c.in_ok-put.ensures (after c.in_ok-put_expr.ensures last)) c.put-2.ensures
+
+pub put_compare-returns-in_ok-put_relation-in-Some : goal.put_compare-returns-in_ok-put_relation-in-Some
+put_compare-returns-in_ok-put_relation-in-Some t c =
+    rw (compare_opens c.args.e.now, c.in-Some.is)
+    (on_ok_weaker _ (λ last. after c.in_ok-put_sum.ensures (after c.in_ok-put_relation-in-Some.ensures last)) c.put_sum-in-Some.ensures)
+
+pub put_atom-returns-in_ok-put_expr-in-Group : goal.put_atom-returns-in_ok-put_expr-in-Group
+put_atom-returns-in_ok-put_expr-in-Group t c =
+    rw (c.in-Group.is, group_opens c.in-Group.field-0 c.in-Group.inner)
+    (on_ok_weaker _ (λ last. after c.in_ok-put-in-Group.ensures (after (rw c.deref.ensures at c.in_ok-put_expr-in-Group.ensures) last)) c.put-in-Group.ensures)
