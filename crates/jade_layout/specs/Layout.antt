@@ -10,9 +10,11 @@ use Rattle.jade_layout.specs.Spelling.{Token, Tokens}
 abbrev pub is_among : Tokens → Token → Bool
 is_among ts t = list_any (same_name t) ts
 
+-- the token is `{`
 abbrev pub opens_block : Token → Bool
 opens_block t = same_name t (codes "{")
 
+-- the token is `}`
 abbrev pub closes_block : Token → Bool
 closes_block t = same_name t (codes "}")
 

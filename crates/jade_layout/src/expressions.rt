@@ -105,9 +105,9 @@ pub(crate) fn put_expr(printer: &mut Printer, e: &Expr) -> Result<(), Memory>
 {
     put_and(printer, &e.first)?;
     for i in 0..e.rest.len() {
-        let (_, a) = e.rest.at(i);
+        let (_, conjunction) = e.rest.at(i);
         printer.put(b"||")?;
-        put_and(printer, a)?;
+        put_and(printer, conjunction)?;
     }
     Ok(())
 }
@@ -118,9 +118,9 @@ pub(crate) fn put_and(printer: &mut Printer, e: &AndExpr) -> Result<(), Memory>
 {
     put_compare(printer, &e.first)?;
     for i in 0..e.rest.len() {
-        let (_, a) = e.rest.at(i);
+        let (_, comparison) = e.rest.at(i);
         printer.put(b"&&")?;
-        put_compare(printer, a)?;
+        put_compare(printer, comparison)?;
     }
     Ok(())
 }
@@ -145,9 +145,9 @@ pub(crate) fn put_sum(printer: &mut Printer, e: &Sum) -> Result<(), Memory>
 {
     put_product(printer, &e.first)?;
     for i in 0..e.rest.len() {
-        let (op, _, a) = e.rest.at(i);
+        let (op, _, product) = e.rest.at(i);
         put_sum_sign(printer, *op)?;
-        put_product(printer, a)?;
+        put_product(printer, product)?;
     }
     Ok(())
 }
@@ -158,9 +158,9 @@ pub(crate) fn put_product(printer: &mut Printer, e: &Product) -> Result<(), Memo
 {
     put_unary(printer, &e.first)?;
     for i in 0..e.rest.len() {
-        let (op, _, a) = e.rest.at(i);
+        let (op, _, factor) = e.rest.at(i);
         put_product_sign(printer, *op)?;
-        put_unary(printer, a)?;
+        put_unary(printer, factor)?;
     }
     Ok(())
 }
