@@ -2,7 +2,7 @@ use crate::print_program;
 use jade_base::{Memory, Pos};
 use jade_list::sequence::Sequence;
 use jade_syntax::tree::{
-    AndExpr, Atom, Compare, Expr, Number, Product, Program, Relation, Statement, Sum, Unary,
+    AndExpr, Atom, Block, Compare, Expr, Number, Product, Program, Relation, Statement, Sum, Unary,
     UnaryOp, ValueKind,
 };
 use jade_syntax::{Name, read_small};
@@ -59,33 +59,45 @@ fn expression(alloc: Global, left: Sum, right: Option<(Relation, Pos, Sum)>) -> 
     }
 }
 
-/// `main { if 1 < 2 { int a = -1; } else { } }`
-fn branching(alloc: Global) -> Result<Program, Memory> {
-    let name = match Name::of(alloc, b"a") {
-        Ok(name) => name,
-        Err(_) => return Err(Memory),
-    };
-    let local = Statement::Local {
-        kind: ValueKind::Int,
-        name,
-        pos: AT,
-        value: expression(alloc, signed(alloc, true, 1)?, None),
-    };
-    let mut then = Sequence::empty(alloc);
-    if then.push(local).is_err() {
-        return Err(Memory);
+/// A block of one statement.
+fn block_of(alloc: Global, statement: Statement) -> Result<Block, Memory> {
+    let mut block = Sequence::empty(alloc);
+    match block.push(statement) {
+        Ok(()) => Ok(block),
+        Err(_) => Err(Memory),
     }
+}
+
+/// `int a = -1;`
+fn local(alloc: Global) -> Result<Statement, Memory> {
+    let value = expression(alloc, signed(alloc, true, 1)?, None);
+    match Name::of(alloc, b"a") {
+        Ok(name) => Ok(Statement::Local {
+            kind: ValueKind::Int,
+            name,
+            pos: AT,
+            value,
+        }),
+        Err(_) => Err(Memory),
+    }
+}
+
+/// `1 < 2`
+fn less(alloc: Global) -> Result<Expr, Memory> {
     let left = signed(alloc, false, 1)?;
     let right = signed(alloc, false, 2)?;
+    Ok(expression(alloc, left, Some((Relation::Less, AT, right))))
+}
+
+/// `main { if 1 < 2 { int a = -1; } else { } }`
+fn branching(alloc: Global) -> Result<Program, Memory> {
+    let then = block_of(alloc, local(alloc)?)?;
     let choice = Statement::If {
-        test: expression(alloc, left, Some((Relation::Less, AT, right))),
+        test: less(alloc)?,
         then,
         otherwise: Some(Sequence::empty(alloc)),
     };
-    let mut main = Sequence::empty(alloc);
-    if main.push(choice).is_err() {
-        return Err(Memory);
-    }
+    let main = block_of(alloc, choice)?;
     Ok(Program {
         items: Sequence::empty(alloc),
         main,
@@ -96,8 +108,7 @@ fn branching(alloc: Global) -> Result<Program, Memory> {
 fn prints_a_choice(rt: HostRuntime) -> Result<(), Fail> {
     match branching(rt.alloc()) {
         Ok(program) => match print_program(rt.alloc(), &program) {
-            Ok(printed) => assert_eq!(
-                rt;
+            Ok(printed) => assert_eq!(rt;
                 printed.as_slice(),
                 b"main {\n    if 1 < 2 {\n        int a = -1;\n    } else { }\n}\n".as_slice()
             ),
