@@ -1,5 +1,5 @@
 -- Tokens laid out one after another.
-use Rattle.std.proofs.Common.{◌≡◌, ℕ, zero, suc, ◌+◌, ◌≤◌, List, [], ◌∷◌, ◌++◌, Option, Some, refl, ap, ◌∙◌, take, length, arith, append_assoc, append-nil, codes}
+use Rattle.std.proofs.Common.{◌≡◌, ℕ, zero, suc, ◌+◌, ◌≤◌, List, [], ◌∷◌, ◌++◌, Some, refl, ap, ◌∙◌, take, length, arith, append_assoc, append-nil, codes}
 use Rattle.std.specs.List.{flat_map, slice_get}
 use Rattle.std.proofs.lemmas.List.{take_all, take_more}
 use Rattle.std.proofs.lemmas.List.Concat.{flat_map-append}
@@ -7,7 +7,7 @@ use Rattle.std.proofs.lemmas.Option.{slice_get_within, get_or_from_slice_get}
 use Rattle.jade_syntax.specs.declared.tree.Named.{Named}
 use Rattle.jade_syntax.specs.declared.tree.Statement.{Statement}
 use Rattle.jade_layout.specs.Spelling.{Token, Tokens, statement_tokens, name_tokens}
-use Rattle.jade_layout.specs.Layout.{layout, follows, gap, indent, is_sign, depth_after}
+use Rattle.jade_layout.specs.Layout.{layout, follows, indent}
 use Rattle.jade_layout.specs.Printed.{Printed, blank, with_token, with_tokens, Adds}
 
 with_both : (p : Printed) (a b : Tokens) → with_tokens p (a ++ b) ≡ with_tokens (with_tokens p a) b

@@ -7,7 +7,7 @@ use Rattle.std.proofs.lemmas.List.Folds.{flat_map-map}
 use Rattle.jade_base.specs.declared.place.Pos.{Pos}
 use Rattle.jade_syntax.specs.declared.tree.Atom.TheOpen.{Atom-F, CellRef-F, Compare-F}
 use Rattle.jade_syntax.specs.declared.tree.Relation.{Relation}
-use Rattle.jade_syntax.specs.declared.tree.Atom.{Atom, out-Atom, fold_out-Atom, map-Atom}
+use Rattle.jade_syntax.specs.declared.tree.Atom.{Atom, fold_out-Atom, map-Atom}
 use Rattle.jade_syntax.specs.declared.tree.Atom.TheVariants.{Group, outs-Group}
 use Rattle.jade_syntax.specs.declared.tree.AndExpr.{AndExpr, out-AndExpr, fold_out-AndExpr}
 use Rattle.jade_syntax.specs.declared.tree.CellRef.{CellRef, out-CellRef, fold_out-CellRef, map-CellRef}
@@ -26,7 +26,7 @@ use Rattle.jade_syntax.specs.declared.tree.SumOp.{SumOp}
 use Rattle.jade_syntax.specs.declared.tree.Unary.{Unary, fold_out-Unary}
 use Rattle.jade_syntax.specs.declared.tree.UnaryOp.{UnaryOp}
 use Rattle.jade_syntax.specs.declared.tree.ValueKind.{ValueKind}
-use Rattle.jade_layout.specs.Spelling.{Token, Tokens, expr_tokens, and_tokens, cell_tokens, sum_tokens, product_tokens, unary_tokens, atom_tokens, compare_tokens, at_atom, at_and, at_cell, at_compare, at_expr, at_product, at_sum, at_unary, bracketed, index_before, object_index as index_of, statement_tokens, block_tokens, at_statement, kind_word, declare_word, name_tokens, object_tokens, sum_sign, product_sign, unary_sign, relation_sign}
+use Rattle.jade_layout.specs.Spelling.{Tokens, expr_tokens, and_tokens, cell_tokens, sum_tokens, product_tokens, unary_tokens, atom_tokens, compare_tokens, at_atom, at_and, at_cell, at_compare, at_expr, at_product, at_sum, at_unary, bracketed, object_index as index_of, statement_tokens, block_tokens, at_statement, kind_word, declare_word, name_tokens, object_tokens, sum_sign, product_sign, unary_sign, relation_sign}
 
 abbrev pub or_part : Pos × AndExpr → Tokens
 or_part p = codes "||" ∷ and_tokens p.1

@@ -1,7 +1,7 @@
 use Rattle.std.proofs.Common.{arith}
 use Rattle.std.proofs.lemmas.Result.{on_ok_weaker}
 use Rattle.jade_layout.specs.Spelling.{statement_tokens}
-use Rattle.jade_layout.proofs.Opened.{statement_opens, local_is, assign_is, store_is, declare_is, if_none, if_some, for_is, withonly_is, with_is}
+use Rattle.jade_layout.proofs.Opened.{local_is, assign_is, store_is, declare_is, if_none, if_some, for_is, withonly_is, with_is}
 use Rattle.jade_layout.proofs.Adding.{after, arm, more, all}
 use Rattle.jade_layout.proofs.statements.+statement.Goals as goal
 

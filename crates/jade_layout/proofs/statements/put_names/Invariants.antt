@@ -1,4 +1,4 @@
-use Rattle.std.proofs.Common.{◌≡◌, ◌++◌, take}
+use Rattle.std.proofs.Common.{take}
 use Rattle.jade_layout.specs.Printed.{Adds}
 use Rattle.jade_layout.specs.Spelling.{name_tokens}
 use Rattle.jade_layout.proofs.statements.put_names.Given as goal
