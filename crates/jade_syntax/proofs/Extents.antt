@@ -1,7 +1,5 @@
 -- The extent of a tree, one level opened.
-use Rattle.std.proofs.Common.{◌≡◌, ℕ, List, [], ◌∷◌, map, length, Option, Some, None, refl, ap, sym, ◌∙◌}
-use Rattle.std.specs.Prelude.{Box}
-use Rattle.std.specs.declared.alloc.Global.{Global}
+use Rattle.std.proofs.Common.{◌≡◌, ℕ, List, map, length, Option, Some, None, refl, ap, sym, ◌∙◌}
 use Rattle.std.proofs.lemmas.Simd.{map-map}
 use Rattle.jade_base.specs.declared.place.Pos.{Pos}
 use Rattle.jade_syntax.specs.declared.shapes.extent.Extent.{Extent}
@@ -19,9 +17,8 @@ use Rattle.jade_syntax.specs.declared.tree.Statement.TheOpen.{Statement-F}
 use Rattle.jade_syntax.specs.declared.tree.Sum.{Sum, out-Sum, fold_out-Sum}
 use Rattle.jade_syntax.specs.declared.tree.SumOp.{SumOp}
 use Rattle.jade_syntax.specs.declared.tree.Unary.{Unary, fold_out-Unary}
-use Rattle.jade_syntax.specs.declared.tree.UnaryOp.{UnaryOp}
 use Rattle.jade_syntax.specs.Measured.{capped, Measures}
-use Rattle.jade_syntax.specs.Shapes.{nothing, signs, name_extent, number_extent, ◌⊕◌, all_of, in_brackets, at_atom, at_and, at_cell, at_compare, at_expr, at_product, at_sum, at_unary, expr_extent, and_extent, compare_extent, sum_extent, product_extent, unary_extent, atom_extent, cell_extent, inner_index, outermost, target_extent, object_extent, names_extent, block_extent, statement_extent, at_statement}
+use Rattle.jade_syntax.specs.Shapes.{nothing, signs, name_extent, ◌⊕◌, all_of, in_brackets, at_atom, at_and, at_cell, at_compare, at_expr, at_product, at_sum, at_unary, expr_extent, and_extent, compare_extent, sum_extent, product_extent, unary_extent, atom_extent, cell_extent, inner_index, outermost, target_extent, object_extent, names_extent, block_extent, statement_extent, at_statement}
 
 abbrev pub or_link : Pos × AndExpr → Extent
 or_link p = signs 1 ⊕ and_extent p.1

@@ -29,7 +29,6 @@ use Rattle.jade_syntax.specs.Abstract.{Name}
 use Rattle.jade_syntax.specs.Names.{is_name}
 
 infixl 60 ◌⊕◌
-
 -- the words that a child's section declares with
 abbrev pub declares_child : DeclareWord → Bool
 declares_child Rd = true

@@ -152,20 +152,28 @@ fn statement_extent(statement: &Statement) -> Extent
 {
     match statement {
         Statement::Local { name, value, .. } => {
-            Extent::signs(3).then(Extent::name(name)).then(outermost(value))
+            Extent::signs(3)
+                .then(Extent::name(name))
+                .then(outermost(value))
         }
         Statement::Assign { name, value, .. } => {
-            Extent::signs(2).then(Extent::name(name)).then(outermost(value))
+            Extent::signs(2)
+                .then(Extent::name(name))
+                .then(outermost(value))
         }
         Statement::Store { target, value } => {
-            Extent::signs(2).then(target_extent(target)).then(outermost(value))
+            Extent::signs(2)
+                .then(target_extent(target))
+                .then(outermost(value))
         }
         Statement::If {
             test,
             then,
             otherwise,
         } => {
-            let first = Extent::signs(1).then(outermost(test)).then(block_extent(then));
+            let first = Extent::signs(1)
+                .then(outermost(test))
+                .then(block_extent(then));
             match otherwise {
                 None => first.then(Extent::nothing()),
                 Some(block) => first.then(Extent::signs(1).then(block_extent(block))),
@@ -179,7 +187,10 @@ fn statement_extent(statement: &Statement) -> Extent
             body,
         } => {
             let named = Extent::signs(3).then(Extent::name(name));
-            named.then(outermost(low)).then(outermost(high)).then(block_extent(body))
+            named
+                .then(outermost(low))
+                .then(outermost(high))
+                .then(block_extent(body))
         }
         Statement::Withonly {
             pos: _,
@@ -188,7 +199,10 @@ fn statement_extent(statement: &Statement) -> Extent
             body,
         } => {
             let handed = names_extent(names).in_brackets();
-            Extent::signs(2).then(block_extent(section)).then(handed).then(block_extent(body))
+            Extent::signs(2)
+                .then(block_extent(section))
+                .then(handed)
+                .then(block_extent(body))
         }
         Statement::With { section, .. } => Extent::signs(3).then(block_extent(section)),
         Statement::Declare { object, .. } => {
@@ -214,7 +228,9 @@ fn item_extent(item: &Item) -> Extent
     match item {
         Item::Input { name, .. } => Extent::signs(2).then(Extent::name(name)),
         Item::Single { name, size, .. } => {
-            Extent::signs(3).then(Extent::name(name)).then(Extent::number(size))
+            Extent::signs(3)
+                .then(Extent::name(name))
+                .then(Extent::number(size))
         }
         Item::Family {
             name,
@@ -223,7 +239,10 @@ fn item_extent(item: &Item) -> Extent
             size,
         } => {
             let members = Extent::number(count).in_brackets();
-            Extent::signs(3).then(Extent::name(name)).then(members).then(Extent::number(size))
+            Extent::signs(3)
+                .then(Extent::name(name))
+                .then(members)
+                .then(Extent::number(size))
         }
     }
 }

@@ -1,9 +1,8 @@
-use Rattle.std.proofs.Common.{arith}
 use Rattle.jade_syntax.specs.Shapes.{statement_extent}
 use Rattle.jade_syntax.specs.declared.tree.Statement.TheVariants.{outs-Store, outs-Declare, outs-For, outs-Withonly, outs-With}
 use Rattle.jade_syntax.proofs.Extents.{extent_arm}
 use Rattle.jade_syntax.proofs.Placing.{if_outs}
-use Rattle.jade_syntax.proofs.Measuring.{more, all_end}
+use Rattle.jade_syntax.proofs.Measuring.{more}
 use Rattle.jade_syntax.proofs.shapes.measure.+blocks.Goals as goal
 
 pub block_extent-loop-i-preserved : goal.block_extent-loop-i-preserved

@@ -1,7 +1,6 @@
-use Rattle.std.proofs.Common.{arith}
 use Rattle.jade_syntax.specs.Shapes.{name_extent}
 use Rattle.jade_syntax.specs.declared.tree.Named.{Named}
-use Rattle.jade_syntax.proofs.Measuring.{more, all_end}
+use Rattle.jade_syntax.proofs.Measuring.{more}
 use Rattle.jade_syntax.proofs.shapes.measure.names_extent.Goals as goal
 
 pub loop-i-preserved : goal.loop-i-preserved

@@ -1,6 +1,5 @@
-use Rattle.std.proofs.Common.{arith}
 use Rattle.jade_syntax.specs.Shapes.{item_extent}
-use Rattle.jade_syntax.proofs.Measuring.{more, all_end}
+use Rattle.jade_syntax.proofs.Measuring.{more}
 use Rattle.jade_syntax.proofs.shapes.measure.program_extent.Goals as goal
 
 pub loop-i-preserved : goal.loop-i-preserved
