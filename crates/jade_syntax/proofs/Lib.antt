@@ -1,10 +1,13 @@
 pub mod Alone
 pub mod BuiltTree
 pub mod Digits
+pub mod Extents
 pub mod Going
 pub mod Limits
 pub mod Made
+pub mod Measuring
 pub mod Parts
+pub mod Placing
 pub mod Resolve
 pub mod Same
 pub mod Standing

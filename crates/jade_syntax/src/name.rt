@@ -65,14 +65,15 @@ impl Name {
     }
 }
 
-/// Whether two names are the same.
-pub(crate) fn same_name(first: &[u8], second: &[u8]) -> bool
+/// Whether two names are the same. It takes no memory.
+pub fn same_name(first: &[u8], second: &[u8]) -> bool
     ensures { result ≡ same_name first.now second.now }
 {
     first == second
 }
 
-fn is_letter(byte: u8) -> bool
+/// Whether a word may begin with a byte.
+pub fn is_letter(byte: u8) -> bool
     ensures { result ≡ is_letter byte }
 {
     byte.is_ascii_alphabetic() || byte == b'_'
@@ -99,7 +100,8 @@ fn is_spelled(bytes: &[u8]) -> bool
     }
 }
 
-fn is_item_word(bytes: &[u8]) -> bool
+/// Whether some bytes are a word of items and of values.
+pub fn is_item_word(bytes: &[u8]) -> bool
     ensures { result ≡ list_any (same_name bytes.now) item_words }
 {
     same_name(bytes, b"input")
@@ -112,7 +114,8 @@ fn is_item_word(bytes: &[u8]) -> bool
         || same_name(bytes, b"false")
 }
 
-fn is_statement_word(bytes: &[u8]) -> bool
+/// Whether some bytes are a word of statements.
+pub fn is_statement_word(bytes: &[u8]) -> bool
     ensures { result ≡ list_any (same_name bytes.now) statement_words }
 {
     same_name(bytes, b"if")
@@ -126,7 +129,8 @@ fn is_statement_word(bytes: &[u8]) -> bool
         || same_name(bytes, b"proc")
 }
 
-fn is_declare_word(bytes: &[u8]) -> bool
+/// Whether some bytes are a word of declarations.
+pub fn is_declare_word(bytes: &[u8]) -> bool
     ensures { result ≡ list_any (same_name bytes.now) declare_words }
 {
     same_name(bytes, b"rd")
@@ -141,11 +145,16 @@ fn is_declare_word(bytes: &[u8]) -> bool
         || same_name(bytes, b"no_rd_wr")
 }
 
-/// Whether some bytes are a name.
-pub(crate) fn is_name(bytes: &[u8]) -> bool
+/// Whether some bytes are a word that the language keeps for itself. It takes no memory.
+pub fn is_reserved(bytes: &[u8]) -> bool
+    ensures { result ≡ is_reserved bytes.now }
+{
+    is_item_word(bytes) || is_statement_word(bytes) || is_declare_word(bytes)
+}
+
+/// Whether some bytes are a name. It takes no memory.
+pub fn is_name(bytes: &[u8]) -> bool
     ensures { result ≡ is_name bytes.now }
 {
-    bytes.len() <= NAME_LIMIT
-        && is_spelled(bytes)
-        && !(is_item_word(bytes) || is_statement_word(bytes) || is_declare_word(bytes))
+    bytes.len() <= NAME_LIMIT && is_spelled(bytes) && !is_reserved(bytes)
 }
