@@ -1,3 +1,5 @@
 pub mod Adding
+pub mod Apart
 pub mod Laying
 pub mod Opened
+pub mod Reading
