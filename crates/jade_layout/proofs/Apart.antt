@@ -10,7 +10,7 @@ use Rattle.jade_lexer.specs.Cut.{IsLongest, IsSound}
 use Rattle.jade_layout.specs.Spelling.{Token}
 
 -- what no byte of a list has, none that is among them has
-among_not : (f : ℕ → Bool) (cs : List ℕ) → list_all (λ x. not (f x)) cs ≡ true → (c : ℕ) → list_any (λ x. eqb x c) cs ≡ true → f c ≡ false
+pub among_not : (f : ℕ → Bool) (cs : List ℕ) → list_all (λ x. not (f x)) cs ≡ true → (c : ℕ) → list_any (λ x. eqb x c) cs ≡ true → f c ≡ false
 among_not f [] none c h = absurd (true≢false (sym h))
 among_not f (x ∷ cs) none c h =
     let p = and_parts (not (f x)) (list_all (λ y. not (f y)) cs) none in

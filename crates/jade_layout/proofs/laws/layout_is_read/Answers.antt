@@ -1,4 +1,5 @@
 use Rattle.jade_layout.specs.Layout.{layout}
+use Rattle.jade_layout.proofs.Trees.{expr_fine}
 use Rattle.jade_layout.proofs.Reading.{layout_is_cut, reads_as}
 use Rattle.jade_layout.proofs.laws.layout_is_read.Goals as goal
 
