@@ -1,5 +1,6 @@
 pub mod Adding
 pub mod Apart
+pub mod Blocks
 pub mod Fine
 pub mod Goes
 pub mod Laying
