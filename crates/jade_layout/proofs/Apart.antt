@@ -1,12 +1,12 @@
 -- Where a token ends.
-use Rattle.std.proofs.Common.{◌≡◌, ℕ, zero, suc, ◌+◌, ◌-◌, ◌<◌, ◌≤◌, Bool, true, false, not, ◌&&◌, ◌||◌, List, [], ◌∷◌, ◌++◌, length, take, get_or, codes, refl, sym, ap, ◌∙◌, ⊎_elim, arith, length-append}
-use Rattle.std.proofs.Math.Dec.{eqb, leb}
+use Rattle.std.proofs.Common.{◌≡◌, ℕ, zero, suc, ◌-◌, ◌<◌, Bool, true, false, not, ◌&&◌, ◌||◌, List, [], ◌∷◌, ◌++◌, length, take, get_or, codes, refl, sym, ap, ◌∙◌, ⊎_elim, arith}
+use Rattle.std.proofs.Math.Dec.{eqb}
 use Rattle.std.specs.List.{list_any, list_all}
 use Rattle.std.specs.Char.{is_ascii_digit}
-use Rattle.std.proofs.lemmas.Bool.{cases_Bool, and_from, and_left, and_right, and_parts, or_from, or_cases, eqb-true, true≢false, not-true, false_from_ne_true}
-use Rattle.jade_lexer.specs.Alphabet.{is_separator, is_letter, is_word_byte, is_single, is_pair, is_symbol, is_word, is_run, is_token, is_number, is_opener}
+use Rattle.std.proofs.lemmas.Bool.{cases_Bool, and_left, and_right, and_parts, or_from, or_cases, eqb-true, true≢false, not-true, false_from_ne_true}
+use Rattle.jade_lexer.specs.Alphabet.{is_separator, is_letter, is_word_byte, is_single, is_pair, is_symbol, is_word, is_run, is_token}
 use Rattle.jade_lexer.specs.Reading.{begins_comment}
-use Rattle.jade_lexer.specs.Cut.{IsLongest, IsSound}
+use Rattle.jade_lexer.specs.Cut.{IsLongest}
 use Rattle.jade_layout.specs.Spelling.{Token}
 
 -- what no byte of a list has, none that is among them has

@@ -1,9 +1,8 @@
 -- The tokens of a shaped program are readable.
-use Rattle.std.proofs.Common.{◌≡◌, ℕ, ◌+◌, ◌≤◌, max, Bool, true, false, ◌&&◌, List, [], ◌∷◌, ◌++◌, map, length, Option, Some, None, codes, refl, sym, ap, subst, ◌∙◌, arith, append_assoc, append-nil}
+use Rattle.std.proofs.Common.{◌≡◌, ℕ, max, true, false, ◌&&◌, List, [], ◌∷◌, ◌++◌, map, Option, Some, None, codes, refl, sym, ap, subst, ◌∙◌, arith, append_assoc, append-nil}
 use Rattle.std.proofs.Math.Dec.{leb}
 use Rattle.std.specs.List.{flat_map, list_all}
 use Rattle.std.proofs.lemmas.Bool.{and_parts, leb-true}
-use Rattle.jade_base.specs.declared.place.Pos.{Pos}
 use Rattle.jade_syntax.specs.declared.shapes.extent.Extent.{Extent}
 use Rattle.jade_syntax.specs.declared.shapes.place.Place.TheVariants.{Main}
 use Rattle.jade_syntax.specs.declared.tree.ValueKind.{ValueKind}
@@ -20,11 +19,11 @@ use Rattle.jade_syntax.specs.declared.tree.Statement.{Statement, map-Statement, 
 use Rattle.jade_syntax.specs.declared.tree.Statement.TheOpen.{Statement-F}
 use Rattle.jade_syntax.specs.declared.tree.Program.{Program}
 use Rattle.jade_syntax.specs.Names.{is_name}
-use Rattle.jade_syntax.specs.Shapes.{◌⊕◌, nothing as no_extent, signs, all_of, in_brackets, name_extent, number_extent, expr_extent, limited, outermost, outer_index, target_extent, object_extent, names_extent, braced as braced_extent, other_extent, at_statement as e_statement, statement_extent, block_extent, item_extent, program_extent, is_placed, is_within, is_shaped}
-use Rattle.jade_layout.specs.Spelling.{Token, Tokens, kind_word, declare_word, number_token, bracketed, expr_tokens, cell_tokens, object_index, object_tokens, braced, more_names, name_tokens, else_tokens, at_statement, statement_tokens, block_tokens, item_tokens, spelling}
+use Rattle.jade_syntax.specs.Shapes.{◌⊕◌, signs, all_of, in_brackets, name_extent, limited, outermost, outer_index, target_extent, object_extent, names_extent, braced as braced_extent, at_statement as e_statement, statement_extent, item_extent, program_extent, is_placed, is_within, is_shaped}
+use Rattle.jade_layout.specs.Spelling.{Token, Tokens, kind_word, declare_word, expr_tokens, cell_tokens, object_index, object_tokens, braced, more_names, name_tokens, at_statement, statement_tokens, item_tokens, spelling}
 use Rattle.jade_layout.specs.Readable.{is_readable}
 use Rattle.jade_layout.proofs.Opened.{cell_opens}
-use Rattle.jade_layout.proofs.Goes.{Goes, GoesOn, on, wider, wider_on, nothing, join, join_on, plain, is_plain, mark, round, curly, name_plain}
+use Rattle.jade_layout.proofs.Goes.{GoesOn, on, wider, nothing, join, join_on, plain, is_plain, mark, round, curly, name_plain}
 use Rattle.jade_layout.proofs.Fine.{Fine, FineOn, fine_on, fine_join, fine_join_on, fine_nothing, fine_regroup, fine_all, IsMark, fine_number, fine_name, fine_bracketed}
 use Rattle.jade_layout.proofs.Trees.{expr_fine}
 

@@ -1,6 +1,5 @@
 -- What is spelled of a shaped tree goes on being readable.
-use Rattle.std.proofs.Common.{◌≡◌, ℕ, ◌+◌, ◌≤◌, max, Bool, true, false, ◌&&◌, List, [], ◌∷◌, ◌++◌, map, length, Option, Some, None, ℤ, pos, negsuc, codes, refl, sym, ap, ◌∙◌, arith, append-nil}
-use Rattle.std.proofs.Math.Dec.{leb}
+use Rattle.std.proofs.Common.{◌≡◌, ℕ, max, Bool, true, false, ◌&&◌, List, [], ◌∷◌, ◌++◌, map, length, ℤ, pos, negsuc, codes, refl, sym, ◌∙◌, arith}
 use Rattle.std.specs.List.{flat_map}
 use Rattle.std.specs.Fmt.{signed_decimal}
 use Rattle.std.proofs.lemmas.Bool.{and_parts, leb-true, true≢false}
@@ -15,9 +14,8 @@ use Rattle.jade_syntax.specs.declared.tree.ProductOp.{ProductOp}
 use Rattle.jade_syntax.specs.declared.tree.ProductOp.TheVariants.{Times, Over, Remainder}
 use Rattle.jade_syntax.specs.declared.tree.UnaryOp.{UnaryOp}
 use Rattle.jade_syntax.specs.declared.tree.UnaryOp.TheVariants.{Negative, Not}
-use Rattle.jade_syntax.specs.Names.{is_name}
-use Rattle.jade_syntax.specs.Shapes.{◌⊕◌, nothing as no_extent, signs, all_of, in_brackets, name_extent, number_extent, is_natural, index_extent, compared as compared_extent}
-use Rattle.jade_layout.specs.Spelling.{Token, Tokens, relation_sign, sum_sign, product_sign, unary_sign, number_token, truth_word, bracketed, index_before, compared}
+use Rattle.jade_syntax.specs.Shapes.{◌⊕◌, nothing as no_extent, signs, all_of, in_brackets, name_extent, number_extent, is_natural}
+use Rattle.jade_layout.specs.Spelling.{Token, Tokens, relation_sign, sum_sign, product_sign, unary_sign, number_token, truth_word, bracketed}
 use Rattle.jade_layout.specs.Readable.{is_readable}
 use Rattle.jade_layout.proofs.Goes.{Goes, GoesOn, on, wider, wider_on, nothing, join, join_on, plain, mark, round, square, name_plain, decimal_plain}
 
@@ -43,10 +41,12 @@ fine_nothing = record { by = λ h. nothing 0 }
 
 -- the other grouping of three parts
 pub fine_regroup : (x y z : Extent) (ts : Tokens) → Fine (x ⊕ (y ⊕ z)) ts → Fine (x ⊕ y ⊕ z) ts
-fine_regroup x y z ts f = record { by = λ h.
-    let p = and_parts (x.sound && y.sound) z.sound h in
-    let q = and_parts x.sound y.sound p.0 in
-    wider (max (max x.depth y.depth) z.depth) (omega arith) (f.by (λ i. q.0 i && (q.1 i && p.1 i))) }
+fine_regroup x y z ts f = record {
+  by = λ h.
+      let p = and_parts (x.sound && y.sound) z.sound h in
+      let q = and_parts x.sound y.sound p.0 in
+      wider (max (max x.depth y.depth) z.depth) (omega arith) (f.by (λ i. q.0 i && (q.1 i && p.1 i)));
+}
 
 -- the parts of a list
 pub fine_all : {A : Type 0} (g : A → Extent) (f : A → Tokens) (xs : List A) → ((y : A) → FineOn (g y) (f y)) → FineOn (all_of (map g xs)) (flat_map f xs)

@@ -1,20 +1,19 @@
 -- Tokens that go on being readable.
-use Rattle.std.proofs.Common.{◌≡◌, ℕ, zero, suc, ◌+◌, ◌-◌, ◌*◌, ◌/◌, ◌%◌, ◌^◌, ◌<◌, ◌≤◌, min, max, Bool, true, false, not, ◌&&◌, ◌||◌, if◌then◌else◌, List, [], ◌∷◌, ◌++◌, map, length, get_or, codes, refl, sym, ap, ◌∙◌, ⊎_elim, arith, append_assoc, append-nil, length-append}
+use Rattle.std.proofs.Common.{◌≡◌, ℕ, zero, suc, ◌+◌, ◌-◌, ◌*◌, ◌/◌, ◌%◌, ◌^◌, ◌<◌, ◌≤◌, Bool, true, false, not, ◌&&◌, ◌||◌, if◌then◌else◌, List, [], ◌∷◌, ◌++◌, length, get_or, codes, refl, sym, ap, ◌∙◌, ⊎_elim, arith, append_assoc, length-append}
 use Rattle.std.proofs.Math.Dec.{eqb, leb, ltb}
 use Rattle.std.specs.List.{list_any, list_all, flat_map}
 use Rattle.std.specs.Char.{is_ascii_digit, is_ascii_alphabetic}
 use Rattle.std.specs.Int.{is_in_range}
-use Rattle.std.specs.Fmt.{decimal, signed_decimal}
+use Rattle.std.specs.Fmt.{decimal}
 use Rattle.std.proofs.lemmas.Fmt.{decimal_by_steps, decimal_digit, first_decimal}
 use Rattle.std.proofs.lemmas.List.Folds.{list_all-append}
-use Rattle.std.proofs.lemmas.Bool.{cases_Bool, and_from, and_left, and_right, and_parts, or_from, or_cases, eqb-true, leb-true, le-leb, ltb-true, lt-ltb, true≢false, not-true, ne_eqb, false_from_ne_true}
-use Rattle.jade_lexer.specs.Alphabet.{is_letter, is_word_byte, is_word, is_run, is_symbol, is_token, is_number, is_opener, is_closer, value_after}
-use Rattle.jade_lexer.specs.Reading.{depth_after as brackets_after}
+use Rattle.std.proofs.lemmas.Bool.{and_from, and_left, and_right, and_parts, or_from, or_cases, eqb-true, leb-true, le-leb, lt-ltb, true≢false, not-true, ne_eqb, false_from_ne_true}
+use Rattle.jade_lexer.specs.Alphabet.{is_letter, is_word_byte, is_word, is_run, is_symbol, is_number, is_opener, is_closer, value_after}
 use Rattle.jade_syntax.specs.Names.{is_name, is_spelled, is_reserved}
 use Rattle.jade_syntax.specs.Numbering.{same_name}
 use Rattle.jade_layout.specs.Spelling.{Token, Tokens}
 use Rattle.jade_layout.proofs.Apart.{among_not}
-use Rattle.jade_layout.specs.Readable.{is_sound, has_room, is_bang, parts_from, is_readable}
+use Rattle.jade_layout.specs.Readable.{is_sound, is_bang, is_readable}
 
 -- with so much room for brackets these tokens are readable before others that are, whatever stands before them; no bracket is left open, and the last is not `!`
 pub record Goes (room : ℕ) (ts : Tokens) : Type 0 where
@@ -73,11 +72,13 @@ mark room t h = record { from = λ depth rest fit. h depth rest }
 
 -- tokens in brackets
 pub enclosed : (room : ℕ) (left right : Token) (ts : Tokens) → ((depth : ℕ) (bang : Bool) (rest : Tokens) → depth < 64 → is_readable depth bang (left ∷ rest) ≡ is_readable (depth + 1) false rest) → ((depth : ℕ) (rest : Tokens) → is_readable (depth + 1) false (right ∷ rest) ≡ is_readable depth false rest) → GoesOn room ts → Goes (room + 1) (left ∷ (ts ++ right ∷ []))
-enclosed room left right ts opens closes inner = record { from = λ depth bang rest fit.
-    opens depth bang ((ts ++ right ∷ []) ++ rest) (omega arith)
-    ∙ ap (is_readable (depth + 1) false) (append_assoc ts (right ∷ []) rest)
-    ∙ inner.from (depth + 1) (right ∷ rest) (omega arith)
-    ∙ closes depth rest }
+enclosed room left right ts opens closes inner = record {
+  from = λ depth bang rest fit.
+      opens depth bang ((ts ++ right ∷ []) ++ rest) (omega arith)
+      ∙ ap (is_readable (depth + 1) false) (append_assoc ts (right ∷ []) rest)
+      ∙ inner.from (depth + 1) (right ∷ rest) (omega arith)
+      ∙ closes depth rest;
+}
 
 opener_reads : (t : Token) (depth : ℕ) (bang : Bool) (rest : Tokens) → is_sound t ≡ true → is_opener (get_or t 0 0) ≡ true → eqb (get_or t 0 0) 61 ≡ false → is_bang t ≡ false → depth < 64 → is_readable depth bang (t ∷ rest) ≡ is_readable (depth + 1) false rest
 opener_reads t depth bang rest sound opens equal last lt =

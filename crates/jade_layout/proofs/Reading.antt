@@ -1,15 +1,15 @@
 -- Laid out tokens are read as the same tokens.
-use Rattle.std.proofs.Common.{◌≡◌, ℕ, zero, suc, ◌+◌, ◌-◌, ◌<◌, ◌≤◌, Bool, true, false, not, ◌&&◌, ◌||◌, if◌then◌else◌, List, [], ◌∷◌, ◌++◌, length, map, take, get_or, codes, refl, sym, ap, subst, ◌∙◌, ⊎_elim, arith, append_assoc}
+use Rattle.std.proofs.Common.{◌≡◌, ℕ, zero, suc, ◌+◌, ◌<◌, ◌≤◌, Bool, true, false, not, ◌&&◌, ◌||◌, if◌then◌else◌, List, [], ◌∷◌, ◌++◌, length, map, get_or, codes, refl, sym, ap, subst, ◌∙◌, ⊎_elim, append_assoc}
 use Rattle.std.proofs.Common.{rules}
 use Rattle.std.proofs.lemmas.Slice.Eq.{compares_Decides, IsBytesEq}
 use Rattle.std.proofs.Math.Dec.{eqb, leb, ltb}
 use Rattle.std.specs.List.{list_any, list_all}
-use Rattle.std.proofs.lemmas.Bool.{cases_Bool, and_from, and_parts, or_from, or_cases, eqb-true, leb-true, ltb-true, true≢false, not-true, false_from_ne_true, cond-true, cond-false}
+use Rattle.std.proofs.lemmas.Bool.{cases_Bool, and_from, and_parts, or_cases, leb-true, ltb-true, true≢false, not-true, cond-true, cond-false}
 use Rattle.jade_base.specs.declared.place.Pos.{Pos}
-use Rattle.jade_lexer.specs.Alphabet.{is_separator, is_letter, is_pair, is_word, is_run, is_token, is_number, is_opener}
+use Rattle.jade_lexer.specs.Alphabet.{is_separator, is_letter, is_word, is_run, is_token, is_number, is_opener}
 use Rattle.jade_lexer.specs.Lexemes.{TokenAt, TokenList}
-use Rattle.jade_lexer.specs.Reading.{reading, Whole, pos_after, first_spot, depth_after as brackets_after}
-use Rattle.jade_lexer.specs.Cut.{one_separator, IsLongest, IsSound, Cut, IsCut, nothing, blank, token}
+use Rattle.jade_lexer.specs.Reading.{reading, Whole, pos_after, depth_after as brackets_after}
+use Rattle.jade_lexer.specs.Cut.{one_separator, Cut, IsCut, nothing, blank, token}
 use Rattle.jade_syntax.specs.Names.{declare_words}
 use Rattle.jade_syntax.specs.Numbering.{same_name}
 use Rattle.jade_layout.specs.Spelling.{Token, Tokens}

@@ -1,5 +1,5 @@
 -- The tokens of each expression go on being readable.
-use Rattle.std.proofs.Common.{◌≡◌, ℕ, List, [], ◌∷◌, ◌++◌, map, length, Option, Some, None, codes, refl, ap, sym, ◌∙◌}
+use Rattle.std.proofs.Common.{◌≡◌, ℕ, List, ◌∷◌, ◌++◌, map, length, Option, Some, None, codes, refl}
 use Rattle.std.specs.List.{flat_map}
 use Rattle.std.proofs.lemmas.List.Folds.{flat_map-map}
 use Rattle.std.proofs.lemmas.Simd.{map-map}
@@ -8,15 +8,14 @@ use Rattle.jade_syntax.specs.declared.shapes.extent.Extent.{Extent}
 use Rattle.jade_syntax.specs.declared.tree.Relation.{Relation}
 use Rattle.jade_syntax.specs.declared.tree.SumOp.{SumOp}
 use Rattle.jade_syntax.specs.declared.tree.ProductOp.{ProductOp}
-use Rattle.jade_syntax.specs.declared.tree.UnaryOp.{UnaryOp}
-use Rattle.jade_syntax.specs.declared.tree.Atom.{Atom, fold-roll-Atom, roll-Atom, map-Atom}
-use Rattle.jade_syntax.specs.declared.tree.Atom.TheOpen.{Atom-F, AndExpr-F, CellRef-F, Compare-F, Expr-F, Product-F, Sum-F, Unary-F}
-use Rattle.jade_syntax.specs.declared.tree.AndExpr.{AndExpr, roll-AndExpr, fold-roll-AndExpr}
-use Rattle.jade_syntax.specs.declared.tree.CellRef.{CellRef, roll-CellRef, fold-roll-CellRef, map-CellRef, ind-CellRef}
-use Rattle.jade_syntax.specs.declared.tree.Compare.{Compare, roll-Compare, fold-roll-Compare, map-Compare}
-use Rattle.jade_syntax.specs.declared.tree.Expr.{Expr, roll-Expr, fold-roll-Expr, ind-Expr}
-use Rattle.jade_syntax.specs.declared.tree.Product.{Product, roll-Product, fold-roll-Product}
-use Rattle.jade_syntax.specs.declared.tree.Sum.{Sum, roll-Sum, fold-roll-Sum}
+use Rattle.jade_syntax.specs.declared.tree.Atom.{Atom, fold-roll-Atom, map-Atom}
+use Rattle.jade_syntax.specs.declared.tree.Atom.TheOpen.{Atom-F, CellRef-F, Compare-F}
+use Rattle.jade_syntax.specs.declared.tree.AndExpr.{AndExpr, fold-roll-AndExpr}
+use Rattle.jade_syntax.specs.declared.tree.CellRef.{CellRef, fold-roll-CellRef, map-CellRef}
+use Rattle.jade_syntax.specs.declared.tree.Compare.{Compare, fold-roll-Compare, map-Compare}
+use Rattle.jade_syntax.specs.declared.tree.Expr.{Expr, fold-roll-Expr, ind-Expr}
+use Rattle.jade_syntax.specs.declared.tree.Product.{Product, fold-roll-Product}
+use Rattle.jade_syntax.specs.declared.tree.Sum.{Sum, fold-roll-Sum}
 use Rattle.jade_syntax.specs.declared.tree.Unary.{Unary, fold_out-Unary}
 use Rattle.jade_syntax.specs.Shapes.{◌⊕◌, signs, all_of, atom_extent, and_extent, cell_extent, compare_extent, expr_extent, product_extent, sum_extent, unary_extent, at_atom as e_atom, at_and as e_and, at_cell as e_cell, at_compare as e_compare, at_expr as e_expr, at_product as e_product, at_sum as e_sum, at_unary as e_unary}
 use Rattle.jade_layout.specs.Spelling.{Tokens, atom_tokens, and_tokens, cell_tokens, compare_tokens, expr_tokens, product_tokens, sum_tokens, unary_tokens, at_atom, at_and, at_cell, at_compare, at_expr, at_product, at_sum, at_unary, sum_sign, product_sign}
