@@ -1,3 +1,9 @@
 pub mod Adding
+pub mod Apart
+pub mod Blocks
+pub mod Fine
+pub mod Goes
 pub mod Laying
 pub mod Opened
+pub mod Reading
+pub mod Trees

@@ -1,3 +1,4 @@
 pub mod Spelling
 pub mod Layout
 pub mod Printed
+pub mod Readable

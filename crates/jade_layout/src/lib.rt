@@ -2,6 +2,7 @@
 #![tactic(auto)]
 
 mod expressions;
+pub mod laws;
 #[cfg(test)]
 mod layout_tests;
 mod printer;

@@ -1,4 +1,4 @@
--- Which trees are the trees of programs: each statement stands where the grammar has it, each name is a name, no number is negative, and no limit is passed.
+-- Which trees are the trees of programs: each statement stands where the grammar has it, each name is a name, no number is negative or past 64 bits, and no limit is passed.
 use Rattle.std.specs.Prelude.{ℕ, ◌+◌, ◌-◌, Bool, true, false, ◌&&◌, max, nat_le, List, [], ◌∷◌, map, length, Option, Some, None, ℤ, pos, negsuc}
 use Rattle.std.specs.List.{list_all}
 use Rattle.jade_base.specs.declared.place.Pos.{Pos}
@@ -101,9 +101,9 @@ signs n = record { sound = true; tokens = n; depth = 0 }
 abbrev pub name_extent : Name → Extent
 name_extent x = record { sound = is_name x; tokens = 1; depth = 0 }
 
--- not negative
+-- not negative, and at most 2 ^ 63 - 1
 abbrev pub is_natural : ℤ → Bool
-is_natural (pos n) = true
+is_natural (pos n) = nat_le n 9223372036854775807
 is_natural (negsuc n) = false
 
 -- a number

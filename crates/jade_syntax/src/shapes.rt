@@ -3,7 +3,7 @@
 ghost use Rattle.std.specs.Prelude.{◌≡◌, IfOk, IfErr, true, false};
 ghost use Rattle.jade_syntax.specs.Shapes.{is_shaped};
 
-pub(crate) mod extent;
+pub mod extent;
 pub(crate) mod measure;
 pub mod place;
 #[cfg(test)]

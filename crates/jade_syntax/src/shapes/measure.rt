@@ -1,8 +1,9 @@
 //! Measuring trees.
 
-ghost use Rattle.jade_syntax.specs.Shapes.{expr_extent, and_extent, compare_extent, sum_extent, product_extent, unary_extent, atom_extent, cell_extent, inner_index, outermost, outer_index, target_extent, object_extent, names_extent, statement_extent, block_extent, item_extent, program_extent};
+ghost use Rattle.jade_syntax.specs.Shapes.{signs, ◌⊕◌, in_brackets, name_extent, expr_extent, and_extent, compare_extent, sum_extent, product_extent, unary_extent, atom_extent, cell_extent, inner_index, outermost, outer_index, target_extent, object_extent, names_extent, statement_extent, block_extent, item_extent, program_extent};
 ghost use Rattle.jade_syntax.specs.Measured.{Measures};
 
+use crate::Name;
 use crate::shapes::extent::Extent;
 use crate::tree::{
     AndExpr, Atom, Block, CellRef, Compare, Expr, Item, Items, NameList, ObjectRef, Product,
@@ -146,34 +147,57 @@ fn names_extent(names: &NameList) -> Extent
     total.then(Extent::signs_between(names.len()))
 }
 
+/// So many signs, a name and an expression.
+fn named_value(count: usize, name: &Name, value: &Expr) -> Extent
+    ensures { Measures result (signs count ⊕ name_extent name.now ⊕ outermost value.now) }
+{
+    Extent::signs(count)
+        .then(Extent::name(name))
+        .then(outermost(value))
+}
+
+fn store_extent(target: &CellRef, value: &Expr) -> Extent
+    ensures { Measures result (signs 2 ⊕ target_extent target.now ⊕ outermost value.now) }
+{
+    Extent::signs(2)
+        .then(target_extent(target))
+        .then(outermost(value))
+}
+
+/// What stands before the first branch.
+fn test_extent(test: &Expr) -> Extent
+    ensures { Measures result (signs 1 ⊕ outermost test.now) }
+{
+    Extent::signs(1).then(outermost(test))
+}
+
+/// What stands before the body of a loop.
+fn bounds_extent(name: &Name, low: &Expr, high: &Expr) -> Extent
+    ensures { Measures result (signs 3 ⊕ name_extent name.now ⊕ outermost low.now ⊕ outermost high.now) }
+{
+    named_value(3, name, low).then(outermost(high))
+}
+
+fn declare_extent(object: &ObjectRef) -> Extent
+    ensures { Measures result (signs 2 ⊕ in_brackets (object_extent object.now)) }
+{
+    Extent::signs(2).then(object_extent(object).in_brackets())
+}
+
 #[cycle(blocks)]
 fn statement_extent(statement: &Statement) -> Extent
     ensures { Measures result (statement_extent statement.now) }
 {
     match statement {
-        Statement::Local { name, value, .. } => {
-            Extent::signs(3)
-                .then(Extent::name(name))
-                .then(outermost(value))
-        }
-        Statement::Assign { name, value, .. } => {
-            Extent::signs(2)
-                .then(Extent::name(name))
-                .then(outermost(value))
-        }
-        Statement::Store { target, value } => {
-            Extent::signs(2)
-                .then(target_extent(target))
-                .then(outermost(value))
-        }
+        Statement::Local { name, value, .. } => named_value(3, name, value),
+        Statement::Assign { name, value, .. } => named_value(2, name, value),
+        Statement::Store { target, value } => store_extent(target, value),
         Statement::If {
             test,
             then,
             otherwise,
         } => {
-            let first = Extent::signs(1)
-                .then(outermost(test))
-                .then(block_extent(then));
+            let first = test_extent(test).then(block_extent(then));
             match otherwise {
                 None => first.then(Extent::nothing()),
                 Some(block) => first.then(Extent::signs(1).then(block_extent(block))),
@@ -185,29 +209,19 @@ fn statement_extent(statement: &Statement) -> Extent
             low,
             high,
             body,
-        } => {
-            let named = Extent::signs(3).then(Extent::name(name));
-            named
-                .then(outermost(low))
-                .then(outermost(high))
-                .then(block_extent(body))
-        }
+        } => bounds_extent(name, low, high).then(block_extent(body)),
         Statement::Withonly {
             pos: _,
             section,
             names,
             body,
         } => {
-            let handed = names_extent(names).in_brackets();
-            Extent::signs(2)
-                .then(block_extent(section))
-                .then(handed)
-                .then(block_extent(body))
+            let made = Extent::signs(2).then(block_extent(section));
+            let handed = made.then(names_extent(names).in_brackets());
+            handed.then(block_extent(body))
         }
         Statement::With { section, .. } => Extent::signs(3).then(block_extent(section)),
-        Statement::Declare { object, .. } => {
-            Extent::signs(2).then(object_extent(object).in_brackets())
-        }
+        Statement::Declare { object, .. } => declare_extent(object),
     }
 }
 
