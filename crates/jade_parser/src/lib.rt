@@ -3,6 +3,8 @@
 #![tactic(auto)]
 
 mod leaves;
+mod names;
+mod outer;
 mod parse;
 
 use jade_base::Pos;
