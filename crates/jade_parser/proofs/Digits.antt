@@ -25,7 +25,7 @@ value_past : (limit n : ℕ) (digits : List ℕ) (i : ℕ) → i < length digits
 value_past limit n digits i within past =
     rw (value_step n digits i within) (lt-leb (value_after (10 * n + (get_or digits i 0 - 48)) (drop (i + 1) digits)) limit (omega (arith, value_after-ge (10 * n + (get_or digits i 0 - 48)) (drop (i + 1) digits))))
 
-run_is : (bytes : List ℕ) → 0 < length bytes → is_run bytes ≡ list_all is_ascii_digit bytes
+pub run_is : (bytes : List ℕ) → 0 < length bytes → is_run bytes ≡ list_all is_ascii_digit bytes
 run_is [] h = absurd (omega arith)
 run_is (b ∷ bytes) h = refl
 
