@@ -1,12 +1,15 @@
 -- What the bytes of a token say that it is.
-use Rattle.std.specs.Prelude.{◌≡◌, ℕ, ◌≤◌, Bool, true, false, not, ◌&&◌, ◌||◌, ◌==◌, nat_le, if◌then◌else◌, List, [], ◌∷◌, length, codes, Option, Some, None, ℤ}
+use Rattle.std.specs.Prelude.{◌≡◌, ℕ, ◌≤◌, Bool, true, false, not, ◌&&◌, ◌||◌, ◌==◌, nat_le, if◌then◌else◌, List, [], ◌∷◌, length, codes, map, Option, Some, None, ℤ}
 use Rattle.std.specs.Fmt.{signed_decimal}
 use Rattle.jade_lexer.specs.Alphabet.{is_run, value_after}
 use Rattle.jade_syntax.specs.Names.{is_spelled, is_name}
 use Rattle.jade_syntax.specs.Numbering.{same_name}
 use Rattle.jade_parser.specs.declared.Sign.{Sign}
 use Rattle.jade_parser.specs.declared.Sign.TheVariants.{InputWord, ObjectWord, ObjectsWord, MainWord, IntWord, BoolWord, TrueWord, FalseWord, IfWord, ElseWord, ForWord, InWord, WithonlyWord, DoWord, WithWord, ContWord, RdWord, WrWord, RdWrWord, DfRdWord, DfWrWord, DfRdWrWord, NoRdWord, NoWrWord, NoRdWrWord, LeftParen, RightParen, LeftBracket, RightBracket, LeftBrace, RightBrace, Semicolon, Colon, Comma, DotDot, Becomes, EqualSign, UnequalSign, LessSign, LessEqualSign, GreaterSign, GreaterEqualSign, PlusSign, MinusSign, TimesSign, OverSign, PercentSign, NotSign, OrSign, AndSign}
+use Rattle.jade_parser.specs.declared.Seen.{Seen}
+use Rattle.jade_lexer.specs.Lexemes.{TokenAt}
 use Rattle.jade_parser.specs.Spelled.{Token, Fixed, Called, Counted, Odd}
+use Rattle.jade_parser.specs.Reads.{kinds}
 
 -- the bytes of a sign
 abbrev pub sign_bytes : Sign → List ℕ
@@ -171,3 +174,8 @@ is_valid (Fixed s) = true
 is_valid (Called n) = is_name n
 is_valid (Counted v) = is_countable v
 is_valid Odd = false
+
+-- the lexemes of a text, each with what it is and its place
+pub record IsSeen (lexemes : List TokenAt) (seen : List Seen) : Type 0 where
+  pub tokens : kinds seen ≡ map (λ t. token_of_bytes t.bytes) lexemes
+  pub places : map (λ s. s.pos) seen ≡ map (λ t. t.pos) lexemes

@@ -4,10 +4,12 @@ ghost use Rattle.std.specs.Prelude.{◌≡◌, ◌+◌, ◌-◌, ◌*◌, ◌<�
 ghost use Rattle.std.specs.List.{list_all};
 ghost use Rattle.jade_syntax.specs.Names.{is_letter, is_letter_or_digit, is_spelled};
 ghost use Rattle.jade_syntax.specs.Numbering.{same_name};
-ghost use Rattle.jade_parser.specs.Kinds.{sign_among, sign_in, all_signs, item_signs, statement_signs, access_signs, change_signs, bracket_signs, mark_signs, relation_signs, operator_signs, is_kept, is_free, is_small_run, has_needless_zero, is_counted, token_of_bytes, IsValue, IsNumber};
+ghost use Rattle.jade_parser.specs.Kinds.{sign_among, sign_in, all_signs, item_signs, statement_signs, access_signs, change_signs, bracket_signs, mark_signs, relation_signs, operator_signs, is_kept, is_free, is_small_run, has_needless_zero, is_counted, token_of_bytes, IsValue, IsNumber, IsSeen};
 ghost use Rattle.jade_parser.specs.Reads.{token_of};
 
-use crate::{Kind, Sign};
+use crate::{Kind, Seen, Sign};
+use jade_lexer::Tokens;
+use std::alloc::{AllocError, Global};
 
 /// The most bytes of a name.
 const NAME_LIMIT: usize = 64;
@@ -320,4 +322,19 @@ pub fn kind_of(text: &[u8]) -> Kind<'_>
         Some(value) => Kind::Counted(value),
         None => Kind::Odd,
     }
+}
+
+/// What each token of a text is, with its place.
+pub fn classified<'t>(alloc: Global, tokens: &Tokens<'t>) -> Result<Vec<Seen<'t>>, AllocError>
+    ensures { IfOk result (λ all. IsSeen tokens.now.lexemes all.items) }
+{
+    let mut all = Vec::new(alloc);
+    for place in 0..tokens.len() {
+        let lexeme = tokens.at(place);
+        all.push(Seen {
+            kind: kind_of(lexeme.text),
+            pos: lexeme.pos,
+        })?;
+    }
+    Ok(all)
 }
