@@ -13,8 +13,8 @@ use Rattle.jade_syntax.specs.Numbering.{same_name}
 use Rattle.jade_syntax.specs.Names.{is_letter, is_spelled, is_name, is_reserved, item_words, statement_words, declare_words}
 use Rattle.jade_parser.specs.declared.Sign.{Sign}
 use Rattle.jade_parser.specs.declared.Sign.TheVariants.{InputWord, ObjectWord, ObjectsWord, MainWord, IntWord, BoolWord, TrueWord, FalseWord, IfWord, ElseWord, ForWord, InWord, WithonlyWord, DoWord, WithWord, ContWord, RdWord, WrWord, RdWrWord, DfRdWord, DfWrWord, DfRdWrWord, NoRdWord, NoWrWord, NoRdWrWord, LeftParen, RightParen, LeftBracket, RightBracket, LeftBrace, RightBrace, Semicolon, Colon, Comma, DotDot, Becomes, EqualSign, UnequalSign, LessSign, LessEqualSign, GreaterSign, GreaterEqualSign, PlusSign, MinusSign, TimesSign, OverSign, PercentSign, NotSign, OrSign, AndSign}
-use Rattle.jade_parser.specs.Spelled.{Token, Fixed, Called, Counted, Odd}
-use Rattle.jade_parser.specs.Kinds.{sign_bytes, token_bytes, sign_among, first_of, sign_in, all_signs, item_signs, statement_signs, access_signs, change_signs, bracket_signs, mark_signs, relation_signs, operator_signs, is_kept, is_free, is_small_run, has_needless_zero, is_counted, plain_token, sign_or, token_of_bytes, is_valid}
+use Rattle.jade_parser.specs.Spelled.{Token, Fixed, Called, Counted, Odd, is_valid}
+use Rattle.jade_parser.specs.Kinds.{sign_bytes, token_bytes, sign_among, first_of, sign_in, all_signs, item_signs, statement_signs, access_signs, change_signs, bracket_signs, mark_signs, relation_signs, operator_signs, is_kept, is_free, is_small_run, has_needless_zero, is_counted, plain_token, sign_or, token_of_bytes}
 use Rattle.jade_parser.proofs.Digits.{run_is}
 
 bytes_like : IsBytesEq same_name

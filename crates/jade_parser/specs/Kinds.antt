@@ -2,7 +2,7 @@
 use Rattle.std.specs.Prelude.{◌≡◌, ℕ, ◌≤◌, Bool, true, false, not, ◌&&◌, ◌||◌, ◌==◌, nat_le, if◌then◌else◌, List, [], ◌∷◌, length, codes, map, Option, Some, None, ℤ}
 use Rattle.std.specs.Fmt.{signed_decimal}
 use Rattle.jade_lexer.specs.Alphabet.{is_run, value_after}
-use Rattle.jade_syntax.specs.Names.{is_spelled, is_name}
+use Rattle.jade_syntax.specs.Names.{is_spelled}
 use Rattle.jade_syntax.specs.Numbering.{same_name}
 use Rattle.jade_parser.specs.declared.Sign.{Sign}
 use Rattle.jade_parser.specs.declared.Sign.TheVariants.{InputWord, ObjectWord, ObjectsWord, MainWord, IntWord, BoolWord, TrueWord, FalseWord, IfWord, ElseWord, ForWord, InWord, WithonlyWord, DoWord, WithWord, ContWord, RdWord, WrWord, RdWrWord, DfRdWord, DfWrWord, DfRdWrWord, NoRdWord, NoWrWord, NoRdWrWord, LeftParen, RightParen, LeftBracket, RightBracket, LeftBrace, RightBrace, Semicolon, Colon, Comma, DotDot, Becomes, EqualSign, UnequalSign, LessSign, LessEqualSign, GreaterSign, GreaterEqualSign, PlusSign, MinusSign, TimesSign, OverSign, PercentSign, NotSign, OrSign, AndSign}
@@ -162,18 +162,6 @@ sign_or None plain = plain
 -- what some bytes are: a sign, a name, a number, or none of them
 abbrev pub token_of_bytes : List ℕ → Token
 token_of_bytes bytes = sign_or (sign_in all_signs bytes) (plain_token bytes)
-
--- a number that a text may write
-abbrev pub is_countable : ℤ → Bool
-is_countable (ℤ.pos n) = nat_le n 9223372036854775807
-is_countable (ℤ.negsuc n) = false
-
--- a token that a program may have
-abbrev pub is_valid : Token → Bool
-is_valid (Fixed s) = true
-is_valid (Called n) = is_name n
-is_valid (Counted v) = is_countable v
-is_valid Odd = false
 
 -- the lexemes of a text, each with what it is and its place
 pub record IsSeen (lexemes : List TokenAt) (seen : List Seen) : Type 0 where
