@@ -1,30 +1,59 @@
 -- What stands at a place.
-use Rattle.std.proofs.Common.{◌≡◌, ℕ, zero, suc, ◌+◌, ◌<◌, ◌≤◌, List, [], ◌∷◌, ◌++◌, Option, Some, None, refl, ap, sym, ◌∙◌, drop, map, get_or, length, arith, append_assoc, add-one, drop-cons, ℤ, Bor, MatchOption, Bool, IsTrue, IsFalse}
+use Rattle.std.proofs.Common.{◌≡◌, ℕ, zero, suc, ◌+◌, ◌<◌, ◌≤◌, List, [], ◌∷◌, ◌++◌, Option, Some, None, refl, ap, sym, ◌∙◌, drop, map, get_or, length, arith, append_assoc, add-one, drop-cons, ℤ, Bor, MatchOption, Bool, true, false, ◌&&◌, IsTrue, IsFalse}
+use Rattle.std.specs.List.{list_all}
 use Rattle.std.proofs.lemmas.List.{get_or-map, length-map, drop_all}
-use Rattle.jade_parser.specs.Spelled.{Token, Tokens, Fixed, Called, Counted, sum_sign, product_sign, relation_sign, unary_sign}
+use Rattle.jade_base.specs.declared.place.Pos.{Pos}
+use Rattle.jade_parser.specs.Spelled.{Token, Tokens, Fixed, Called, Counted, Odd, Part, Parts, tokens_of, marked, plain, fixed, is_valid, AllValid, sum_sign, product_sign, relation_sign, unary_sign}
 use Rattle.jade_parser.specs.Machine.{Symbol, Need, Rest, First, Second, Must, Stack, goes, sum_in, product_in, and_in, expr_in, same_sign}
-use Rattle.jade_parser.specs.Reads.{kinds, token_of, head_sign, Reads, Passes, Whole, Stops, place, NoUnary}
+use Rattle.jade_parser.specs.Reads.{kinds, places, pos_in, place_at, KeptAt, Agrees, Known, is_known, token_of, head_sign, Reads, Passes, Whole, Stops, place, NoUnary}
 use Rattle.jade_parser.specs.Ops.{sum_of, product_of, relation_of, unary_of}
-use Rattle.jade_parser.specs.declared.Lexeme.{Lexeme}
+use Rattle.jade_parser.specs.declared.Seen.{Seen}
 use Rattle.jade_parser.specs.declared.Kind.{Kind}
-use Rattle.jade_parser.specs.declared.Kind.TheVariants.{Fixed as KFixed, Called as KCalled, Counted as KCounted}
+use Rattle.jade_parser.specs.declared.Kind.TheVariants.{Fixed as KFixed, Called as KCalled, Counted as KCounted, Odd as KOdd}
 use Rattle.jade_parser.specs.declared.Sign.{Sign}
-use Rattle.jade_parser.specs.declared.Sign.TheVariants.{TrueWord, FalseWord, LeftParen, RightParen, LeftBracket, RightBracket, OrSign, AndSign, EqualSign, UnequalSign, LessSign, LessEqualSign, GreaterSign, GreaterEqualSign, PlusSign, MinusSign, TimesSign, OverSign, PercentSign, NotSign, Semicolon, Becomes, LeftBrace, RightBrace, IfWord, ElseWord, ForWord, InWord, DotDot, IntWord, BoolWord, WithonlyWord, WithWord, DoWord, ContWord, Comma, RdWord, WrWord, RdWrWord, DfRdWord, DfWrWord, DfRdWrWord, NoRdWord, NoWrWord, NoRdWrWord}
+use Rattle.jade_parser.specs.declared.Sign.TheVariants.{TrueWord, FalseWord, LeftParen, RightParen, LeftBracket, RightBracket, OrSign, AndSign, EqualSign, UnequalSign, LessSign, LessEqualSign, GreaterSign, GreaterEqualSign, PlusSign, MinusSign, TimesSign, OverSign, PercentSign, NotSign, Semicolon, Becomes, LeftBrace, RightBrace, IfWord, ElseWord, ForWord, InWord, DotDot, IntWord, BoolWord, WithonlyWord, WithWord, DoWord, ContWord, Comma, RdWord, WrWord, RdWrWord, DfRdWord, DfWrWord, DfRdWrWord, NoRdWord, NoWrWord, NoRdWrWord, InputWord, ObjectWord, ObjectsWord, MainWord, Colon}
 
-pub here : (xs : List Lexeme) (at : ℕ) (d : Lexeme) → at < length xs → drop at (kinds xs) ≡ token_of (get_or xs at d).kind ∷ drop (at + 1) (kinds xs)
+pub here : (xs : List Seen) (at : ℕ) (d : Seen) → at < length xs → drop at (kinds xs) ≡ token_of (get_or xs at d).kind ∷ drop (at + 1) (kinds xs)
 here xs at d lt =
     let n : length (kinds xs) ≡ length xs = length-map xs _ in
     let m : at < length (kinds xs) = omega arith in
-    rw (drop-cons (kinds xs) at (token_of d.kind) m, get_or-map (λ (x : Lexeme). token_of x.kind) xs at d, add-one) refl
+    rw (drop-cons (kinds xs) at (token_of d.kind) m, get_or-map (λ (x : Seen). token_of x.kind) xs at d, add-one) refl
 
-pub head_fixed : (xs : List Lexeme) (at : ℕ) (d : Lexeme) (s : Sign) → at < length xs → (get_or xs at d).kind ≡ KFixed s → Some s ≡ head_sign (drop at (kinds xs))
+pub head_fixed : (xs : List Seen) (at : ℕ) (d : Seen) (s : Sign) → at < length xs → (get_or xs at d).kind ≡ KFixed s → Some s ≡ head_sign (drop at (kinds xs))
 head_fixed xs at d s lt e = rw (here xs at d lt, e) refl
 
-pub head_called : (xs : List Lexeme) (at : ℕ) (d : Lexeme) (b : _) → at < length xs → (get_or xs at d).kind ≡ KCalled b → None ≡ head_sign (drop at (kinds xs))
+pub head_called : (xs : List Seen) (at : ℕ) (d : Seen) (b : _) → at < length xs → (get_or xs at d).kind ≡ KCalled b → None ≡ head_sign (drop at (kinds xs))
 head_called xs at d b lt e = rw (here xs at d lt, e) refl
 
-pub head_counted : (xs : List Lexeme) (at : ℕ) (d : Lexeme) (v : ℤ) → at < length xs → (get_or xs at d).kind ≡ KCounted v → None ≡ head_sign (drop at (kinds xs))
+pub head_counted : (xs : List Seen) (at : ℕ) (d : Seen) (v : ℤ) → at < length xs → (get_or xs at d).kind ≡ KCounted v → None ≡ head_sign (drop at (kinds xs))
 head_counted xs at d v lt e = rw (here xs at d lt, e) refl
+
+pub head_odd : (xs : List Seen) (at : ℕ) (d : Seen) → at < length xs → (get_or xs at d).kind ≡ KOdd → None ≡ head_sign (drop at (kinds xs))
+head_odd xs at d lt e = rw (here xs at d lt, e) refl
+
+pub pos_here : (xs : List Seen) (at : ℕ) (d : Seen) → at < length xs → (get_or xs at d).pos ≡ place_at xs at
+pos_here [] at d lt = absurd (omega arith)
+pos_here (x ∷ xs) zero d lt = refl
+pos_here (x ∷ xs) (suc at) d lt = pos_here xs at d (omega arith)
+
+pub pos_past : (xs : List Seen) (at : ℕ) → length xs ≤ at → record { line = 0; column = 0 } ≡ place_at xs at
+pos_past [] at le = refl
+pos_past (x ∷ xs) zero le = absurd (omega arith)
+pos_past (x ∷ xs) (suc at) le = pos_past xs at (omega arith)
+
+both : (a b : Bool) → (a && b) ≡ true → (a ≡ true) × (b ≡ true)
+both true true e = (refl, refl)
+both true false e = absurd (cc)
+both false true e = absurd (cc)
+both false false e = absurd (cc)
+
+known_at : (ts : Tokens) (at : ℕ) (t : Token) → list_all is_known ts ≡ true → drop at ts ≡ t ∷ drop (at + 1) ts → is_known t ≡ true
+known_at [] zero t k e = absurd (cc)
+known_at [] (suc at) t k e = absurd (cc)
+known_at (u ∷ ts) zero t k e = let w : u ≡ t = cc in rw (← w) ((both (is_known u) (list_all is_known ts) k).0)
+known_at (u ∷ ts) (suc at) t k e =
+    let w : suc at + 1 ≡ suc (at + 1) = omega arith in
+    known_at ts at t ((both (is_known u) (list_all is_known ts) k).1) (e ∙ ap (λ j. t ∷ drop j (u ∷ ts)) w)
 
 split : (ts : Tokens) (at : ℕ) (s : Sign) → Some s ≡ head_sign (drop at ts) → (drop at ts ≡ Fixed s ∷ drop (at + 1) ts) × (at < length ts)
 split [] zero s e = absurd (cc)
@@ -32,24 +61,35 @@ split [] (suc at) s e = absurd (cc)
 split (Fixed u ∷ ts) zero s e = let k : u ≡ s = cc in (ap (λ x. Fixed x ∷ ts) k, omega arith)
 split (Called n ∷ ts) zero s e = absurd (cc)
 split (Counted v ∷ ts) zero s e = absurd (cc)
+split (Odd ∷ ts) zero s e = absurd (cc)
 split (t ∷ ts) (suc at) s e =
     let r = split ts at s e in
     let w : suc at + 1 ≡ suc (at + 1) = omega arith in
     (r.0 ∙ ap (λ k. Fixed s ∷ drop k (t ∷ ts)) (sym w), omega (arith, r.1))
 
-pub stands : (all : List Lexeme) (at : ℕ) (s : Sign) → Some s ≡ head_sign (drop at (kinds all)) → Reads all at (at + 1) (Fixed s ∷ [])
-stands all at s e =
+pub stands : (all : List Seen) (at : ℕ) (s : Sign) (o : Option Pos) → KeptAt o (place_at all at) → Some s ≡ head_sign (drop at (kinds all)) → Reads all at (at + 1) (record { token = Fixed s; at = o; nth = 0 } ∷ [])
+stands all at s o k e =
     let r = split (kinds all) at s e in
     let n : length (kinds all) ≡ length all = length-map all _ in
-    record { forward = omega arith; within = omega (arith, r.1); stands = r.0 }
+    record { forward = omega arith; within = omega (arith, r.1); stands = r.0; agrees = (k, tt); valid = λ w. record { is = refl } }
 
-pub takes_sign : (all : List Lexeme) (at : ℕ) (s : Sign) (xs ys : Stack) → Some s ≡ head_sign (drop at (kinds all))
-    → ((rest : Tokens) (st : Stack) → goes (Fixed s ∷ rest) (xs ++ st) ≡ 1 + goes rest (ys ++ st)) → Whole all at xs (at + 1) ys (Fixed s ∷ [])
-takes_sign all at s xs ys e step =
+takes_so : (all : List Seen) (at : ℕ) (s : Sign) (o : Option Pos) (xs ys : Stack) → KeptAt o (place_at all at) → Some s ≡ head_sign (drop at (kinds all))
+    → ((rest : Tokens) (st : Stack) → goes (Fixed s ∷ rest) (xs ++ st) ≡ 1 + goes rest (ys ++ st)) → Whole all at xs (at + 1) ys (record { token = Fixed s; at = o; nth = 0 } ∷ [])
+takes_so all at s o xs ys k e step =
     let r = split (kinds all) at s e in
-    record { reads = stands all at s e; passes = record { by = λ st. rw (r.0) (let k = step (drop (at + 1) (kinds all)) st in omega (arith, k)) } }
+    record { reads = stands all at s o k e; passes = record { by = λ st. rw (r.0) (let k = step (drop (at + 1) (kinds all)) st in omega (arith, k)) } }
 
-pub past_sign : (all : List Lexeme) (at : ℕ) (s : Sign) (xs : Stack) → Some s ≡ head_sign (drop at (kinds all))
+-- a sign whose place the tree does not keep
+pub takes_sign : (all : List Seen) (at : ℕ) (s : Sign) (xs ys : Stack) → Some s ≡ head_sign (drop at (kinds all))
+    → ((rest : Tokens) (st : Stack) → goes (Fixed s ∷ rest) (xs ++ st) ≡ 1 + goes rest (ys ++ st)) → Whole all at xs (at + 1) ys (fixed s ∷ [])
+takes_sign all at s xs ys e step = takes_so all at s None xs ys tt e step
+
+-- a sign whose place the tree keeps
+pub takes_marked : (all : List Seen) (at : ℕ) (s : Sign) (xs ys : Stack) → Some s ≡ head_sign (drop at (kinds all))
+    → ((rest : Tokens) (st : Stack) → goes (Fixed s ∷ rest) (xs ++ st) ≡ 1 + goes rest (ys ++ st)) → Whole all at xs (at + 1) ys (marked (Fixed s) (place_at all at) ∷ [])
+takes_marked all at s xs ys e step = takes_so all at s (Some (place_at all at)) xs ys refl e step
+
+pub past_sign : (all : List Seen) (at : ℕ) (s : Sign) (xs : Stack) → Some s ≡ head_sign (drop at (kinds all))
     → ((rest : Tokens) (st : Stack) → goes (Fixed s ∷ rest) (xs ++ st) ≡ goes (Fixed s ∷ rest) st) → Passes all at xs at []
 past_sign all at s xs e step =
     let r = split (kinds all) at s e in
@@ -101,14 +141,19 @@ same_is DfRdWrWord DfRdWrWord t = refl
 same_is NoRdWord NoRdWord t = refl
 same_is NoWrWord NoWrWord t = refl
 same_is NoRdWrWord NoRdWrWord t = refl
+same_is InputWord InputWord t = refl
+same_is ObjectWord ObjectWord t = refl
+same_is ObjectsWord ObjectsWord t = refl
+same_is MainWord MainWord t = refl
+same_is Colon Colon t = refl
 same_is a b t = absurd (cc)
 
-pub sum_leaf : (all : List Lexeme) (at : ℕ) (s : Sign) (r : _) → Some s ≡ head_sign (drop at (kinds all)) → r ≡ sum_of s → MatchOption r (Passes all at (Rest 2 ∷ []) at []) (λ op. Whole all at (Rest 2 ∷ []) (at + 1) sum_in (sum_sign op ∷ []))
+pub sum_leaf : (all : List Seen) (at : ℕ) (s : Sign) (r : _) → Some s ≡ head_sign (drop at (kinds all)) → r ≡ sum_of s → MatchOption r (Passes all at (Rest 2 ∷ []) at []) (λ op. Whole all at (Rest 2 ∷ []) (at + 1) sum_in (marked (sum_sign op) (place_at all at) ∷ []))
 sum_leaf all at s r e k = rw k (sum_leaf_of s e)
   where
-    sum_leaf_of : (u : Sign) → Some u ≡ head_sign (drop at (kinds all)) → MatchOption (sum_of u) (Passes all at (Rest 2 ∷ []) at []) (λ op. Whole all at (Rest 2 ∷ []) (at + 1) sum_in (sum_sign op ∷ []))
-    sum_leaf_of PlusSign f = takes_sign all at PlusSign _ _ f (λ rest st. refl)
-    sum_leaf_of MinusSign f = takes_sign all at MinusSign _ _ f (λ rest st. refl)
+    sum_leaf_of : (u : Sign) → Some u ≡ head_sign (drop at (kinds all)) → MatchOption (sum_of u) (Passes all at (Rest 2 ∷ []) at []) (λ op. Whole all at (Rest 2 ∷ []) (at + 1) sum_in (marked (sum_sign op) (place_at all at) ∷ []))
+    sum_leaf_of PlusSign f = takes_marked all at PlusSign _ _ f (λ rest st. refl)
+    sum_leaf_of MinusSign f = takes_marked all at MinusSign _ _ f (λ rest st. refl)
     sum_leaf_of TrueWord f = past_sign all at TrueWord _ f (λ rest st. refl)
     sum_leaf_of FalseWord f = past_sign all at FalseWord _ f (λ rest st. refl)
     sum_leaf_of LeftParen f = past_sign all at LeftParen _ f (λ rest st. refl)
@@ -152,14 +197,19 @@ sum_leaf all at s r e k = rw k (sum_leaf_of s e)
     sum_leaf_of NoRdWord f = past_sign all at NoRdWord _ f (λ rest st. refl)
     sum_leaf_of NoWrWord f = past_sign all at NoWrWord _ f (λ rest st. refl)
     sum_leaf_of NoRdWrWord f = past_sign all at NoRdWrWord _ f (λ rest st. refl)
+    sum_leaf_of InputWord f = past_sign all at InputWord _ f (λ rest st. refl)
+    sum_leaf_of ObjectWord f = past_sign all at ObjectWord _ f (λ rest st. refl)
+    sum_leaf_of ObjectsWord f = past_sign all at ObjectsWord _ f (λ rest st. refl)
+    sum_leaf_of MainWord f = past_sign all at MainWord _ f (λ rest st. refl)
+    sum_leaf_of Colon f = past_sign all at Colon _ f (λ rest st. refl)
 
-pub product_leaf : (all : List Lexeme) (at : ℕ) (s : Sign) (r : _) → Some s ≡ head_sign (drop at (kinds all)) → r ≡ product_of s → MatchOption r (Passes all at (Rest 1 ∷ []) at []) (λ op. Whole all at (Rest 1 ∷ []) (at + 1) product_in (product_sign op ∷ []))
+pub product_leaf : (all : List Seen) (at : ℕ) (s : Sign) (r : _) → Some s ≡ head_sign (drop at (kinds all)) → r ≡ product_of s → MatchOption r (Passes all at (Rest 1 ∷ []) at []) (λ op. Whole all at (Rest 1 ∷ []) (at + 1) product_in (marked (product_sign op) (place_at all at) ∷ []))
 product_leaf all at s r e k = rw k (product_leaf_of s e)
   where
-    product_leaf_of : (u : Sign) → Some u ≡ head_sign (drop at (kinds all)) → MatchOption (product_of u) (Passes all at (Rest 1 ∷ []) at []) (λ op. Whole all at (Rest 1 ∷ []) (at + 1) product_in (product_sign op ∷ []))
-    product_leaf_of TimesSign f = takes_sign all at TimesSign _ _ f (λ rest st. refl)
-    product_leaf_of OverSign f = takes_sign all at OverSign _ _ f (λ rest st. refl)
-    product_leaf_of PercentSign f = takes_sign all at PercentSign _ _ f (λ rest st. refl)
+    product_leaf_of : (u : Sign) → Some u ≡ head_sign (drop at (kinds all)) → MatchOption (product_of u) (Passes all at (Rest 1 ∷ []) at []) (λ op. Whole all at (Rest 1 ∷ []) (at + 1) product_in (marked (product_sign op) (place_at all at) ∷ []))
+    product_leaf_of TimesSign f = takes_marked all at TimesSign _ _ f (λ rest st. refl)
+    product_leaf_of OverSign f = takes_marked all at OverSign _ _ f (λ rest st. refl)
+    product_leaf_of PercentSign f = takes_marked all at PercentSign _ _ f (λ rest st. refl)
     product_leaf_of TrueWord f = past_sign all at TrueWord _ f (λ rest st. refl)
     product_leaf_of FalseWord f = past_sign all at FalseWord _ f (λ rest st. refl)
     product_leaf_of LeftParen f = past_sign all at LeftParen _ f (λ rest st. refl)
@@ -202,17 +252,22 @@ product_leaf all at s r e k = rw k (product_leaf_of s e)
     product_leaf_of NoRdWord f = past_sign all at NoRdWord _ f (λ rest st. refl)
     product_leaf_of NoWrWord f = past_sign all at NoWrWord _ f (λ rest st. refl)
     product_leaf_of NoRdWrWord f = past_sign all at NoRdWrWord _ f (λ rest st. refl)
+    product_leaf_of InputWord f = past_sign all at InputWord _ f (λ rest st. refl)
+    product_leaf_of ObjectWord f = past_sign all at ObjectWord _ f (λ rest st. refl)
+    product_leaf_of ObjectsWord f = past_sign all at ObjectsWord _ f (λ rest st. refl)
+    product_leaf_of MainWord f = past_sign all at MainWord _ f (λ rest st. refl)
+    product_leaf_of Colon f = past_sign all at Colon _ f (λ rest st. refl)
 
-pub relation_leaf : (all : List Lexeme) (at : ℕ) (s : Sign) (r : _) → Some s ≡ head_sign (drop at (kinds all)) → r ≡ relation_of s → MatchOption r (Passes all at (Rest 3 ∷ []) at []) (λ op. Whole all at (Rest 3 ∷ []) (at + 1) sum_in (relation_sign op ∷ []))
+pub relation_leaf : (all : List Seen) (at : ℕ) (s : Sign) (r : _) → Some s ≡ head_sign (drop at (kinds all)) → r ≡ relation_of s → MatchOption r (Passes all at (Rest 3 ∷ []) at []) (λ op. Whole all at (Rest 3 ∷ []) (at + 1) sum_in (marked (relation_sign op) (place_at all at) ∷ []))
 relation_leaf all at s r e k = rw k (relation_leaf_of s e)
   where
-    relation_leaf_of : (u : Sign) → Some u ≡ head_sign (drop at (kinds all)) → MatchOption (relation_of u) (Passes all at (Rest 3 ∷ []) at []) (λ op. Whole all at (Rest 3 ∷ []) (at + 1) sum_in (relation_sign op ∷ []))
-    relation_leaf_of EqualSign f = takes_sign all at EqualSign _ _ f (λ rest st. refl)
-    relation_leaf_of UnequalSign f = takes_sign all at UnequalSign _ _ f (λ rest st. refl)
-    relation_leaf_of LessSign f = takes_sign all at LessSign _ _ f (λ rest st. refl)
-    relation_leaf_of LessEqualSign f = takes_sign all at LessEqualSign _ _ f (λ rest st. refl)
-    relation_leaf_of GreaterSign f = takes_sign all at GreaterSign _ _ f (λ rest st. refl)
-    relation_leaf_of GreaterEqualSign f = takes_sign all at GreaterEqualSign _ _ f (λ rest st. refl)
+    relation_leaf_of : (u : Sign) → Some u ≡ head_sign (drop at (kinds all)) → MatchOption (relation_of u) (Passes all at (Rest 3 ∷ []) at []) (λ op. Whole all at (Rest 3 ∷ []) (at + 1) sum_in (marked (relation_sign op) (place_at all at) ∷ []))
+    relation_leaf_of EqualSign f = takes_marked all at EqualSign _ _ f (λ rest st. refl)
+    relation_leaf_of UnequalSign f = takes_marked all at UnequalSign _ _ f (λ rest st. refl)
+    relation_leaf_of LessSign f = takes_marked all at LessSign _ _ f (λ rest st. refl)
+    relation_leaf_of LessEqualSign f = takes_marked all at LessEqualSign _ _ f (λ rest st. refl)
+    relation_leaf_of GreaterSign f = takes_marked all at GreaterSign _ _ f (λ rest st. refl)
+    relation_leaf_of GreaterEqualSign f = takes_marked all at GreaterEqualSign _ _ f (λ rest st. refl)
     relation_leaf_of TrueWord f = past_sign all at TrueWord _ f (λ rest st. refl)
     relation_leaf_of FalseWord f = past_sign all at FalseWord _ f (λ rest st. refl)
     relation_leaf_of LeftParen f = past_sign all at LeftParen _ f (λ rest st. refl)
@@ -252,15 +307,21 @@ relation_leaf all at s r e k = rw k (relation_leaf_of s e)
     relation_leaf_of NoRdWord f = past_sign all at NoRdWord _ f (λ rest st. refl)
     relation_leaf_of NoWrWord f = past_sign all at NoWrWord _ f (λ rest st. refl)
     relation_leaf_of NoRdWrWord f = past_sign all at NoRdWrWord _ f (λ rest st. refl)
+    relation_leaf_of InputWord f = past_sign all at InputWord _ f (λ rest st. refl)
+    relation_leaf_of ObjectWord f = past_sign all at ObjectWord _ f (λ rest st. refl)
+    relation_leaf_of ObjectsWord f = past_sign all at ObjectsWord _ f (λ rest st. refl)
+    relation_leaf_of MainWord f = past_sign all at MainWord _ f (λ rest st. refl)
+    relation_leaf_of Colon f = past_sign all at Colon _ f (λ rest st. refl)
 
-pub unary_leaf : (all : List Lexeme) (at : ℕ) (s : Sign) (r : _) → Some s ≡ head_sign (drop at (kinds all)) → r ≡ unary_of s → MatchOption r (NoUnary all at) (λ op. Whole all at (Need ∷ []) (at + 1) (Need ∷ []) (unary_sign op ∷ []))
+pub unary_leaf : (all : List Seen) (at : ℕ) (s : Sign) (r : _) → Some s ≡ head_sign (drop at (kinds all)) → r ≡ unary_of s → MatchOption r (NoUnary all at) (λ op. Whole all at (Need ∷ []) (at + 1) (Need ∷ []) (marked (unary_sign op) (place_at all at) ∷ []))
 unary_leaf all at s r e k = rw k (of s e)
   where
     none_here : (u : Sign) → Some u ≡ head_sign (drop at (kinds all)) → unary_of u ≡ None → NoUnary all at
     none_here u f n = record { none = λ v h. let w : v ≡ u = cc in rw w n }
-    of : (u : Sign) → Some u ≡ head_sign (drop at (kinds all)) → MatchOption (unary_of u) (NoUnary all at) (λ op. Whole all at (Need ∷ []) (at + 1) (Need ∷ []) (unary_sign op ∷ []))
-    of MinusSign f = takes_sign all at MinusSign _ _ f (λ rest st. refl)
-    of NotSign f = takes_sign all at NotSign _ _ f (λ rest st. refl)
+
+    of : (u : Sign) → Some u ≡ head_sign (drop at (kinds all)) → MatchOption (unary_of u) (NoUnary all at) (λ op. Whole all at (Need ∷ []) (at + 1) (Need ∷ []) (marked (unary_sign op) (place_at all at) ∷ []))
+    of MinusSign f = takes_marked all at MinusSign _ _ f (λ rest st. refl)
+    of NotSign f = takes_marked all at NotSign _ _ f (λ rest st. refl)
     of TrueWord f = none_here TrueWord f refl
     of FalseWord f = none_here FalseWord f refl
     of LeftParen f = none_here LeftParen f refl
@@ -304,6 +365,11 @@ unary_leaf all at s r e k = rw k (of s e)
     of NoRdWord f = none_here NoRdWord f refl
     of NoWrWord f = none_here NoWrWord f refl
     of NoRdWrWord f = none_here NoRdWrWord f refl
+    of InputWord f = none_here InputWord f refl
+    of ObjectWord f = none_here ObjectWord f refl
+    of ObjectsWord f = none_here ObjectsWord f refl
+    of MainWord f = none_here MainWord f refl
+    of Colon f = none_here Colon f refl
 
 pub head_is : (a b : Sign) (r : Bool) (o : Option Sign) → r ≡ same_sign a b → IsTrue r → Some b ≡ o → Some a ≡ o
 head_is a b r o e t h = let k : a ≡ b = same_is a b (rw (← e) t) in rw k h
@@ -354,18 +420,29 @@ must_step DfRdWrWord rest st = refl
 must_step NoRdWord rest st = refl
 must_step NoWrWord rest st = refl
 must_step NoRdWrWord rest st = refl
+must_step InputWord rest st = refl
+must_step ObjectWord rest st = refl
+must_step ObjectsWord rest st = refl
+must_step MainWord rest st = refl
+must_step Colon rest st = refl
 
-pub called_here : (xs : List Lexeme) (at : ℕ) (d : Lexeme) (b : _) → at < length xs → (get_or xs at d).kind ≡ KCalled b → Whole xs at (Need ∷ []) (at + 1) (First ∷ []) (Called b.now ∷ [])
+pub called_reads : (xs : List Seen) (at : ℕ) (b : List ℕ) → at < length xs → drop at (kinds xs) ≡ Called b ∷ drop (at + 1) (kinds xs) → Reads xs at (at + 1) (marked (Called b) (place_at xs at) ∷ [])
+called_reads xs at b lt h = record { forward = omega arith; within = omega arith; stands = h; agrees = (refl, tt); valid = λ k. record { is = rw (known_at (kinds xs) at (Called b) k.is h) refl } }
+
+pub counted_reads : (xs : List Seen) (at : ℕ) (v : ℤ) → at < length xs → drop at (kinds xs) ≡ Counted v ∷ drop (at + 1) (kinds xs) → Reads xs at (at + 1) (marked (Counted v) (place_at xs at) ∷ [])
+counted_reads xs at v lt h = record { forward = omega arith; within = omega arith; stands = h; agrees = (refl, tt); valid = λ k. record { is = rw (known_at (kinds xs) at (Counted v) k.is h) refl } }
+
+pub called_here : (xs : List Seen) (at : ℕ) (d : Seen) (b : _) → at < length xs → (get_or xs at d).kind ≡ KCalled b → Whole xs at (Need ∷ []) (at + 1) (First ∷ []) (marked (Called b.now) (place_at xs at) ∷ [])
 called_here xs at d b lt e =
     let h : drop at (kinds xs) ≡ Called b.now ∷ drop (at + 1) (kinds xs) = here xs at d lt ∙ rw e refl in
-    record { reads = record { forward = omega arith; within = omega arith; stands = h }; passes = record { by = λ st. rw h (omega arith) } }
+    record { reads = called_reads xs at b.now lt h; passes = record { by = λ st. rw h (omega arith) } }
 
-pub counted_here : (xs : List Lexeme) (at : ℕ) (d : Lexeme) (v : ℤ) → at < length xs → (get_or xs at d).kind ≡ KCounted v → Whole xs at (Need ∷ []) (at + 1) [] (Counted v ∷ [])
+pub counted_here : (xs : List Seen) (at : ℕ) (d : Seen) (v : ℤ) → at < length xs → (get_or xs at d).kind ≡ KCounted v → Whole xs at (Need ∷ []) (at + 1) [] (marked (Counted v) (get_or xs at d).pos ∷ [])
 counted_here xs at d v lt e =
     let h : drop at (kinds xs) ≡ Counted v ∷ drop (at + 1) (kinds xs) = here xs at d lt ∙ rw e refl in
-    record { reads = record { forward = omega arith; within = omega arith; stands = h }; passes = record { by = λ st. rw h (omega arith) } }
+    rw (pos_here xs at d lt) (record { reads = counted_reads xs at v lt h; passes = record { by = λ st. rw h (omega arith) } })
 
-pub nothing_here : (xs : List Lexeme) (at : ℕ) → length xs ≤ at → (st : Stack) → goes (drop at (kinds xs)) (Need ∷ st) ≡ 0
+pub nothing_here : (xs : List Seen) (at : ℕ) → length xs ≤ at → (st : Stack) → goes (drop at (kinds xs)) (Need ∷ st) ≡ 0
 nothing_here xs at le st =
     let n : length (kinds xs) ≡ length xs = length-map xs _ in
     let m : length (kinds xs) ≤ at = omega arith in
@@ -417,10 +494,18 @@ no_atom DfRdWrWord a b c d rest st = refl
 no_atom NoRdWord a b c d rest st = refl
 no_atom NoWrWord a b c d rest st = refl
 no_atom NoRdWrWord a b c d rest st = refl
+no_atom InputWord a b c d rest st = refl
+no_atom ObjectWord a b c d rest st = refl
+no_atom ObjectsWord a b c d rest st = refl
+no_atom MainWord a b c d rest st = refl
+no_atom Colon a b c d rest st = refl
 
-pub no_sign_here : (all : List Lexeme) (at : ℕ) (s : Sign) → Some s ≡ head_sign (drop at (kinds all)) → NoUnary all at → (s ≡ TrueWord → ⊥) → (s ≡ FalseWord → ⊥) → (s ≡ LeftParen → ⊥)
+pub odd_here : (xs : List Seen) (at : ℕ) (d : Seen) → at < length xs → (get_or xs at d).kind ≡ KOdd → (st : Stack) → goes (drop at (kinds xs)) (Need ∷ st) ≡ 0
+odd_here xs at d lt e st = rw (here xs at d lt, e) refl
+
+pub no_sign_here : (all : List Seen) (at : ℕ) (s : Sign) → Some s ≡ head_sign (drop at (kinds all)) → NoUnary all at → (s ≡ TrueWord → ⊥) → (s ≡ FalseWord → ⊥) → (s ≡ LeftParen → ⊥)
     → (st : Stack) → goes (drop at (kinds all)) (Need ∷ st) ≡ 0
 no_sign_here all at s e u a b c st = let r = split (kinds all) at s e in rw (r.0) (no_atom s a b c (u.none s (sym e)) (drop (at + 1) (kinds all)) st)
 
-pub within_here : (all : List Lexeme) (at : ℕ) (s : Sign) → Some s ≡ head_sign (drop at (kinds all)) → at ≤ length all
+pub within_here : (all : List Seen) (at : ℕ) (s : Sign) → Some s ≡ head_sign (drop at (kinds all)) → at ≤ length all
 within_here all at s e = let r = split (kinds all) at s e in let n : length (kinds all) ≡ length all = length-map all _ in omega (arith, r.1)

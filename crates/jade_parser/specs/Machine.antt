@@ -1,14 +1,10 @@
 -- What may still come.
 use Rattle.std.specs.Prelude.{◌≡◌, ℕ, ◌+◌, ◌==◌, Bool, true, false, cond, List, [], ◌∷◌, ◌++◌, Option, Some, None}
+use Rattle.jade_parser.specs.declared.Place.{Place}
+use Rattle.jade_parser.specs.declared.Place.TheVariants.{Main, Section, Amends}
 use Rattle.jade_parser.specs.declared.Sign.{Sign}
-use Rattle.jade_parser.specs.declared.Sign.TheVariants.{EqualSign, UnequalSign, LessSign, LessEqualSign, GreaterSign, GreaterEqualSign, PlusSign, MinusSign, TimesSign, OverSign, PercentSign, NotSign, TrueWord, FalseWord, LeftBracket, RightBracket, LeftParen, RightParen, AndSign, OrSign, Semicolon, Becomes, LeftBrace, RightBrace, IfWord, ElseWord, ForWord, InWord, DotDot, IntWord, BoolWord, WithonlyWord, WithWord, DoWord, ContWord, Comma, RdWord, WrWord, RdWrWord, DfRdWord, DfWrWord, DfRdWrWord, NoRdWord, NoWrWord, NoRdWrWord}
-use Rattle.jade_parser.specs.Spelled.{Token, Tokens, Fixed, Called, Counted}
-
--- the three kinds of blocks
-pub data Place : Type 0 where
-  Main : Place
-  Section : Place
-  Amends : Place
+use Rattle.jade_parser.specs.declared.Sign.TheVariants.{EqualSign, UnequalSign, LessSign, LessEqualSign, GreaterSign, GreaterEqualSign, PlusSign, MinusSign, TimesSign, OverSign, PercentSign, NotSign, TrueWord, FalseWord, LeftBracket, RightBracket, LeftParen, RightParen, AndSign, OrSign, Semicolon, Becomes, LeftBrace, RightBrace, IfWord, ElseWord, ForWord, InWord, DotDot, IntWord, BoolWord, WithonlyWord, WithWord, DoWord, ContWord, Comma, RdWord, WrWord, RdWrWord, DfRdWord, DfWrWord, DfRdWrWord, NoRdWord, NoWrWord, NoRdWrWord, InputWord, ObjectWord, ObjectsWord, MainWord, Colon}
+use Rattle.jade_parser.specs.Spelled.{Token, Tokens, Fixed, Called, Counted, Odd}
 
 pub data Symbol : Type 0 where
   Need : Symbol
@@ -22,6 +18,8 @@ pub data Symbol : Type 0 where
   Named : Place → Symbol
   Names : Symbol
   MoreNames : Symbol
+  NumberIs : Symbol
+  Items : Symbol
 
 abbrev pub Stack : Type 0
 Stack = List Symbol
@@ -48,6 +46,7 @@ abbrev pub rank : Token → ℕ
 rank (Fixed s) = sign_rank s
 rank (Called n) = 6
 rank (Counted v) = 6
+rank Odd = 6
 
 abbrev pub unary_in : Stack
 unary_in = Need ∷ []
@@ -87,6 +86,7 @@ need (Fixed MinusSign) st = Some (Need ∷ st)
 need (Fixed NotSign) st = Some (Need ∷ st)
 need (Fixed LeftParen) st = Some (expr_in ++ Must RightParen ∷ st)
 need (Fixed s) st = None
+need Odd st = None
 
 abbrev pub same_sign : Sign → Sign → Bool
 same_sign TrueWord TrueWord = true
@@ -134,12 +134,18 @@ same_sign DfRdWrWord DfRdWrWord = true
 same_sign NoRdWord NoRdWord = true
 same_sign NoWrWord NoWrWord = true
 same_sign NoRdWrWord NoRdWrWord = true
+same_sign InputWord InputWord = true
+same_sign ObjectWord ObjectWord = true
+same_sign ObjectsWord ObjectsWord = true
+same_sign MainWord MainWord = true
+same_sign Colon Colon = true
 same_sign a b = false
 
 abbrev pub is_sign : Sign → Token → Bool
 is_sign s (Fixed t) = same_sign s t
 is_sign s (Called n) = false
 is_sign s (Counted v) = false
+is_sign s Odd = false
 
 -- the words that declare, in a section and in amends
 abbrev pub declares : Place → Sign → Bool
@@ -171,11 +177,26 @@ abbrev pub statement : Place → Token → Stack → Option Stack
 statement c (Fixed s) st = statement_sign c s st
 statement c (Called n) st = Some (Named c ∷ Body c ∷ st)
 statement c (Counted v) st = None
+statement c Odd st = None
 
 abbrev pub name_only : Token → Stack → Option Stack
 name_only (Called n) st = Some st
 name_only (Fixed s) st = None
 name_only (Counted v) st = None
+name_only Odd st = None
+
+abbrev pub number_only : Token → Stack → Option Stack
+number_only (Counted v) st = Some st
+number_only (Fixed s) st = None
+number_only (Called n) st = None
+number_only Odd st = None
+
+abbrev pub item : Token → Stack → Option Stack
+item (Fixed InputWord) st = Some (NameIs ∷ Must Semicolon ∷ Items ∷ st)
+item (Fixed ObjectWord) st = Some (NameIs ∷ Must Colon ∷ NumberIs ∷ Must Semicolon ∷ Items ∷ st)
+item (Fixed ObjectsWord) st = Some (NameIs ∷ Must LeftBracket ∷ NumberIs ∷ Must RightBracket ∷ Must Colon ∷ NumberIs ∷ Must Semicolon ∷ Items ∷ st)
+item (Fixed MainWord) st = Some (Must LeftBrace ∷ Body Main ∷ st)
+item t st = None
 
 abbrev pub after_name : Place → Token → Stack → Option Stack
 after_name c (Fixed Becomes) st = Some (expr_in ++ Must Semicolon ∷ st)
@@ -205,6 +226,8 @@ feed (Else c ∷ st) t = cond (is_sign ElseWord t) (Some (Must LeftBrace ∷ Bod
 feed (Named c ∷ st) t = after_name c t st
 feed (Names ∷ st) t = names_begin t st
 feed (MoreNames ∷ st) t = names_go t st
+feed (NumberIs ∷ st) t = number_only t st
+feed (Items ∷ st) t = item t st
 
 -- 1 where nothing is missing
 abbrev pub ended : Stack → ℕ
@@ -220,6 +243,8 @@ ended (Else c ∷ st) = ended st
 ended (Named c ∷ st) = 0
 ended (Names ∷ st) = 0
 ended (MoreNames ∷ st) = 0
+ended (NumberIs ∷ st) = 0
+ended (Items ∷ st) = 0
 
 abbrev pub counted : (Stack → ℕ) → Option Stack → ℕ
 counted f None = 0

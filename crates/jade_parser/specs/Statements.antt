@@ -1,19 +1,23 @@
--- The tokens of a statement.
+-- The parts of a statement, and where it may stand.
 use Rattle.std.specs.Prelude.{◌≡◌, ℕ, Bool, true, false, ◌&&◌, List, [], ◌∷◌, ◌++◌, Option, Some, None}
 use Rattle.std.specs.List.{flat_map}
 use Rattle.jade_parser.specs.declared.Sign.{Sign}
 use Rattle.jade_syntax.specs.declared.tree.ValueKind.{ValueKind}
 use Rattle.jade_syntax.specs.declared.tree.ValueKind.TheVariants.{Int, Bool as BoolKind}
 use Rattle.jade_syntax.specs.declared.tree.DeclareWord.{DeclareWord}
-use Rattle.jade_syntax.specs.declared.tree.DeclareWord.TheVariants.{Rd, Wr, RdWr, DfRd, DfWr, DfRdWr, NoRd, NoWr, NoRdWr, Cm}
+use Rattle.jade_syntax.specs.declared.tree.DeclareWord.TheVariants.{Rd, Wr, RdWr, DfRd, DfWr, DfRdWr, NoRd, NoWr, NoRdWr}
 use Rattle.jade_syntax.specs.declared.tree.ObjectRef.{ObjectRef}
 use Rattle.jade_syntax.specs.declared.tree.Statement.{Statement, fold-Statement}
 use Rattle.jade_syntax.specs.declared.tree.Statement.TheOpen.{Statement-F}
-use Rattle.jade_parser.specs.declared.Sign.TheVariants.{EqualSign, LeftBracket, RightBracket, LeftParen, RightParen, LeftBrace, RightBrace, Becomes, Semicolon, Comma, DotDot, IfWord, ElseWord, ForWord, InWord, IntWord, BoolWord, WithonlyWord, WithWord, DoWord, ContWord, RdWord, WrWord, RdWrWord, DfRdWord, DfWrWord, DfRdWrWord, NoRdWord, NoWrWord, NoRdWrWord}
+use Rattle.jade_parser.specs.declared.Sign.TheVariants.{EqualSign, LeftBracket, RightBracket, LeftParen, RightParen, LeftBrace, RightBrace, Becomes, Semicolon, Comma, DotDot, IfWord, ElseWord, ForWord, InWord, IntWord, BoolWord, WithonlyWord, WithWord, DoWord, ContWord, RdWord, WrWord, RdWrWord, DfRdWord, DfWrWord, DfRdWrWord, NoRdWord, NoWrWord, NoRdWrWord, InputWord, ObjectWord, ObjectsWord, MainWord, Colon}
 use Rattle.jade_base.specs.declared.place.Pos.{Pos}
+use Rattle.jade_syntax.specs.declared.tree.CellRef.{CellRef, out-CellRef}
 use Rattle.jade_syntax.specs.declared.tree.Expr.{Expr}
-use Rattle.jade_parser.specs.Spelled.{Token, Tokens, Fixed, Called, Counted, expr_tokens, cell_tokens, bracketed}
-use Rattle.jade_parser.specs.Machine.{Place, Main, Section, Amends, declares}
+use Rattle.jade_syntax.specs.declared.tree.Named.{Named}
+use Rattle.jade_parser.specs.Spelled.{Token, Fixed, Called, Part, Parts, plain, fixed, marked, bracketed, outer}
+use Rattle.jade_parser.specs.declared.Place.{Place}
+use Rattle.jade_parser.specs.declared.Place.TheVariants.{Main, Section, Amends}
+use Rattle.jade_parser.specs.Machine.{declares}
 
 abbrev pub kind_word : ValueKind → Token
 kind_word Int = Fixed IntWord
@@ -29,66 +33,68 @@ declare_word DfRdWr = Fixed DfRdWrWord
 declare_word NoRd = Fixed NoRdWord
 declare_word NoWr = Fixed NoWrWord
 declare_word NoRdWr = Fixed NoRdWrWord
-declare_word Cm = Fixed RdWord
 
 -- ---- statements
 
-abbrev pub object_index : Option Expr → Tokens
-object_index None = []
-object_index (Some e) = bracketed (expr_tokens e)
+abbrev pub outer_index : Option Expr → Parts
+outer_index None = []
+outer_index (Some e) = bracketed (outer e)
 
-abbrev pub object_tokens : ObjectRef → Tokens
-object_tokens o = Called o.name ∷ object_index o.member
+abbrev pub object_parts : ObjectRef → Parts
+object_parts o = marked (Called o.name) o.pos ∷ outer_index o.member
 
-abbrev pub braced : List Tokens → Tokens
-braced parts = Fixed LeftBrace ∷ [] ++ flat_map (λ t. t) parts ++ Fixed RightBrace ∷ []
+-- the cell that is stored to, whose indexes lie in no other expression
+abbrev pub target_parts : CellRef → Parts
+target_parts c = marked (Called (out-CellRef c).name) (out-CellRef c).pos ∷ (outer_index (out-CellRef c).family ++ bracketed (outer (out-CellRef c).cell))
 
-abbrev pub more_names : List (List ℕ × Pos) → Tokens
-more_names ns = flat_map (λ n. Fixed Comma ∷ Called n.0 ∷ []) ns
+abbrev pub braced : List Parts → Parts
+braced parts = fixed LeftBrace ∷ [] ++ flat_map (λ t. t) parts ++ fixed RightBrace ∷ []
 
-abbrev pub name_tokens : List (List ℕ × Pos) → Tokens
-name_tokens [] = []
-name_tokens (n ∷ ns) = Called n.0 ∷ more_names ns
+abbrev pub more_names : List Named → Parts
+more_names ns = flat_map (λ n. fixed Comma ∷ marked (Called n.name) n.pos ∷ []) ns
 
-abbrev pub else_tokens : Option (List Tokens) → Tokens
-else_tokens None = []
-else_tokens (Some b) = Fixed ElseWord ∷ braced b
+abbrev pub name_parts : List Named → Parts
+name_parts [] = []
+name_parts (n ∷ ns) = marked (Called n.name) n.pos ∷ more_names ns
 
-abbrev pub at_statement : Statement-F Tokens → Tokens
-at_statement (Statement-F.Local kind name pos value) = kind_word kind ∷ Called name ∷ Fixed Becomes ∷ [] ++ expr_tokens value ++ Fixed Semicolon ∷ []
-at_statement (Statement-F.Assign name pos value) = Called name ∷ Fixed Becomes ∷ [] ++ expr_tokens value ++ Fixed Semicolon ∷ []
-at_statement (Statement-F.Store target value) = cell_tokens target ++ Fixed Becomes ∷ [] ++ expr_tokens value ++ Fixed Semicolon ∷ []
-at_statement (Statement-F.If test then otherwise) = Fixed IfWord ∷ [] ++ expr_tokens test ++ braced then ++ else_tokens otherwise
+abbrev pub else_parts : Option (List Parts) → Parts
+else_parts None = []
+else_parts (Some b) = fixed ElseWord ∷ braced b
+
+abbrev pub at_statement : Statement-F Parts → Parts
+at_statement (Statement-F.Local kind name pos value) = plain (kind_word kind) ∷ marked (Called name) pos ∷ fixed Becomes ∷ [] ++ outer value ++ fixed Semicolon ∷ []
+at_statement (Statement-F.Assign name pos value) = marked (Called name) pos ∷ fixed Becomes ∷ [] ++ outer value ++ fixed Semicolon ∷ []
+at_statement (Statement-F.Store target value) = target_parts target ++ fixed Becomes ∷ [] ++ outer value ++ fixed Semicolon ∷ []
+at_statement (Statement-F.If test then otherwise) = fixed IfWord ∷ [] ++ outer test ++ braced then ++ else_parts otherwise
 at_statement (Statement-F.For name pos low high body) =
-    Fixed ForWord ∷ Called name ∷ Fixed InWord ∷ [] ++ expr_tokens low ++ Fixed DotDot ∷ [] ++ expr_tokens high ++ braced body
+    fixed ForWord ∷ marked (Called name) pos ∷ fixed InWord ∷ [] ++ outer low ++ fixed DotDot ∷ [] ++ outer high ++ braced body
 at_statement (Statement-F.Withonly pos section names body) =
-    Fixed WithonlyWord ∷ [] ++ braced section ++ Fixed DoWord ∷ [] ++ Fixed LeftParen ∷ [] ++ name_tokens names ++ Fixed RightParen ∷ [] ++ braced body
-at_statement (Statement-F.With pos section) = Fixed WithWord ∷ [] ++ braced section ++ Fixed ContWord ∷ [] ++ Fixed Semicolon ∷ []
-at_statement (Statement-F.Declare word pos object) = declare_word word ∷ Fixed LeftParen ∷ [] ++ object_tokens object ++ Fixed RightParen ∷ [] ++ Fixed Semicolon ∷ []
+    marked (Fixed WithonlyWord) pos ∷ [] ++ braced section ++ fixed DoWord ∷ [] ++ fixed LeftParen ∷ [] ++ name_parts names ++ fixed RightParen ∷ [] ++ braced body
+at_statement (Statement-F.With pos section) = marked (Fixed WithWord) pos ∷ [] ++ braced section ++ fixed ContWord ∷ [] ++ fixed Semicolon ∷ []
+at_statement (Statement-F.Declare word pos object) = marked (declare_word word) pos ∷ fixed LeftParen ∷ [] ++ object_parts object ++ fixed RightParen ∷ [] ++ fixed Semicolon ∷ []
 
-abbrev pub statement_tokens : Statement → Tokens
-statement_tokens = fold-Statement Tokens at_statement
+abbrev pub statement_parts : Statement → Parts
+statement_parts = fold-Statement Parts at_statement
 
-abbrev pub block_tokens : List Statement → Tokens
-block_tokens b = Fixed LeftBrace ∷ [] ++ flat_map statement_tokens b ++ Fixed RightBrace ∷ []
+abbrev pub block_parts : List Statement → Parts
+block_parts b = fixed LeftBrace ∷ [] ++ flat_map statement_parts b ++ fixed RightBrace ∷ []
 
-abbrev pub else_block : Option (List Statement) → Tokens
+abbrev pub else_block : Option (List Statement) → Parts
 else_block None = []
-else_block (Some b) = Fixed ElseWord ∷ [] ++ block_tokens b
+else_block (Some b) = fixed ElseWord ∷ [] ++ block_parts b
 
 -- a statement whose parts are trees
-abbrev pub opened : Statement-F Statement → Tokens
-opened (Statement-F.Local kind name pos value) = kind_word kind ∷ Called name ∷ Fixed Becomes ∷ [] ++ expr_tokens value ++ Fixed Semicolon ∷ []
-opened (Statement-F.Assign name pos value) = Called name ∷ Fixed Becomes ∷ [] ++ expr_tokens value ++ Fixed Semicolon ∷ []
-opened (Statement-F.Store target value) = cell_tokens target ++ Fixed Becomes ∷ [] ++ expr_tokens value ++ Fixed Semicolon ∷ []
-opened (Statement-F.If test then otherwise) = Fixed IfWord ∷ [] ++ expr_tokens test ++ block_tokens then ++ else_block otherwise
+abbrev pub opened : Statement-F Statement → Parts
+opened (Statement-F.Local kind name pos value) = plain (kind_word kind) ∷ marked (Called name) pos ∷ fixed Becomes ∷ [] ++ outer value ++ fixed Semicolon ∷ []
+opened (Statement-F.Assign name pos value) = marked (Called name) pos ∷ fixed Becomes ∷ [] ++ outer value ++ fixed Semicolon ∷ []
+opened (Statement-F.Store target value) = target_parts target ++ fixed Becomes ∷ [] ++ outer value ++ fixed Semicolon ∷ []
+opened (Statement-F.If test then otherwise) = fixed IfWord ∷ [] ++ outer test ++ block_parts then ++ else_block otherwise
 opened (Statement-F.For name pos low high body) =
-    Fixed ForWord ∷ Called name ∷ Fixed InWord ∷ [] ++ expr_tokens low ++ Fixed DotDot ∷ [] ++ expr_tokens high ++ block_tokens body
+    fixed ForWord ∷ marked (Called name) pos ∷ fixed InWord ∷ [] ++ outer low ++ fixed DotDot ∷ [] ++ outer high ++ block_parts body
 opened (Statement-F.Withonly pos section names body) =
-    Fixed WithonlyWord ∷ [] ++ block_tokens section ++ Fixed DoWord ∷ [] ++ Fixed LeftParen ∷ [] ++ name_tokens names ++ Fixed RightParen ∷ [] ++ block_tokens body
-opened (Statement-F.With pos section) = Fixed WithWord ∷ [] ++ block_tokens section ++ Fixed ContWord ∷ [] ++ Fixed Semicolon ∷ []
-opened (Statement-F.Declare word pos object) = declare_word word ∷ Fixed LeftParen ∷ [] ++ object_tokens object ++ Fixed RightParen ∷ [] ++ Fixed Semicolon ∷ []
-
+    marked (Fixed WithonlyWord) pos ∷ [] ++ block_parts section ++ fixed DoWord ∷ [] ++ fixed LeftParen ∷ [] ++ name_parts names ++ fixed RightParen ∷ [] ++ block_parts body
+opened (Statement-F.With pos section) = marked (Fixed WithWord) pos ∷ [] ++ block_parts section ++ fixed ContWord ∷ [] ++ fixed Semicolon ∷ []
+opened (Statement-F.Declare word pos object) = marked (declare_word word) pos ∷ fixed LeftParen ∷ [] ++ object_parts object ++ fixed RightParen ∷ [] ++ fixed Semicolon ∷ []
 
 -- the statements stand where the grammar has them
 abbrev pub word_sign : DeclareWord → Sign
@@ -101,7 +107,6 @@ word_sign DfRdWr = DfRdWrWord
 word_sign NoRd = NoRdWord
 word_sign NoWr = NoWrWord
 word_sign NoRdWr = NoRdWrWord
-word_sign Cm = IfWord
 
 abbrev pub is_main : Place → Bool
 is_main Main = true

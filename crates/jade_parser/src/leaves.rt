@@ -1,15 +1,27 @@
 ghost use Rattle.std.specs.Prelude.{◌≡◌, ◌+◌, ◌++◌, [], ◌∷◌, drop, MatchOption, MatchResult, IsTrue, IsFalse, IfSome, length, ◌<◌};
-ghost use Rattle.jade_parser.specs.Reads.{head_sign, kinds, Passes, Whole, Stops, OnToken, NoUnary};
+ghost use Rattle.jade_parser.specs.Reads.{head_sign, kinds, place_at, Passes, Whole, Stops, OnToken, NoUnary};
 ghost use Rattle.jade_parser.specs.Ops.{sum_of as sum_spec, product_of as product_spec, relation_of as relation_spec, unary_of as unary_spec};
 ghost use Rattle.jade_parser.specs.Machine.{Rest, Need, First, Second, Must, sum_in, product_in, expr_in, and_in, same_sign};
-ghost use Rattle.jade_parser.specs.Spelled.{sum_sign, product_sign, relation_sign, unary_sign, Fixed};
+ghost use Rattle.jade_parser.specs.Spelled.{sum_sign, product_sign, relation_sign, unary_sign, Fixed, fixed, marked};
 ghost use Rattle.jade_parser.specs.declared.Sign.TheVariants.{OrSign, AndSign, LeftBracket, RightBracket};
 
-use crate::{Kind, Lexeme, ParseError, Sign};
+use crate::{Kind, Seen, Sign, Stop};
+use jade_base::Pos;
 use jade_syntax::tree::{ProductOp, Relation, SumOp, UnaryOp};
 
+/// The place of the token with a number.
+pub fn pos_at(tokens: &[Seen<'_>], at: usize) -> Pos
+    ensures { result ≡ place_at tokens.now at }
+{
+    if at < tokens.len() {
+        tokens[at].pos
+    } else {
+        Pos { line: 0, column: 0 }
+    }
+}
+
 /// The sign that stands at the place.
-pub fn sign_at(tokens: &[Lexeme<'_>], at: usize) -> Option<Sign>
+pub fn sign_at(tokens: &[Seen<'_>], at: usize) -> Option<Sign>
     ensures { result ≡ head_sign (drop at (kinds tokens.now)) }
 {
     if at < tokens.len() {
@@ -17,6 +29,7 @@ pub fn sign_at(tokens: &[Lexeme<'_>], at: usize) -> Option<Sign>
             Kind::Fixed(sign) => Some(sign),
             Kind::Called(_) => None,
             Kind::Counted(_) => None,
+            Kind::Odd => None,
         }
     } else {
         None
@@ -75,8 +88,8 @@ pub fn same(a: Sign, b: Sign) -> bool
 }
 
 /// An operator that adds.
-pub fn sum_op(tokens: &[Lexeme<'_>], at: usize) -> Option<SumOp>
-    ensures { MatchOption result (Passes tokens.now at (Rest 2 ∷ []) at []) (λ op. Whole tokens.now at (Rest 2 ∷ []) (at + 1) sum_in (sum_sign op ∷ [])) }
+pub fn sum_op(tokens: &[Seen<'_>], at: usize) -> Option<SumOp>
+    ensures { MatchOption result (Passes tokens.now at (Rest 2 ∷ []) at []) (λ op. Whole tokens.now at (Rest 2 ∷ []) (at + 1) sum_in (marked (sum_sign op) (place_at tokens.now at) ∷ [])) }
 {
     match sign_at(tokens, at) {
         Some(sign) => sum_of(sign),
@@ -85,8 +98,8 @@ pub fn sum_op(tokens: &[Lexeme<'_>], at: usize) -> Option<SumOp>
 }
 
 /// An operator that multiplies.
-pub fn product_op(tokens: &[Lexeme<'_>], at: usize) -> Option<ProductOp>
-    ensures { MatchOption result (Passes tokens.now at (Rest 1 ∷ []) at []) (λ op. Whole tokens.now at (Rest 1 ∷ []) (at + 1) product_in (product_sign op ∷ [])) }
+pub fn product_op(tokens: &[Seen<'_>], at: usize) -> Option<ProductOp>
+    ensures { MatchOption result (Passes tokens.now at (Rest 1 ∷ []) at []) (λ op. Whole tokens.now at (Rest 1 ∷ []) (at + 1) product_in (marked (product_sign op) (place_at tokens.now at) ∷ [])) }
 {
     match sign_at(tokens, at) {
         Some(sign) => product_of(sign),
@@ -95,8 +108,8 @@ pub fn product_op(tokens: &[Lexeme<'_>], at: usize) -> Option<ProductOp>
 }
 
 /// A relation.
-pub fn relation(tokens: &[Lexeme<'_>], at: usize) -> Option<Relation>
-    ensures { MatchOption result (Passes tokens.now at (Rest 3 ∷ []) at []) (λ op. Whole tokens.now at (Rest 3 ∷ []) (at + 1) sum_in (relation_sign op ∷ [])) }
+pub fn relation(tokens: &[Seen<'_>], at: usize) -> Option<Relation>
+    ensures { MatchOption result (Passes tokens.now at (Rest 3 ∷ []) at []) (λ op. Whole tokens.now at (Rest 3 ∷ []) (at + 1) sum_in (marked (relation_sign op) (place_at tokens.now at) ∷ [])) }
 {
     match sign_at(tokens, at) {
         Some(sign) => relation_of(sign),
@@ -105,8 +118,8 @@ pub fn relation(tokens: &[Lexeme<'_>], at: usize) -> Option<Relation>
 }
 
 /// A sign in front.
-pub fn unary_op(tokens: &[Lexeme<'_>], at: usize) -> Option<UnaryOp>
-    ensures { MatchOption result (NoUnary tokens.now at) (λ op. Whole tokens.now at (Need ∷ []) (at + 1) (Need ∷ []) (unary_sign op ∷ [])) }
+pub fn unary_op(tokens: &[Seen<'_>], at: usize) -> Option<UnaryOp>
+    ensures { MatchOption result (NoUnary tokens.now at) (λ op. Whole tokens.now at (Need ∷ []) (at + 1) (Need ∷ []) (marked (unary_sign op) (place_at tokens.now at) ∷ [])) }
 {
     match sign_at(tokens, at) {
         Some(sign) => unary_of(sign),
@@ -115,8 +128,8 @@ pub fn unary_op(tokens: &[Lexeme<'_>], at: usize) -> Option<UnaryOp>
 }
 
 /// Whether `||` stands there.
-pub fn or_op(tokens: &[Lexeme<'_>], at: usize) -> bool
-    ensures yes { IsTrue result → Whole tokens.now at (Rest 5 ∷ []) (at + 1) expr_in (Fixed OrSign ∷ []) }
+pub fn or_op(tokens: &[Seen<'_>], at: usize) -> bool
+    ensures yes { IsTrue result → Whole tokens.now at (Rest 5 ∷ []) (at + 1) expr_in (marked (Fixed OrSign) (place_at tokens.now at) ∷ []) }
     ensures no { IsFalse result → Passes tokens.now at (Rest 5 ∷ []) at [] }
 {
     match sign_at(tokens, at) {
@@ -126,8 +139,8 @@ pub fn or_op(tokens: &[Lexeme<'_>], at: usize) -> bool
 }
 
 /// Whether `&&` stands there.
-pub fn and_op(tokens: &[Lexeme<'_>], at: usize) -> bool
-    ensures yes { IsTrue result → Whole tokens.now at (Rest 4 ∷ []) (at + 1) and_in (Fixed AndSign ∷ []) }
+pub fn and_op(tokens: &[Seen<'_>], at: usize) -> bool
+    ensures yes { IsTrue result → Whole tokens.now at (Rest 4 ∷ []) (at + 1) and_in (marked (Fixed AndSign) (place_at tokens.now at) ∷ []) }
     ensures no { IsFalse result → Passes tokens.now at (Rest 4 ∷ []) at [] }
 {
     match sign_at(tokens, at) {
@@ -137,9 +150,9 @@ pub fn and_op(tokens: &[Lexeme<'_>], at: usize) -> bool
 }
 
 /// Whether `[` stands there.
-pub fn bracket(tokens: &[Lexeme<'_>], at: usize) -> bool
-    ensures first { IsTrue result → Whole tokens.now at (First ∷ []) (at + 1) (expr_in ++ Must RightBracket ∷ Second ∷ []) (Fixed LeftBracket ∷ []) }
-    ensures second { IsTrue result → Whole tokens.now at (Second ∷ []) (at + 1) (expr_in ++ Must RightBracket ∷ []) (Fixed LeftBracket ∷ []) }
+pub fn bracket(tokens: &[Seen<'_>], at: usize) -> bool
+    ensures first { IsTrue result → Whole tokens.now at (First ∷ []) (at + 1) (expr_in ++ Must RightBracket ∷ Second ∷ []) (fixed LeftBracket ∷ []) }
+    ensures second { IsTrue result → Whole tokens.now at (Second ∷ []) (at + 1) (expr_in ++ Must RightBracket ∷ []) (fixed LeftBracket ∷ []) }
     ensures no_first { IsFalse result → Passes tokens.now at (First ∷ []) at [] }
     ensures no_second { IsFalse result → Passes tokens.now at (Second ∷ []) at [] }
 {
@@ -150,17 +163,17 @@ pub fn bracket(tokens: &[Lexeme<'_>], at: usize) -> bool
 }
 
 /// The place after the sign.
-pub fn expect(tokens: &[Lexeme<'_>], at: usize, wanted: Sign) -> Result<usize, ParseError>
-    ensures { MatchResult result (λ next. Whole tokens.now at (Must wanted ∷ []) next [] (Fixed wanted ∷ [])) (λ e. OnToken e (λ k. (k ≡ at) × Stops tokens.now at (Must wanted ∷ []) at)) }
+pub fn expect(tokens: &[Seen<'_>], at: usize, wanted: Sign) -> Result<usize, Stop>
+    ensures { MatchResult result (λ next. Whole tokens.now at (Must wanted ∷ []) next [] (fixed wanted ∷ [])) (λ e. OnToken e (λ k. (k ≡ at) × Stops tokens.now at (Must wanted ∷ []) at)) }
 {
     match sign_at(tokens, at) {
         Some(sign) => {
             if same(wanted, sign) {
                 Ok(at + 1)
             } else {
-                Err(ParseError::Token(at))
+                Err(Stop::Token(at))
             }
         }
-        None => Err(ParseError::Token(at)),
+        None => Err(Stop::Token(at)),
     }
 }

@@ -1,14 +1,14 @@
-//! A parser of expressions, exact in both directions.
+//! The parser: from the tokens of a text to the tree of its program, or to the first token that is
+//! refused.
 #![tactic(auto)]
 
-
-
+mod kinds;
 mod leaves;
 mod parse;
-mod stats;
 
 use jade_base::Pos;
 
+/// A word or a symbol of the language.
 #[derive(Clone, Copy, Debug, PartialEq, Eq)]
 pub enum Sign {
     TrueWord,
@@ -56,26 +56,42 @@ pub enum Sign {
     NoRdWord,
     NoWrWord,
     NoRdWrWord,
+    InputWord,
+    ObjectWord,
+    ObjectsWord,
+    MainWord,
+    Colon,
 }
 
-/// What a token is.
+/// What a token is. `Odd` is what stands in no program.
 #[derive(Clone, Copy)]
 pub enum Kind<'t> {
     Fixed(Sign),
     Called(&'t [u8]),
     Counted(i64),
+    Odd,
 }
 
-/// A token of the text.
+/// A token as what it is, and its place.
 #[derive(Clone, Copy)]
-pub struct Lexeme<'t> {
+pub struct Seen<'t> {
     pub kind: Kind<'t>,
     pub pos: Pos,
 }
 
+/// Where a statement stands: in a body, in the section of a `withonly`, or in that of a `with`.
+#[derive(Clone, Copy, Debug, PartialEq, Eq)]
+pub enum Place {
+    Main,
+    Section,
+    Amends,
+}
+
+/// Why no tree was read: the number of the first refused token, or of the 257th token of an
+/// outermost expression, counted from 0, or want of memory.
 #[derive(Debug, Drop)]
-pub enum ParseError {
+pub enum Stop {
     Token(usize),
-    Deep,
+    Long(usize),
     Memory,
 }

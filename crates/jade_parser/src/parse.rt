@@ -1,28 +1,24 @@
 ghost use Rattle.std.specs.Prelude.{◌≡◌, ℕ, ◌+◌, ◌<◌, ◌≤◌, [], ◌∷◌, ◌++◌, drop, length, MatchResult, Some};
 ghost use Rattle.std.specs.List.{flat_map};
-ghost use Rattle.jade_parser.specs.Reads.{Parsed, Whole, NoUnary, OnToken, closed, head_sign, kinds};
+ghost use Rattle.jade_parser.specs.Reads.{Parsed, Whole, NoUnary, OnToken, closed, head_sign, kinds, place_at};
 ghost use Rattle.jade_parser.specs.Machine.{Need, First, Second, Must, expr_in, and_in, compare_in, sum_in, product_in, unary_in};
-ghost use Rattle.jade_parser.specs.Spelled.{expr_tokens, and_tokens, compare_tokens, sum_tokens, product_tokens, unary_tokens, atom_tokens, cell_tokens, sign_part, Fixed, Called};
+ghost use Rattle.jade_parser.specs.Spelled.{expr_parts, and_parts, compare_parts, sum_parts, product_parts, unary_parts, atom_parts, cell_parts, sign_part, Called, marked, fixed};
 ghost use Rattle.jade_parser.specs.declared.Sign.TheVariants.{LeftBracket, RightBracket};
 
-use crate::leaves::{and_op, bracket, expect, or_op, product_op, relation, sum_op, unary_op};
-use crate::{Kind, Lexeme, ParseError, Sign};
-use std::alloc::Global;
-use jade_syntax::tree::{
-    AndExpr, AndExprs, Atom, CellRef, Compare, Compares, Expr, Name, Number, Pos, Product,
-    Products, Signs, Sum, Unaries, Unary,
+use crate::leaves::{
+    and_op, bracket, expect, or_op, pos_at, product_op, relation, sum_op, unary_op,
 };
-
-pub(crate) fn pos_at(tokens: &[Lexeme<'_>], at: usize) -> Pos {
-    if at < tokens.len() {
-        tokens[at].pos
-    } else {
-        Pos { line: 0, column: 0 }
-    }
-}
+use crate::{Kind, Seen, Sign, Stop};
+use jade_base::Pos;
+use jade_syntax::Name;
+use jade_syntax::tree::{
+    AndExpr, AndExprs, Atom, CellRef, Compare, Compares, Expr, Number, Product, Products, Signs,
+    Sum, Unaries, Unary,
+};
+use std::alloc::Global;
 
 /// The signs in front of an atom.
-fn signs(alloc: Global, tokens: &[Lexeme<'_>], start: usize) -> Result<(Signs, usize), ParseError>
+fn signs(alloc: Global, tokens: &[Seen<'_>], start: usize) -> Result<(Signs, usize), Stop>
     requires { start ≤ length tokens.now }
     ensures { MatchResult result (λ r. Whole tokens.now start (Need ∷ []) r.1 (Need ∷ []) (flat_map sign_part r.0) × NoUnary tokens.now r.1) (λ e. OnToken e (λ _. ⊥)) }
 {
@@ -32,7 +28,7 @@ fn signs(alloc: Global, tokens: &[Lexeme<'_>], start: usize) -> Result<(Signs, u
         let pos = pos_at(tokens, at);
         match all.push((op, pos)) {
             Ok(()) => at += 1,
-            Err(_) => return Err(ParseError::Memory),
+            Err(_) => return Err(Stop::Memory),
         }
     }
     Ok((all, at))
@@ -41,12 +37,12 @@ fn signs(alloc: Global, tokens: &[Lexeme<'_>], start: usize) -> Result<(Signs, u
 #[cycle(expr)]
 pub(crate) fn parse_expr(
     alloc: Global,
-    tokens: &[Lexeme<'_>],
+    tokens: &[Seen<'_>],
     start: usize,
     depth: usize,
-) -> Result<(Expr, usize), ParseError>
+) -> Result<(Expr, usize), Stop>
     requires { start ≤ length tokens.now }
-    ensures { Parsed expr_tokens tokens.now start expr_in result }
+    ensures { Parsed expr_parts tokens.now start expr_in result }
 {
     let (first, mut at) = parse_and(alloc, tokens, start, depth)?;
     let mut rest = AndExprs::empty(alloc);
@@ -58,7 +54,7 @@ pub(crate) fn parse_expr(
         };
         match rest.push((pos, next)) {
             Ok(()) => at = after,
-            Err(_) => return Err(ParseError::Memory),
+            Err(_) => return Err(Stop::Memory),
         }
     }
     Ok((Expr { first, rest }, at))
@@ -67,12 +63,12 @@ pub(crate) fn parse_expr(
 #[cycle(expr)]
 fn parse_and(
     alloc: Global,
-    tokens: &[Lexeme<'_>],
+    tokens: &[Seen<'_>],
     start: usize,
     depth: usize,
-) -> Result<(AndExpr, usize), ParseError>
+) -> Result<(AndExpr, usize), Stop>
     requires { start ≤ length tokens.now }
-    ensures { Parsed and_tokens tokens.now start and_in result }
+    ensures { Parsed and_parts tokens.now start and_in result }
 {
     let (first, mut at) = parse_compare(alloc, tokens, start, depth)?;
     let mut rest = Compares::empty(alloc);
@@ -84,7 +80,7 @@ fn parse_and(
         };
         match rest.push((pos, next)) {
             Ok(()) => at = after,
-            Err(_) => return Err(ParseError::Memory),
+            Err(_) => return Err(Stop::Memory),
         }
     }
     Ok((AndExpr { first, rest }, at))
@@ -93,12 +89,12 @@ fn parse_and(
 #[cycle(expr)]
 fn parse_compare(
     alloc: Global,
-    tokens: &[Lexeme<'_>],
+    tokens: &[Seen<'_>],
     start: usize,
     depth: usize,
-) -> Result<(Compare, usize), ParseError>
+) -> Result<(Compare, usize), Stop>
     requires { start ≤ length tokens.now }
-    ensures { Parsed compare_tokens tokens.now start compare_in result }
+    ensures { Parsed compare_parts tokens.now start compare_in result }
 {
     let (left, at) = parse_sum(alloc, tokens, start, depth)?;
     match relation(tokens, at) {
@@ -120,12 +116,12 @@ fn parse_compare(
 #[cycle(expr)]
 fn parse_sum(
     alloc: Global,
-    tokens: &[Lexeme<'_>],
+    tokens: &[Seen<'_>],
     start: usize,
     depth: usize,
-) -> Result<(Sum, usize), ParseError>
+) -> Result<(Sum, usize), Stop>
     requires { start ≤ length tokens.now }
-    ensures { Parsed sum_tokens tokens.now start sum_in result }
+    ensures { Parsed sum_parts tokens.now start sum_in result }
 {
     let (first, mut at) = parse_product(alloc, tokens, start, depth)?;
     let mut rest = Products::empty(alloc);
@@ -137,7 +133,7 @@ fn parse_sum(
         };
         match rest.push((op, pos, next)) {
             Ok(()) => at = after,
-            Err(_) => return Err(ParseError::Memory),
+            Err(_) => return Err(Stop::Memory),
         }
     }
     Ok((Sum { first, rest }, at))
@@ -146,12 +142,12 @@ fn parse_sum(
 #[cycle(expr)]
 fn parse_product(
     alloc: Global,
-    tokens: &[Lexeme<'_>],
+    tokens: &[Seen<'_>],
     start: usize,
     depth: usize,
-) -> Result<(Product, usize), ParseError>
+) -> Result<(Product, usize), Stop>
     requires { start ≤ length tokens.now }
-    ensures { Parsed product_tokens tokens.now start product_in result }
+    ensures { Parsed product_parts tokens.now start product_in result }
 {
     let (first, mut at) = parse_unary(alloc, tokens, start, depth)?;
     let mut rest = Unaries::empty(alloc);
@@ -163,7 +159,7 @@ fn parse_product(
         };
         match rest.push((op, pos, next)) {
             Ok(()) => at = after,
-            Err(_) => return Err(ParseError::Memory),
+            Err(_) => return Err(Stop::Memory),
         }
     }
     Ok((Product { first, rest }, at))
@@ -172,12 +168,12 @@ fn parse_product(
 #[cycle(expr)]
 fn parse_unary(
     alloc: Global,
-    tokens: &[Lexeme<'_>],
+    tokens: &[Seen<'_>],
     start: usize,
     depth: usize,
-) -> Result<(Unary, usize), ParseError>
+) -> Result<(Unary, usize), Stop>
     requires { start ≤ length tokens.now }
-    ensures { Parsed unary_tokens tokens.now start unary_in result }
+    ensures { Parsed unary_parts tokens.now start unary_in result }
 {
     let (signs, at) = signs(alloc, tokens, start)?;
     let (atom, after) = parse_atom(alloc, tokens, at, depth)?;
@@ -187,13 +183,13 @@ fn parse_unary(
 #[cycle(expr)]
 fn parse_atom(
     alloc: Global,
-    tokens: &[Lexeme<'_>],
+    tokens: &[Seen<'_>],
     start: usize,
     depth: usize,
-) -> Result<(Atom, usize), ParseError>
+) -> Result<(Atom, usize), Stop>
     requires within { start ≤ length tokens.now }
     requires no_sign { NoUnary tokens.now start }
-    ensures { Parsed atom_tokens tokens.now start unary_in result }
+    ensures { Parsed atom_parts tokens.now start unary_in result }
 {
     if start < tokens.len() {
         let pos = tokens[start].pos;
@@ -201,9 +197,10 @@ fn parse_atom(
             Kind::Counted(value) => Ok((Atom::Whole(Number { value, pos }), start + 1)),
             Kind::Called(text) => parse_named(alloc, tokens, start, text, depth),
             Kind::Fixed(sign) => parse_fixed(alloc, tokens, start, sign, depth),
+            Kind::Odd => Err(Stop::Token(start)),
         }
     } else {
-        Err(ParseError::Token(start))
+        Err(Stop::Token(start))
     }
 }
 
@@ -211,30 +208,30 @@ fn parse_atom(
 #[cycle(expr)]
 fn parse_fixed(
     alloc: Global,
-    tokens: &[Lexeme<'_>],
+    tokens: &[Seen<'_>],
     start: usize,
     sign: Sign,
     depth: usize,
-) -> Result<(Atom, usize), ParseError>
+) -> Result<(Atom, usize), Stop>
     requires here { Some sign ≡ head_sign (drop start (kinds tokens.now)) }
     requires no_sign { NoUnary tokens.now start }
-    ensures { Parsed atom_tokens tokens.now start unary_in result }
+    ensures { Parsed atom_parts tokens.now start unary_in result }
 {
     match sign {
         Sign::TrueWord => Ok((Atom::Truth(true, pos_at(tokens, start)), start + 1)),
         Sign::FalseWord => Ok((Atom::Truth(false, pos_at(tokens, start)), start + 1)),
         Sign::LeftParen => {
             if depth == 0 {
-                return Err(ParseError::Deep);
+                return Err(Stop::Memory);
             }
             let pos = pos_at(tokens, start);
             let (inner, at) = parse_closed(alloc, tokens, start + 1, Sign::RightParen, depth - 1)?;
             match Box::new(alloc, inner) {
                 Ok(inner) => Ok((Atom::Group(pos, inner), at)),
-                Err(_) => Err(ParseError::Memory),
+                Err(_) => Err(Stop::Memory),
             }
         }
-        _ => Err(ParseError::Token(start)),
+        _ => Err(Stop::Token(start)),
     }
 }
 
@@ -242,11 +239,11 @@ fn parse_fixed(
 #[cycle(expr)]
 pub(crate) fn parse_closed(
     alloc: Global,
-    tokens: &[Lexeme<'_>],
+    tokens: &[Seen<'_>],
     start: usize,
     closer: Sign,
     depth: usize,
-) -> Result<(Expr, usize), ParseError>
+) -> Result<(Expr, usize), Stop>
     requires { start ≤ length tokens.now }
     ensures { Parsed (closed closer) tokens.now start (expr_in ++ Must closer ∷ []) result }
 {
@@ -259,24 +256,24 @@ pub(crate) fn parse_closed(
 #[cycle(expr)]
 fn parse_named(
     alloc: Global,
-    tokens: &[Lexeme<'_>],
+    tokens: &[Seen<'_>],
     start: usize,
     text: &[u8],
     depth: usize,
-) -> Result<(Atom, usize), ParseError>
-    requires { Whole tokens.now start (Need ∷ []) (start + 1) (First ∷ []) (Called text.now ∷ []) }
-    ensures { Parsed atom_tokens tokens.now start unary_in result }
+) -> Result<(Atom, usize), Stop>
+    requires { Whole tokens.now start (Need ∷ []) (start + 1) (First ∷ []) (marked (Called text.now) (place_at tokens.now start) ∷ []) }
+    ensures { Parsed atom_parts tokens.now start unary_in result }
 {
     let pos = pos_at(tokens, start);
     let name = match Name::of(alloc, text) {
         Ok(name) => name,
-        Err(_) => return Err(ParseError::Memory),
+        Err(_) => return Err(Stop::Memory),
     };
     if bracket(tokens, start + 1) {
         let (cell, at) = parse_cell(alloc, tokens, start, name, pos, depth)?;
         match Box::new(alloc, cell) {
             Ok(cell) => Ok((Atom::Cell(cell), at)),
-            Err(_) => Err(ParseError::Memory),
+            Err(_) => Err(Stop::Memory),
         }
     } else {
         Ok((Atom::Named(name, pos), start + 1))
@@ -287,17 +284,17 @@ fn parse_named(
 #[cycle(expr)]
 fn parse_cell(
     alloc: Global,
-    tokens: &[Lexeme<'_>],
+    tokens: &[Seen<'_>],
     start: usize,
     name: Name,
     pos: Pos,
     depth: usize,
-) -> Result<(CellRef, usize), ParseError>
-    requires { Whole tokens.now start (Need ∷ []) (start + 2) (expr_in ++ Must RightBracket ∷ Second ∷ []) (Called name ∷ Fixed LeftBracket ∷ []) }
-    ensures { Parsed cell_tokens tokens.now start unary_in result }
+) -> Result<(CellRef, usize), Stop>
+    requires { Whole tokens.now start (Need ∷ []) (start + 2) (expr_in ++ Must RightBracket ∷ Second ∷ []) (marked (Called name) pos ∷ fixed LeftBracket ∷ []) }
+    ensures { Parsed cell_parts tokens.now start unary_in result }
 {
     if depth == 0 {
-        return Err(ParseError::Deep);
+        return Err(Stop::Memory);
     }
     let (first, at) = parse_closed(alloc, tokens, start + 2, Sign::RightBracket, depth - 1)?;
     if bracket(tokens, at) {

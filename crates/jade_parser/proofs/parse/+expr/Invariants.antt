@@ -1,6 +1,6 @@
 use Rattle.std.proofs.Common.{◌-◌, ◌+◌, ◌*◌, ◌++◌, [], ◌∷◌, length}
 use Rattle.std.specs.List.{flat_map}
-use Rattle.jade_parser.specs.Spelled.{and_tokens, compare_tokens, product_tokens, unary_tokens, or_part, and_part, sum_part, product_part}
+use Rattle.jade_parser.specs.Spelled.{and_parts, compare_parts, product_parts, unary_parts, or_part, and_part, sum_part, product_part}
 use Rattle.jade_parser.specs.Machine.{Rest, expr_in, and_in, sum_in, product_in}
 use Rattle.jade_parser.specs.Reads.{Whole}
 use Rattle.jade_parser.proofs.parse.+expr.Given as goal
@@ -39,26 +39,25 @@ abbrev pub decreases-parse_closed : goal.decreases-parse_closed
 decreases-parse_closed l = 20 * l.depth + 15
 
 abbrev pub invariant-parse_expr-chain : goal.invariant-parse_expr-chain
-invariant-parse_expr-chain l = Whole l.tokens l.fn.start expr_in l.at (Rest 5 ∷ []) (and_tokens l.first ++ flat_map or_part l.rest)
+invariant-parse_expr-chain l = Whole l.tokens l.fn.start expr_in l.at (Rest 5 ∷ []) (and_parts l.first ++ flat_map or_part l.rest)
 
 abbrev pub decreases-parse_expr-chain : goal.decreases-parse_expr-chain
 decreases-parse_expr-chain l = length l.tokens - l.at
 
 abbrev pub invariant-parse_and-chain : goal.invariant-parse_and-chain
-invariant-parse_and-chain l = Whole l.tokens l.fn.start and_in l.at (Rest 4 ∷ []) (compare_tokens l.first ++ flat_map and_part l.rest)
+invariant-parse_and-chain l = Whole l.tokens l.fn.start and_in l.at (Rest 4 ∷ []) (compare_parts l.first ++ flat_map and_part l.rest)
 
 abbrev pub decreases-parse_and-chain : goal.decreases-parse_and-chain
 decreases-parse_and-chain l = length l.tokens - l.at
 
 abbrev pub invariant-parse_sum-chain : goal.invariant-parse_sum-chain
-invariant-parse_sum-chain l = Whole l.tokens l.fn.start sum_in l.at (Rest 2 ∷ []) (product_tokens l.first ++ flat_map sum_part l.rest)
+invariant-parse_sum-chain l = Whole l.tokens l.fn.start sum_in l.at (Rest 2 ∷ []) (product_parts l.first ++ flat_map sum_part l.rest)
 
 abbrev pub decreases-parse_sum-chain : goal.decreases-parse_sum-chain
 decreases-parse_sum-chain l = length l.tokens - l.at
 
 abbrev pub invariant-parse_product-chain : goal.invariant-parse_product-chain
-invariant-parse_product-chain l = Whole l.tokens l.fn.start product_in l.at (Rest 1 ∷ []) (unary_tokens l.first ++ flat_map product_part l.rest)
+invariant-parse_product-chain l = Whole l.tokens l.fn.start product_in l.at (Rest 1 ∷ []) (unary_parts l.first ++ flat_map product_part l.rest)
 
 abbrev pub decreases-parse_product-chain : goal.decreases-parse_product-chain
 decreases-parse_product-chain l = length l.tokens - l.at
-
