@@ -2,6 +2,7 @@
 //! refused.
 #![tactic(auto)]
 
+mod kinds;
 mod leaves;
 mod names;
 mod outer;
