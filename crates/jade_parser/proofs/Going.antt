@@ -72,3 +72,10 @@ stop_other P f all a b xs ys zs s more tree (AtToken k) eq fits v short w o =
     rw (o.0) (stop_here P f all a b xs (ys ++ zs) s more tree eq fits v short w under)
 stop_other P f all a b xs ys zs s more tree (Long k) eq fits v short w o = elim o [ ]
 stop_other P f all a b xs ys zs s more tree Memory eq fits v short w o = tt
+
+-- what stands below changes no refusal
+pub stop_under : {X : Type 0} (P : X → Type 0) (f : X → Parts) (all : List Seen) (a : ℕ) (xs zs : Stack) (e : Stop)
+    → OnStop e (RefusalIn P f all a xs) (LongIn P f all a) → OnStop e (RefusalIn P f all a (xs ++ zs)) (LongIn P f all a)
+stop_under P f all a xs zs (AtToken k) o = refusal_in_under zs o
+stop_under P f all a xs zs (Long k) o = o
+stop_under P f all a xs zs Memory o = tt

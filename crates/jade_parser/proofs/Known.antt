@@ -144,6 +144,7 @@ is_the_decimal x h =
     nonempty : (x : List ℕ) → is_run x ≡ true → 0 < length x
     nonempty [] h = absurd (cc)
     nonempty (b ∷ x) h = omega arith
+
     alone : (x : List ℕ) → has_needless_zero x ≡ false → get_or x 0 0 ≡ 48 → length x ≡ 1
     alone [] h e = absurd (omega arith)
     alone (b ∷ []) h e = refl
@@ -215,10 +216,10 @@ not_reserved x e k =
     let d = none_both (sign_among change_signs x) (sign_in (bracket_signs ∷ mark_signs ∷ relation_signs ∷ operator_signs ∷ []) x) c.1 in
     let items : list_any (same_name x) item_words ≡ false = none_listed item_signs x a.0 in
     let statements : list_any (same_name x) statement_words ≡ false =
-      none_with (same_name x) (map sign_bytes statement_signs) (codes "proc" ∷ []) (none_listed statement_signs x b.0) (or_false (same_name x (codes "proc")) false kept.0 refl) in
+    none_with (same_name x) (map sign_bytes statement_signs) (codes "proc" ∷ []) (none_listed statement_signs x b.0) (or_false (same_name x (codes "proc")) false kept.0 refl) in
     let declares : list_any (same_name x) declare_words ≡ false =
-      none_with (same_name x) (map sign_bytes access_signs) (codes "cm" ∷ map sign_bytes change_signs) (none_listed access_signs x c.0)
-        (or_false (same_name x (codes "cm")) (list_any (same_name x) (map sign_bytes change_signs)) kept.1 (none_listed change_signs x d.0)) in
+    none_with (same_name x) (map sign_bytes access_signs) (codes "cm" ∷ map sign_bytes change_signs) (none_listed access_signs x c.0)
+    (or_false (same_name x (codes "cm")) (list_any (same_name x) (map sign_bytes change_signs)) kept.1 (none_listed change_signs x d.0)) in
     rw (items, statements, declares) refl
 
 free_name : (x : List ℕ) → sign_in all_signs x ≡ None → is_free x ≡ true → is_name x ≡ true
@@ -239,6 +240,7 @@ plain_known x e = by_free (is_free x) refl
         let q = both_true (is_run x) (nat_le (value_after 0 x) 9223372036854775807) p.0 in
         (q.1, is_the_decimal x h)
     number_known false h = tt
+
     by_free : (b : Bool) → is_free x ≡ b → Known x (if b then Called x else (if is_counted x then Counted (ℤ.pos (value_after 0 x)) else Odd))
     by_free true h = (free_name x e h, refl)
     by_free false h = number_known (is_counted x) refl

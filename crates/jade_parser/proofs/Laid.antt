@@ -138,13 +138,13 @@ module _ {S : Type 0} (tok : S → Parts) (shape : S → Place → Bool) (ok : (
   withonly_goes Amends p ss ns xs e = absurd (cc)
   withonly_goes Main p ss ns xs e = record {
     by = λ st rest f.
-      let q = both (all_in Section (map shape ss)) (all_in Main (map shape xs)) e in
-      let a = block_goes tok shape ok Section ss (Must DoWord ∷ Must LeftParen ∷ Names ∷ Must LeftBrace ∷ Body Main ∷ Body Main ∷ st) (Fixed DoWord ∷ Fixed LeftParen ∷ (tokens_of (name_parts ns) ++ (Fixed RightParen ∷ (tokens_of (braced (map tok xs)) ++ rest)))) q.0 in
-      let n = names_go ns (Must LeftBrace ∷ Body Main ∷ Body Main ∷ st) (tokens_of (braced (map tok xs)) ++ rest) in
-      let b = block_goes tok shape ok Main xs (Body Main ∷ st) rest q.1 in
-      let d = ap (λ l. goes l (Must LeftBrace ∷ Body Section ∷ Must DoWord ∷ Must LeftParen ∷ Names ∷ Must LeftBrace ∷ Body Main ∷ Body Main ∷ st)) (with_names (braced (map tok ss)) (fixed DoWord) (fixed LeftParen) (name_parts ns) (fixed RightParen) (braced (map tok xs)) rest) in
-      let l = with_length (braced (map tok ss)) (fixed DoWord) (fixed LeftParen) (name_parts ns) (fixed RightParen) (braced (map tok xs)) in
-      omega (arith, a, n, b, d, l);
+        let q = both (all_in Section (map shape ss)) (all_in Main (map shape xs)) e in
+        let a = block_goes tok shape ok Section ss (Must DoWord ∷ Must LeftParen ∷ Names ∷ Must LeftBrace ∷ Body Main ∷ Body Main ∷ st) (Fixed DoWord ∷ Fixed LeftParen ∷ (tokens_of (name_parts ns) ++ (Fixed RightParen ∷ (tokens_of (braced (map tok xs)) ++ rest)))) q.0 in
+        let n = names_go ns (Must LeftBrace ∷ Body Main ∷ Body Main ∷ st) (tokens_of (braced (map tok xs)) ++ rest) in
+        let b = block_goes tok shape ok Main xs (Body Main ∷ st) rest q.1 in
+        let d = ap (λ l. goes l (Must LeftBrace ∷ Body Section ∷ Must DoWord ∷ Must LeftParen ∷ Names ∷ Must LeftBrace ∷ Body Main ∷ Body Main ∷ st)) (with_names (braced (map tok ss)) (fixed DoWord) (fixed LeftParen) (name_parts ns) (fixed RightParen) (braced (map tok xs)) rest) in
+        let l = with_length (braced (map tok ss)) (fixed DoWord) (fixed LeftParen) (name_parts ns) (fixed RightParen) (braced (map tok xs)) in
+        omega (arith, a, n, b, d, l);
     begins = λ rest f. refl;
   }
 
@@ -153,9 +153,9 @@ module _ {S : Type 0} (tok : S → Parts) (shape : S → Place → Bool) (ok : (
   with_goes Amends p ss e = absurd (cc)
   with_goes Main p ss e = record {
     by = λ st rest f.
-      let a = block_goes tok shape ok Amends ss (Must ContWord ∷ Must Semicolon ∷ Body Main ∷ st) (Fixed ContWord ∷ Fixed Semicolon ∷ rest) e in
-      let d = ap (λ l. goes l (Must LeftBrace ∷ Body Amends ∷ Must ContWord ∷ Must Semicolon ∷ Body Main ∷ st)) (with_cont (braced (map tok ss)) (fixed ContWord) (fixed Semicolon) rest) in
-      omega (arith, a, d, length-append (braced (map tok ss)) (fixed ContWord ∷ []), length-append (braced (map tok ss) ++ fixed ContWord ∷ []) (fixed Semicolon ∷ []));
+        let a = block_goes tok shape ok Amends ss (Must ContWord ∷ Must Semicolon ∷ Body Main ∷ st) (Fixed ContWord ∷ Fixed Semicolon ∷ rest) e in
+        let d = ap (λ l. goes l (Must LeftBrace ∷ Body Amends ∷ Must ContWord ∷ Must Semicolon ∷ Body Main ∷ st)) (with_cont (braced (map tok ss)) (fixed ContWord) (fixed Semicolon) rest) in
+        omega (arith, a, d, length-append (braced (map tok ss)) (fixed ContWord ∷ []), length-append (braced (map tok ss) ++ fixed ContWord ∷ []) (fixed Semicolon ∷ []));
     begins = λ rest f. refl;
   }
 
@@ -264,9 +264,9 @@ named_runs (Some x) n st rest =
 declare_goes : (c : Place) (w : DeclareWord) (p : Pos) (o : ObjectRef) → declares c (word_sign w) ≡ true → Goes c (at_statement (Statement-F.Declare w p o))
 declare_goes c w p o e = record {
   by = λ st rest f.
-    let a = declared c w (Fixed LeftParen ∷ (Called o.name ∷ (tokens_of ((outer_index o.member ++ fixed RightParen ∷ []) ++ fixed Semicolon ∷ []) ++ rest))) st e in
-    let b = named_runs o.member o.name (Body c ∷ st) rest in
-    omega (arith, a, b);
+      let a = declared c w (Fixed LeftParen ∷ (Called o.name ∷ (tokens_of ((outer_index o.member ++ fixed RightParen ∷ []) ++ fixed Semicolon ∷ []) ++ rest))) st e in
+      let b = named_runs o.member o.name (Body c ∷ st) rest in
+      omega (arith, a, b);
   begins = λ rest f. not_else w;
 }
 

@@ -67,6 +67,9 @@ split (t ∷ ts) (suc at) s e =
     let w : suc at + 1 ≡ suc (at + 1) = omega arith in
     (r.0 ∙ ap (λ k. Fixed s ∷ drop k (t ∷ ts)) (sym w), omega (arith, r.1))
 
+pub split_sign : (all : List Seen) (at : ℕ) (s : Sign) → Some s ≡ head_sign (drop at (kinds all)) → drop at (kinds all) ≡ Fixed s ∷ drop (at + 1) (kinds all)
+split_sign all at s e = (split (kinds all) at s e).0
+
 pub stands : (all : List Seen) (at : ℕ) (s : Sign) (o : Option Pos) → KeptAt o (place_at all at) → Some s ≡ head_sign (drop at (kinds all)) → Reads all at (at + 1) (record { token = Fixed s; at = o; nth = 0 } ∷ [])
 stands all at s o k e =
     let r = split (kinds all) at s e in

@@ -2,6 +2,7 @@
 //! refused.
 #![tactic(auto)]
 
+mod items;
 mod kinds;
 mod leaves;
 mod names;
