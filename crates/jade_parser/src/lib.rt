@@ -2,6 +2,7 @@
 //! refused.
 #![tactic(auto)]
 
+mod begins;
 mod kinds;
 mod leaves;
 mod parse;
