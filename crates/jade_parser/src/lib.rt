@@ -5,6 +5,8 @@
 mod begins;
 mod kinds;
 mod leaves;
+mod names;
+mod outer;
 mod parse;
 
 use jade_base::Pos;
