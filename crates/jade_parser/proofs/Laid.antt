@@ -14,11 +14,11 @@ use Rattle.jade_syntax.specs.declared.tree.DeclareWord.TheVariants.{Rd, Wr, RdWr
 use Rattle.jade_syntax.specs.declared.tree.Statement.{Statement, map-Statement, fold-roll-Statement, ind-Statement}
 use Rattle.jade_syntax.specs.declared.tree.Statement.TheOpen.{Statement-F}
 use Rattle.jade_parser.specs.Spelled.{Token, Tokens, Part, Parts, tokens_of, plain, fixed, marked, numbered, outer, Fixed, Called, Counted, expr_parts, bracketed}
-use Rattle.jade_parser.specs.Machine.{Symbol, Must, Body, Else, Second, Named as NamedIn, NameIs, Names, MoreNames, Stack, goes, expr_in, is_sign, declares}
+use Rattle.jade_parser.specs.Machine.{Symbol, Must, Body, Else, Second, Named as NamedIn, NameIs, Names, MoreNames, Stack, goes, expr_in, is_sign, is_main, declares}
 use Rattle.jade_parser.specs.declared.Place.{Place}
 use Rattle.jade_parser.specs.declared.Place.TheVariants.{Main, Section, Amends}
 use Rattle.jade_parser.specs.declared.Sign.TheVariants.{LeftBrace, RightBrace, ElseWord, Semicolon, Becomes, DotDot, LeftBracket, RightBracket, LeftParen, RightParen, Comma, DoWord, ContWord, InWord}
-use Rattle.jade_parser.specs.Statements.{braced, else_parts, all_in, other_in, is_main, at_statement, at_shape, statement_parts, shaped, outer_index, object_parts, target_parts, name_parts, more_names, declare_word, word_sign}
+use Rattle.jade_parser.specs.Statements.{braced, else_parts, all_in, other_in, at_statement, at_shape, statement_parts, shaped, outer_index, object_parts, target_parts, name_parts, more_names, declare_word, word_sign}
 use Rattle.jade_parser.proofs.Running.{Runs, Follows}
 use Rattle.jade_parser.proofs.Trees.{expr_runs}
 use Rattle.jade_parser.proofs.Layers.{past_second, second_index}

@@ -3,6 +3,7 @@
 #![tactic(auto)]
 
 mod items;
+mod begins;
 mod kinds;
 mod leaves;
 mod names;
