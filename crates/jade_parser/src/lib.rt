@@ -3,14 +3,16 @@
 #![tactic(auto)]
 
 mod begins;
-mod block;
+mod compound;
 mod expressions;
 mod items;
 mod kinds;
 mod leaves;
 mod names;
 mod outer;
+mod pieces;
 mod program;
+mod simple;
 
 use jade_base::Pos;
 pub use program::parse;
