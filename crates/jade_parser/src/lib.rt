@@ -3,11 +3,14 @@
 #![tactic(auto)]
 
 mod begins;
+mod compound;
 mod kinds;
 mod leaves;
 mod names;
 mod outer;
 mod parse;
+mod pieces;
+mod simple;
 
 use jade_base::Pos;
 
