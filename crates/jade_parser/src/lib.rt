@@ -14,8 +14,9 @@ mod pieces;
 mod program;
 mod simple;
 
-use jade_base::Pos;
 pub use program::parse;
+
+use jade_base::Pos;
 
 /// A word or a symbol of the language.
 #[derive(Clone, Copy, Debug, PartialEq, Eq)]
