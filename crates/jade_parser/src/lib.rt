@@ -14,9 +14,8 @@ mod pieces;
 mod program;
 mod simple;
 
-pub use program::parse;
-
 use jade_base::Pos;
+pub use program::parse;
 
 /// A word or a symbol of the language.
 #[derive(Clone, Copy, Debug, PartialEq, Eq)]
