@@ -10,6 +10,8 @@ mod kinds;
 mod leaves;
 mod names;
 mod outer;
+#[cfg(test)]
+mod parser_tests;
 mod pieces;
 mod program;
 mod simple;
