@@ -1,21 +1,20 @@
 -- Reading one piece of a statement after another, up to the first that is refused.
-use Rattle.std.proofs.Common.{◌≡◌, ℕ, ◌+◌, ◌<◌, ◌≤◌, Bool, true, false, IsTrue, List, [], ◌∷◌, ◌++◌, Option, Some, None, refl, ap, sym, ◌∙◌, length, drop, codes, arith, append_assoc, append-nil}
+use Rattle.std.proofs.Common.{◌≡◌, ℕ, ◌≤◌, Bool, true, false, List, [], ◌∷◌, ◌++◌, Some, refl, ap, length, drop, codes, arith}
 use Rattle.jade_base.specs.declared.place.Pos.{Pos}
-use Rattle.jade_syntax.specs.declared.tree.Expr.{Expr}
-use Rattle.jade_parser.specs.Spelled.{Token, Tokens, Fixed, Called, Counted, Odd, Part, Parts, AllValid, AllShort, fixed, marked, outer, expr_parts}
-use Rattle.jade_parser.specs.Machine.{Stack, goes, is_sign, same_sign, Must}
+use Rattle.jade_parser.specs.Spelled.{Token, Tokens, Fixed, Called, Counted, Odd, Parts, AllValid, fixed, marked, outer, expr_parts}
+use Rattle.jade_parser.specs.Machine.{Stack, goes, is_sign, same_sign}
 use Rattle.jade_parser.specs.declared.Sign.{Sign}
 use Rattle.jade_parser.specs.declared.Seen.{Seen}
 use Rattle.jade_parser.specs.declared.Stop.{Stop}
 use Rattle.jade_parser.specs.declared.Stop.TheVariants.{Token as AtToken, Long, Memory}
-use Rattle.jade_parser.specs.Reads.{Passes, Stops, Whole, OnStop, OnOther, head_sign, kinds, place_at}
+use Rattle.jade_parser.specs.Reads.{Passes, Whole, OnStop, OnOther, head_sign, kinds}
 use Rattle.jade_parser.specs.Parts.{Any, RefusalIn, LongIn}
-use Rattle.jade_parser.specs.Forms.{Came, NoHead}
+use Rattle.jade_parser.specs.Forms.{Came}
 use Rattle.jade_parser.proofs.Reading.{whole_none, whole_on, whole_past, whole_under}
 use Rattle.jade_parser.proofs.Standing.{same_is}
 use Rattle.jade_parser.proofs.Spelling.{unary_opens, expr_made, and_made, sum_made, product_made}
 use Rattle.jade_parser.proofs.Steps.{some_expr, alone_made, named_made}
-use Rattle.jade_parser.proofs.Going.{stop_in, stop_here, stop_other, all_short, none_short, refusal_in_under}
+use Rattle.jade_parser.proofs.Going.{stop_in, stop_other, all_short, none_short, refusal_in_under}
 
 pub any : {X : Type 0} (x : X) → Any x
 any x = record { any = tt }
@@ -56,11 +55,16 @@ other P f all a b xs ys zs s more tree e eq fits v w o = stop_other P f all a b 
 
 -- the same, of tokens that stand for one another
 pub other_as : (all : List Seen) (at : ℕ) (xs ys : Stack) (e : Stop) → ((st : Stack) → goes (drop at (kinds all)) (xs ++ st) ≡ 0 → goes (drop at (kinds all)) (ys ++ st) ≡ 0) → OnOther e all at xs → OnOther e all at ys
-other_as all at xs ys (AtToken k) h o = (o.0, record { by = λ st.
-    let s = o.1.by st in
-    let n : goes (drop at (kinds all)) (xs ++ st) ≡ 0 = omega (arith, s) in
-    let m = h st n in
-    omega (arith, m) })
+other_as all at xs ys (AtToken k) h o = (
+  o.0,
+  record {
+    by = λ st.
+        let s = o.1.by st in
+        let n : goes (drop at (kinds all)) (xs ++ st) ≡ 0 = omega (arith, s) in
+        let m = h st n in
+        omega (arith, m);
+  },
+)
 other_as all at xs ys (Long k) h o = o
 other_as all at xs ys Memory h o = tt
 

@@ -1,5 +1,5 @@
 -- Blocks, and the statements that hold blocks.
-use Rattle.std.proofs.Common.{◌≡◌, ℕ, ◌+◌, ◌≤◌, ◌<◌, Bool, true, false, ◌&&◌, IsTrue, List, [], ◌∷◌, ◌++◌, Option, Some, None, refl, ap, sym, ◌∙◌, length, drop, map, arith, append_assoc, append-nil}
+use Rattle.std.proofs.Common.{◌≡◌, ℕ, ◌+◌, ◌≤◌, Bool, true, false, ◌&&◌, List, [], ◌∷◌, ◌++◌, Some, None, refl, ap, sym, ◌∙◌, length, drop, map, arith, append_assoc, append-nil}
 use Rattle.std.specs.List.{flat_map}
 use Rattle.std.proofs.lemmas.List.Folds.{flat_map-map}
 use Rattle.std.proofs.lemmas.List.Concat.{flat_map-append}
@@ -16,20 +16,20 @@ use Rattle.jade_parser.specs.declared.Seen.{Seen}
 use Rattle.jade_parser.specs.declared.Stop.{Stop}
 use Rattle.jade_parser.specs.declared.begins.Begin.{Begin}
 use Rattle.jade_parser.specs.declared.begins.Begin.TheVariants as begin
-use Rattle.jade_parser.specs.Spelled.{Token, Tokens, Fixed, Called, Part, Parts, plain, fixed, marked, outer, AllValid, AllShort}
-use Rattle.jade_parser.specs.Machine.{Stack, Must, NameIs, Names, Second, Body, Else, goes, counted, expr_in, statement_sign, is_sign, declares}
+use Rattle.jade_parser.specs.Spelled.{Tokens, Fixed, Called, Parts, fixed, marked, outer, AllValid}
+use Rattle.jade_parser.specs.Machine.{Stack, Must, NameIs, Names, Body, Else, goes, counted, expr_in, statement_sign}
 use Rattle.jade_parser.specs.Statements.{statement_parts, block_parts, name_parts, at_statement, at_shape, shaped, all_in}
-use Rattle.jade_parser.specs.Reads.{Reads, Passes, Stops, Whole, OnStop, OnOther, kinds, head_sign, place_at}
+use Rattle.jade_parser.specs.Reads.{Passes, Stops, Whole, OnStop, OnOther, kinds, head_sign, place_at}
 use Rattle.jade_parser.specs.Parts.{Any, Fits, FitsAll, ReadIn, RefusalIn, LongIn, OuterIn}
 use Rattle.jade_parser.specs.Forms.{Came, NoHead, ended, named_list}
 use Rattle.jade_parser.specs.Begins.{begin_of, Told}
 use Rattle.jade_parser.specs.Compound.{block_in, if_in, for_in, withonly_in, with_in, BeginAt, Halts}
 use Rattle.jade_parser.proofs.Steps.{some_expr}
-use Rattle.jade_parser.proofs.Reading.{whole_none, whole_on, none_valid, all_valid}
+use Rattle.jade_parser.proofs.Reading.{whole_none, none_valid, all_valid}
 use Rattle.jade_parser.proofs.Standing.{takes_sign, takes_marked, split_sign}
 use Rattle.jade_parser.proofs.Going.{stop_here, none_short}
-use Rattle.jade_parser.proofs.Coming.{any, came_none, came_on, came_under, came_past, came_fixed, came_marked, after, other, not_sign, nowhere, some_name, some_valid}
-use Rattle.jade_parser.proofs.Simply.{came_plain, given_valid, read_in, assign_is, assign_fits}
+use Rattle.jade_parser.proofs.Coming.{came_none, came_on, came_under, came_past, came_fixed, came_marked, after, other, not_sign, nowhere, some_name, some_valid}
+use Rattle.jade_parser.proofs.Simply.{given_valid, read_in, assign_is, assign_fits}
 use Rattle.jade_parser.proofs.Beginning.{told}
 
 -- ---- what a word begins
@@ -191,7 +191,7 @@ module _ (all : List Seen) (start : ℕ) (c : Place) (w : Whole all start (Body 
       let g = r.further in
       let k = q.further in
       read_in (Fits c) statement_parts all start (start + 1) end (Body c ∷ []) (Body c ∷ []) _ (If t b (Some o))
-        (if_some t b o ∙ sym (append_assoc (fixed IfWord ∷ [] ++ outer t ++ block_parts b) (fixed ElseWord ∷ []) (block_parts o))) (some_fits c t b o r.fits q.fits) (omega arith) (omega arith) y
+      (if_some t b o ∙ sym (append_assoc (fixed IfWord ∷ [] ++ outer t ++ block_parts b) (fixed ElseWord ∷ []) (block_parts o))) (some_fits c t b o r.fits q.fits) (omega arith) (omega arith) y
 
 -- ---- `for`
 
@@ -279,7 +279,7 @@ module _ (all : List Seen) (start : ℕ) (c : Place) (w : Whole all start (Body 
               let k = hi.whole.reads.forward in
               let m = r.further in
               read_in (Fits c) statement_parts all start (start + 1) end (Body c ∷ []) (Body c ∷ []) _ (For n p l h b)
-                (for_is n p l h b ∙ all_so (for_word n p) (outer l) dots (outer h) (block_parts b)) (for_fits c n p l h b r.fits) (omega arith) (omega arith) (came_on for_high (came_under (Body c ∷ []) (came_block r)))
+              (for_is n p l h b ∙ all_so (for_word n p) (outer l) dots (outer h) (block_parts b)) (for_fits c n p l h b r.fits) (omega arith) (omega arith) (came_on for_high (came_under (Body c ∷ []) (came_block r)))
 
 -- ---- `withonly`
 
@@ -367,7 +367,7 @@ module _ (all : List Seen) (start : ℕ) (w : Whole all start (Body Main ∷ [])
               let k = nr.whole.reads.forward in
               let m = r.further in
               rw e (read_in (Fits Main) statement_parts all start (start + 1) end (Body Main ∷ []) (Body Main ∷ []) _ (Withonly p s ns b)
-                (withonly_is p s ns b ∙ only_all_so (only p ++ block_parts s ++ do_word ++ paren) (name_parts ns) (fixed RightParen ∷ []) (block_parts b)) (withonly_fits p s ns b sr.fits r.fits) (omega arith) (omega arith) (came_on only_named (came_under (Body Main ∷ []) (came_block r))))
+              (withonly_is p s ns b ∙ only_all_so (only p ++ block_parts s ++ do_word ++ paren) (name_parts ns) (fixed RightParen ∷ []) (block_parts b)) (withonly_fits p s ns b sr.fits r.fits) (omega arith) (omega arith) (came_on only_named (came_under (Body Main ∷ []) (came_block r))))
 
 -- ---- `with`
 

@@ -1,24 +1,21 @@
 -- The steps of the parsers of pieces.
-use Rattle.std.proofs.Common.{◌≡◌, ℕ, suc, ◌+◌, ◌<◌, ◌≤◌, Bool, true, false, List, [], ◌∷◌, ◌++◌, Option, Some, None, refl, ap, sym, ◌∙◌, length, drop, arith, append_assoc, append-nil, length-append}
-use Rattle.std.specs.List.{flat_map}
+use Rattle.std.proofs.Common.{◌≡◌, ℕ, ◌+◌, ◌<◌, ◌≤◌, List, [], ◌∷◌, ◌++◌, Option, Some, None, refl, ap, sym, ◌∙◌, length, drop, arith, append_assoc, append-nil, length-append}
 use Rattle.std.proofs.lemmas.List.Concat.{flat_map-append}
 use Rattle.jade_base.specs.declared.place.Pos.{Pos}
 use Rattle.jade_syntax.specs.declared.tree.Expr.{Expr}
 use Rattle.jade_syntax.specs.declared.tree.Named.{Named}
 use Rattle.jade_syntax.specs.declared.tree.ObjectRef.{ObjectRef}
-use Rattle.jade_parser.specs.Spelled.{Token, Tokens, Fixed, Called, Counted, Odd, Part, Parts, AllValid, fixed, marked, outer, bracketed}
+use Rattle.jade_parser.specs.Spelled.{Tokens, Fixed, Called, Counted, Odd, Part, Parts, fixed, marked, outer}
 use Rattle.jade_parser.specs.Machine.{Stack, goes, Must, NameIs, Names, MoreNames, Second, expr_in}
-use Rattle.jade_parser.specs.Statements.{object_parts, outer_index, name_parts, more_names}
+use Rattle.jade_parser.specs.Statements.{object_parts, name_parts}
 use Rattle.jade_parser.specs.declared.Sign.{Sign}
 use Rattle.jade_parser.specs.declared.Sign.TheVariants.{LeftParen, RightParen, LeftBracket, RightBracket, Semicolon, Comma}
 use Rattle.jade_parser.specs.declared.Seen.{Seen}
 use Rattle.jade_parser.specs.declared.Stop.{Stop}
-use Rattle.jade_parser.specs.declared.Stop.TheVariants.{Token as AtToken, Long, Memory}
-use Rattle.jade_parser.specs.Reads.{Passes, Stops, Whole, OnStop, OnOther, head_sign, kinds, place_at}
+use Rattle.jade_parser.specs.Reads.{Passes, Whole, OnStop, OnOther, head_sign, kinds, place_at}
 use Rattle.jade_parser.specs.Parts.{Any, RefusalIn, LongIn, OuterIn}
 use Rattle.jade_parser.specs.Forms.{Came, NoHead, ended, indexes, declared, named_list}
 use Rattle.jade_parser.proofs.Standing.{takes_sign}
-use Rattle.jade_parser.proofs.Steps.{some_expr}
 use Rattle.jade_parser.proofs.Going.{stop_here}
 use Rattle.jade_parser.proofs.Coming.{any, came_none, came_on, came_under, came_past, came_fixed, came_marked, after, other, other_as, not_sign, nowhere, some_name}
 
@@ -59,7 +56,7 @@ pub second_refused : (all : List Seen) (start at next : ℕ) (x : Expr) (e : Sto
     → OnStop e (RefusalIn Any indexes all start (expr_in ++ Must RightBracket ∷ Second ∷ [])) (LongIn Any indexes all start)
 second_refused all start at next x e p q o =
     after Any Any indexes (ended RightBracket) all start next (expr_in ++ Must RightBracket ∷ Second ∷ []) (expr_in ++ Must RightBracket ∷ []) [] (ended RightBracket x ++ fixed LeftBracket ∷ []) (λ y. (Some x, y)) [] e
-      (λ y. second_is (ended RightBracket x) (ended RightBracket y)) (λ y _. any (Some x, y)) (record { is = refl }) (opened_again all start at next x p q) o
+    (λ y. second_is (ended RightBracket x) (ended RightBracket y)) (λ y _. any (Some x, y)) (record { is = refl }) (opened_again all start at next x p q) o
 
 pub second_read : (all : List Seen) (start at next end : ℕ) (x y : Expr) → Came all start (expr_in ++ Must RightBracket ∷ []) at [] (ended RightBracket x) → Whole all at (Second ∷ []) next (expr_in ++ Must RightBracket ∷ []) (fixed LeftBracket ∷ [])
     → Came all next (expr_in ++ Must RightBracket ∷ []) end [] (ended RightBracket y) → Came all start (expr_in ++ Must RightBracket ∷ Second ∷ []) end [] (indexes (Some x, y))
@@ -85,7 +82,7 @@ pub member_refused : (all : List Seen) (start next : ℕ) (n : List ℕ) (p : Po
     → OnStop e (RefusalIn Any object_parts all start (NameIs ∷ Second ∷ [])) (LongIn Any object_parts all start)
 member_refused all start next n p e is w b o =
     after Any Any object_parts (ended RightBracket) all start next (NameIs ∷ Second ∷ []) (expr_in ++ Must RightBracket ∷ []) [] (marked (Called n) (place_at all start) ∷ fixed LeftBracket ∷ []) (λ y. object_with n (place_at all start) (Some y)) [] e
-      (λ y. second_is (marked (Called n) (place_at all start) ∷ []) (ended RightBracket y)) (λ y _. any (object_with n (place_at all start) (Some y))) (record { is = refl }) (came_on (came_under (Second ∷ []) (came_marked w)) (came_fixed b)) o
+    (λ y. second_is (marked (Called n) (place_at all start) ∷ []) (ended RightBracket y)) (λ y _. any (object_with n (place_at all start) (Some y))) (record { is = refl }) (came_on (came_under (Second ∷ []) (came_marked w)) (came_fixed b)) o
 
 pub member_read : (all : List Seen) (start next end : ℕ) (n : List ℕ) (p : Pos) (x : Expr) → p ≡ place_at all start → Whole all start (NameIs ∷ []) (start + 1) [] (marked (Called n) (place_at all start) ∷ [])
     → Whole all (start + 1) (Second ∷ []) next (expr_in ++ Must RightBracket ∷ []) (fixed LeftBracket ∷ [])
@@ -114,7 +111,7 @@ pub inner_refused : (all : List Seen) (start at : ℕ) (e : Stop) → Whole all 
     → OnStop e (RefusalIn Any declared all start declared_in) (LongIn Any declared all start)
 inner_refused all start at e w o =
     after Any Any declared object_parts all start at declared_in (NameIs ∷ Second ∷ []) (Must RightParen ∷ Must Semicolon ∷ []) (fixed LeftParen ∷ []) (λ y. y) (fixed RightParen ∷ fixed Semicolon ∷ []) e
-      (λ y. inside (fixed LeftParen) (object_parts y) (fixed RightParen) (fixed Semicolon)) (λ y _. any y) (record { is = refl }) (paren_read all start at w) o
+    (λ y. inside (fixed LeftParen) (object_parts y) (fixed RightParen) (fixed Semicolon)) (λ y _. any y) (record { is = refl }) (paren_read all start at w) o
 
 inner_read : (all : List Seen) (start at next : ℕ) (x : ObjectRef) → Whole all start (Must LeftParen ∷ []) at [] (fixed LeftParen ∷ []) → Came all at (NameIs ∷ Second ∷ []) next [] (object_parts x)
     → Came all start declared_in next (Must RightParen ∷ Must Semicolon ∷ []) (fixed LeftParen ∷ object_parts x)
@@ -156,7 +153,7 @@ no_first (Odd ∷ ts) st n e = refl
 pub names_refused : (all : List Seen) (start : ℕ) (e : Stop) → start ≤ length all → NoHead RightParen all start → OnOther e all start (NameIs ∷ []) → OnStop e (RefusalIn Any named_list all start (Names ∷ [])) (LongIn Any named_list all start)
 names_refused all start e le n o =
     other Any named_list all start start (Names ∷ []) (Names ∷ []) [] [] (named_list []) [] e refl (any []) (record { is = refl }) (came_none all start _ le)
-      (other_as all start (NameIs ∷ []) (Names ∷ []) e (λ st k. no_first (drop start (kinds all)) st n.none k) o)
+    (other_as all start (NameIs ∷ []) (Names ∷ []) e (λ st k. no_first (drop start (kinds all)) st n.none k) o)
 
 -- a name stands where the list begins
 named_begins : {all : List Seen} {a : ℕ} {n : List ℕ} {p : Pos} → Whole all a (NameIs ∷ []) (a + 1) [] (marked (Called n) p ∷ []) → Whole all a (Names ∷ []) (a + 1) (MoreNames ∷ []) (marked (Called n) p ∷ [])
@@ -177,7 +174,7 @@ no_more (t ∷ ts) st n m = rw (not_sign Comma t ts m, not_sign RightParen t ts 
 pub comma_refused : (all : List Seen) (start at : ℕ) (ns : List Named) → Came all start (Names ∷ []) at (MoreNames ∷ []) (name_parts ns) → NoHead RightParen all at → NoHead Comma all at → RefusalIn Any named_list all start (Names ∷ []) at
 comma_refused all start at ns w n m =
     stop_here Any named_list all start at (Names ∷ []) (MoreNames ∷ []) (name_parts ns) (fixed RightParen ∷ []) ns refl (any ns) (record { is = refl }) w.short w.whole
-      (record { by = λ st. let k = no_more (drop at (kinds all)) st n.none m.none in omega (arith, k) })
+    (record { by = λ st. let k = no_more (drop at (kinds all)) st n.none m.none in omega (arith, k) })
 
 comma_read : (all : List Seen) (start at : ℕ) (ns : List Named) → Came all start (Names ∷ []) at (MoreNames ∷ []) (name_parts ns) → Some Comma ≡ head_sign (drop at (kinds all))
     → Came all start (Names ∷ []) (at + 1) (NameIs ∷ MoreNames ∷ []) (name_parts ns ++ fixed Comma ∷ [])
@@ -190,7 +187,7 @@ pub later_refused : (all : List Seen) (start at : ℕ) (ns : List Named) (e : St
     → OnStop e (RefusalIn Any named_list all start (Names ∷ [])) (LongIn Any named_list all start)
 later_refused all start at ns e w h o =
     other Any named_list all start (at + 1) (Names ∷ []) (NameIs ∷ []) (MoreNames ∷ []) (name_parts ns ++ fixed Comma ∷ []) (marked (Called some_name) nowhere ∷ fixed RightParen ∷ []) (ns ++ named some_name nowhere ∷ []) e
-      (ap (λ l. l ++ fixed RightParen ∷ []) (more_is ns (named some_name nowhere) w.1) ∙ ending_is (name_parts ns) (fixed Comma) (marked (Called some_name) nowhere) (fixed RightParen)) (any _) (record { is = refl }) (comma_read all start at ns w.0 h) o
+    (ap (λ l. l ++ fixed RightParen ∷ []) (more_is ns (named some_name nowhere) w.1) ∙ ending_is (name_parts ns) (fixed Comma) (marked (Called some_name) nowhere) (fixed RightParen)) (any _) (record { is = refl }) (comma_read all start at ns w.0 h) o
 
 pub later_kept : (all : List Seen) (start at : ℕ) (ns new : List Named) (n : List ℕ) (p : Pos) → new ≡ ns ++ named n p ∷ [] → p ≡ place_at all (at + 1) → Came all start (Names ∷ []) at (MoreNames ∷ []) (name_parts ns) × (0 < length ns) → Some Comma ≡ head_sign (drop at (kinds all))
     → Whole all (at + 1) (NameIs ∷ []) (at + 1 + 1) [] (marked (Called n) (place_at all (at + 1)) ∷ []) → Came all start (Names ∷ []) (at + 2) (MoreNames ∷ []) (name_parts new) × (0 < length new)

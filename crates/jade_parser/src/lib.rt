@@ -11,13 +11,14 @@ pub mod laws;
 mod leaves;
 mod names;
 mod outer;
+#[cfg(test)]
+mod parser_tests;
 mod pieces;
 mod program;
 mod simple;
 
-pub use program::parse;
-
 use jade_base::Pos;
+pub use program::parse;
 
 /// A word or a symbol of the language.
 #[derive(Clone, Copy, Debug, PartialEq, Eq)]

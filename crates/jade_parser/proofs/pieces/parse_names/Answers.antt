@@ -1,4 +1,4 @@
-use Rattle.jade_parser.proofs.Pieced.{no_names, names_refused, name_begun, comma_refused, later_refused, later_kept, names_read}
+use Rattle.jade_parser.proofs.Pieced.{no_names, names_refused, comma_refused, later_refused, later_kept, names_read}
 use Rattle.jade_parser.proofs.pieces.parse_names.Goals as goal
 
 pub returns-then-is_at : goal.returns-then-is_at

@@ -18,7 +18,7 @@ parse_store-requires-clause-read c = store_begun _ _ _ _ _ c.pos_at-pos.ensures 
 pub returns : goal.returns
 returns c =
     let m : is_main c.args.place ≡ true → NoHead LeftBracket c.args.tokens.now (c.args.start + 1) = elim (c.else-is_main.branch) [
-      else-is_main-via-then-is_main+else-is_at-2 w ↦ λ h. w.is_at-then-is_main.ensures.no w.if-is_at-2.false
-    | else-is_main-via-else-is_main w ↦ λ h. let q = w.if-is_main.false in let r = c.is_main.ensures in absurd (cc)
+      | else-is_main-via-then-is_main+else-is_at-2 w ↦ λ h. w.is_at-then-is_main.ensures.no w.if-is_at-2.false
+      | else-is_main-via-else-is_main w ↦ λ h. let q = w.if-is_main.false in let r = c.is_main.ensures in absurd (cc)
     ] in
     named_alone _ _ _ _ _ c.pos_at-pos.ensures c.in-Ok.ensures (c.is_at.ensures.no c.if-is_at.false) m
