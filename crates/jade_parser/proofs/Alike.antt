@@ -1,5 +1,5 @@
 -- The bytes of a program's parts are the tokens of its printed layout.
-use Rattle.std.proofs.Common.{◌≡◌, ℕ, suc, ◌+◌, List, [], ◌∷◌, ◌++◌, Option, Some, None, refl, ap, sym, ◌∙◌, map, codes, true, false, Bool}
+use Rattle.std.proofs.Common.{◌≡◌, ℕ, List, [], ◌∷◌, ◌++◌, Option, Some, None, refl, map, codes, true, false}
 use Rattle.std.specs.List.{flat_map}
 use Rattle.std.proofs.lemmas.List.{map-append}
 use Rattle.std.proofs.lemmas.List.Folds.{flat_map-map}
@@ -12,24 +12,20 @@ use Rattle.jade_syntax.specs.declared.tree.ProductOp.{ProductOp}
 use Rattle.jade_syntax.specs.declared.tree.ProductOp.TheVariants.{Times, Over, Remainder}
 use Rattle.jade_syntax.specs.declared.tree.UnaryOp.{UnaryOp}
 use Rattle.jade_syntax.specs.declared.tree.UnaryOp.TheVariants.{Negative, Not}
-use Rattle.jade_syntax.specs.declared.tree.ValueKind.{ValueKind}
-use Rattle.jade_syntax.specs.declared.tree.ValueKind.TheVariants.{Int, Bool as BoolKind}
-use Rattle.jade_syntax.specs.declared.tree.DeclareWord.{DeclareWord}
-use Rattle.jade_syntax.specs.declared.tree.DeclareWord.TheVariants.{Rd, Wr, RdWr, DfRd, DfWr, DfRdWr, NoRd, NoWr, NoRdWr}
 use Rattle.jade_syntax.specs.declared.tree.Atom.{Atom, fold-roll-Atom, map-Atom}
-use Rattle.jade_syntax.specs.declared.tree.Atom.TheOpen.{Atom-F, AndExpr-F, CellRef-F, Compare-F, Expr-F, Product-F, Sum-F, Unary-F}
+use Rattle.jade_syntax.specs.declared.tree.Atom.TheOpen.{Atom-F, CellRef-F, Compare-F}
 use Rattle.jade_syntax.specs.declared.tree.AndExpr.{AndExpr, fold-roll-AndExpr}
-use Rattle.jade_syntax.specs.declared.tree.CellRef.{CellRef, out-CellRef, fold_out-CellRef, fold-roll-CellRef, map-CellRef}
+use Rattle.jade_syntax.specs.declared.tree.CellRef.{CellRef, fold-roll-CellRef, map-CellRef}
 use Rattle.jade_syntax.specs.declared.tree.Compare.{Compare, fold-roll-Compare, map-Compare}
 use Rattle.jade_syntax.specs.declared.tree.Expr.{Expr, fold-roll-Expr, ind-Expr}
 use Rattle.jade_syntax.specs.declared.tree.Product.{Product, fold-roll-Product}
 use Rattle.jade_syntax.specs.declared.tree.Sum.{Sum, fold-roll-Sum}
-use Rattle.jade_syntax.specs.declared.tree.Unary.{Unary, fold-roll-Unary, map-Unary}
-use Rattle.jade_parser.specs.Spelled.{Token, Part, Parts, marked, fixed, plain, outer, Fixed, Called, bracketed, index_before, expr_parts, and_parts, compare_parts, sum_parts, product_parts, unary_parts, atom_parts, cell_parts, sum_sign, product_sign, unary_sign, relation_sign, at_atom, at_and, at_cell, at_compare, at_expr, at_product, at_sum, at_unary}
-use Rattle.jade_parser.specs.declared.Sign.{Sign}
+use Rattle.jade_syntax.specs.declared.tree.Unary.{Unary, fold_out-Unary}
+use Rattle.jade_parser.specs.Spelled.{Part, Parts, marked, fixed, Fixed, Called, bracketed, expr_parts, and_parts, compare_parts, sum_parts, product_parts, unary_parts, atom_parts, cell_parts, sum_sign, product_sign, unary_sign, relation_sign, at_atom, at_and, at_cell, at_compare, at_expr, at_product, at_sum, at_unary}
 use Rattle.jade_parser.specs.declared.Sign.TheVariants.{OrSign, AndSign, LeftBracket, RightBracket, LeftParen, RightParen}
-use Rattle.jade_parser.specs.Kinds.{token_bytes, sign_bytes}
+use Rattle.jade_parser.specs.Kinds.{token_bytes}
 use Rattle.jade_parser.specs.Grammar.{bytes_of}
+use Rattle.jade_parser.proofs.Spelling.{unary_opens as unary_parts_open}
 use Rattle.jade_layout.specs.Spelling as layout
 
 abbrev Texts : Type 0
@@ -92,6 +88,9 @@ sum_layer : {F : Type 0} (f : F → Product) (same : (x : F) → Alike (product_
     → Alike (product_parts (f x) ++ flat_map (λ (p : SumOp × Pos × F). marked (sum_sign p.0) p.1 ∷ product_parts (f p.2)) xs) (layout.product_tokens (f x) ++ flat_map (λ (p : SumOp × Pos × F). layout.sum_sign p.0 ∷ layout.product_tokens (f p.2)) xs)
 sum_layer {F} f same x xs = joined (same x) (flat (λ (p : SumOp × Pos × F). marked (sum_sign p.0) p.1 ∷ product_parts (f p.2)) (λ (p : SumOp × Pos × F). layout.sum_sign p.0 ∷ layout.product_tokens (f p.2)) xs (λ p. one (marked (sum_sign p.0) p.1) (layout.sum_sign p.0) (sum_is p.0) (same p.2)))
 
+unary_opens : (u : Unary) → layout.unary_tokens u ≡ flat_map (λ (p : UnaryOp × Pos). layout.unary_sign p.0 ∷ []) u.signs ++ layout.atom_tokens u.atom
+unary_opens u = fold_out-Unary Texts Texts Texts Texts Texts Texts Texts Texts layout.at_atom layout.at_and layout.at_cell layout.at_compare layout.at_expr layout.at_product layout.at_sum layout.at_unary u
+
 unary_layer : {A : Type 0} (a : A → Atom) (same : (x : A) → Alike (atom_parts (a x)) (layout.atom_tokens (a x))) (xs : List (UnaryOp × Pos)) (x : A)
     → Alike (flat_map (λ (p : UnaryOp × Pos). marked (unary_sign p.0) p.1 ∷ []) xs ++ atom_parts (a x)) (flat_map (λ (p : UnaryOp × Pos). layout.unary_sign p.0 ∷ []) xs ++ layout.atom_tokens (a x))
 unary_layer a same xs x = joined (flat (λ (p : UnaryOp × Pos). marked (unary_sign p.0) p.1 ∷ []) (λ (p : UnaryOp × Pos). layout.unary_sign p.0 ∷ []) xs (λ p. one (marked (unary_sign p.0) p.1) (layout.unary_sign p.0) (unary_is p.0) none)) (same x)
@@ -140,4 +139,4 @@ expr_alike e = ind-Expr (λ a. Alike (atom_parts a) (layout.atom_tokens a)) (λ 
     (λ x y k. rw (← k) (rw (fold-roll-Expr Parts Parts Parts Parts Parts Parts Parts Parts at_atom at_and at_cell at_compare at_expr at_product at_sum at_unary, fold-roll-Expr Texts Texts Texts Texts Texts Texts Texts Texts layout.at_atom layout.at_and layout.at_cell layout.at_compare layout.at_expr layout.at_product layout.at_sum layout.at_unary) (simp flat_map-map (expr_layer (λ z. z.0) (λ z. z.1) y.first y.rest))))
     (λ x y k. rw (← k) (rw (fold-roll-Product Parts Parts Parts Parts Parts Parts Parts Parts at_atom at_and at_cell at_compare at_expr at_product at_sum at_unary, fold-roll-Product Texts Texts Texts Texts Texts Texts Texts Texts layout.at_atom layout.at_and layout.at_cell layout.at_compare layout.at_expr layout.at_product layout.at_sum layout.at_unary) (simp flat_map-map (product_layer (λ z. z.0) (λ z. z.1) y.first y.rest))))
     (λ x y k. rw (← k) (rw (fold-roll-Sum Parts Parts Parts Parts Parts Parts Parts Parts at_atom at_and at_cell at_compare at_expr at_product at_sum at_unary, fold-roll-Sum Texts Texts Texts Texts Texts Texts Texts Texts layout.at_atom layout.at_and layout.at_cell layout.at_compare layout.at_expr layout.at_product layout.at_sum layout.at_unary) (simp flat_map-map (sum_layer (λ z. z.0) (λ z. z.1) y.first y.rest))))
-    (λ x y k. rw (← k) (rw (fold-roll-Unary Parts Parts Parts Parts Parts Parts Parts Parts at_atom at_and at_cell at_compare at_expr at_product at_sum at_unary, fold-roll-Unary Texts Texts Texts Texts Texts Texts Texts Texts layout.at_atom layout.at_and layout.at_cell layout.at_compare layout.at_expr layout.at_product layout.at_sum layout.at_unary) (unary_layer (λ z. z.0) (λ z. z.1) y.signs y.atom))) e
+    (λ x y k. rw (← k) (rw (unary_parts_open, unary_opens) (unary_layer (λ z. z.0) (λ z. z.1) y.signs y.atom))) e

@@ -1,8 +1,7 @@
 -- The bytes of statements and of programs.
-use Rattle.std.proofs.Common.{◌≡◌, ℕ, suc, ◌+◌, List, [], ◌∷◌, ◌++◌, Option, Some, None, refl, ap, sym, ◌∙◌, map, codes}
+use Rattle.std.proofs.Common.{◌≡◌, ℕ, List, [], ◌∷◌, ◌++◌, Option, Some, None, refl, ap, ◌∙◌, map, codes}
 use Rattle.std.specs.List.{flat_map}
 use Rattle.jade_base.specs.declared.place.Pos.{Pos}
-use Rattle.jade_syntax.specs.declared.tree.Atom.TheOpen.{CellRef-F}
 use Rattle.jade_syntax.specs.declared.tree.Atom.{Atom}
 use Rattle.jade_syntax.specs.declared.tree.AndExpr.{AndExpr}
 use Rattle.jade_syntax.specs.declared.tree.CellRef.{CellRef, out-CellRef, fold_out-CellRef, map-CellRef}
@@ -22,13 +21,13 @@ use Rattle.jade_syntax.specs.declared.tree.Statement.TheOpen.{Statement-F}
 use Rattle.jade_syntax.specs.declared.tree.Item.{Item}
 use Rattle.jade_syntax.specs.declared.tree.Item.TheVariants.{Input, Single, Family}
 use Rattle.jade_syntax.specs.declared.tree.Program.{Program}
-use Rattle.jade_parser.specs.Spelled.{Token, Part, Parts, numbered, outer, plain, fixed, marked, bracketed, Fixed, Called, expr_parts}
+use Rattle.jade_parser.specs.Spelled.{Parts, outer, plain, fixed, marked, Fixed, Called, expr_parts}
 use Rattle.jade_parser.specs.declared.Sign.{Sign}
 use Rattle.jade_parser.specs.declared.Sign.TheVariants.{LeftBrace, RightBrace, LeftParen, RightParen, Semicolon, Becomes, Comma, DotDot, IfWord, ElseWord, ForWord, InWord, WithonlyWord, DoWord, WithWord, ContWord, MainWord}
 use Rattle.jade_parser.specs.Kinds.{token_bytes, sign_bytes}
 use Rattle.jade_parser.specs.Grammar.{bytes_of}
 use Rattle.jade_parser.specs.Statements.{kind_word, declare_word, outer_index, object_parts, target_parts, braced, more_names, name_parts, else_parts, at_statement, statement_parts, block_parts}
-use Rattle.jade_parser.specs.Programs.{item_parts, head_parts, program_parts}
+use Rattle.jade_parser.specs.Programs.{item_parts, program_parts}
 use Rattle.jade_parser.proofs.Cutting.{numbered_tokens}
 use Rattle.jade_parser.proofs.Alike.{Alike, none, one, joined, flat, index_alike, expr_alike}
 use Rattle.jade_layout.specs.Spelling as layout
