@@ -7,6 +7,7 @@ mod compound;
 mod expressions;
 mod items;
 mod kinds;
+pub mod laws;
 mod leaves;
 mod names;
 mod outer;
