@@ -1,0 +1,37 @@
+-- The operators.
+use Rattle.std.specs.Prelude.{Option, Some, None}
+use Rattle.jade_parser.specs.declared.Sign.{Sign}
+use Rattle.jade_parser.specs.declared.Sign.TheVariants.{EqualSign, UnequalSign, LessSign, LessEqualSign, GreaterSign, GreaterEqualSign, PlusSign, MinusSign, TimesSign, OverSign, PercentSign, NotSign}
+use Rattle.jade_syntax.specs.declared.tree.Relation.{Relation}
+use Rattle.jade_syntax.specs.declared.tree.Relation.TheVariants.{Equal, Unequal, Less, LessEqual, Greater, GreaterEqual}
+use Rattle.jade_syntax.specs.declared.tree.SumOp.{SumOp}
+use Rattle.jade_syntax.specs.declared.tree.SumOp.TheVariants.{Plus, Minus}
+use Rattle.jade_syntax.specs.declared.tree.ProductOp.{ProductOp}
+use Rattle.jade_syntax.specs.declared.tree.ProductOp.TheVariants.{Times, Over, Remainder}
+use Rattle.jade_syntax.specs.declared.tree.UnaryOp.{UnaryOp}
+use Rattle.jade_syntax.specs.declared.tree.UnaryOp.TheVariants.{Negative, Not}
+
+abbrev pub sum_of : Sign → Option SumOp
+sum_of PlusSign = Some Plus
+sum_of MinusSign = Some Minus
+sum_of s = None
+
+abbrev pub product_of : Sign → Option ProductOp
+product_of TimesSign = Some Times
+product_of OverSign = Some Over
+product_of PercentSign = Some Remainder
+product_of s = None
+
+abbrev pub relation_of : Sign → Option Relation
+relation_of EqualSign = Some Equal
+relation_of UnequalSign = Some Unequal
+relation_of LessSign = Some Less
+relation_of LessEqualSign = Some LessEqual
+relation_of GreaterSign = Some Greater
+relation_of GreaterEqualSign = Some GreaterEqual
+relation_of s = None
+
+abbrev pub unary_of : Sign → Option UnaryOp
+unary_of MinusSign = Some Negative
+unary_of NotSign = Some Not
+unary_of s = None

@@ -1,0 +1,114 @@
+-- What a parser has read, and where it stops.
+use Rattle.std.specs.Prelude.{◌≡◌, ℕ, zero, suc, ◌+◌, ◌≤◌, Bool, true, List, [], ◌∷◌, ◌++◌, drop, length, map, Option, Some, None, ⊤, Result, MatchResult}
+use Rattle.std.specs.List.{list_all}
+use Rattle.jade_base.specs.declared.place.Pos.{Pos}
+use Rattle.jade_syntax.specs.declared.tree.Expr.{Expr}
+use Rattle.jade_parser.specs.Spelled.{Token, Tokens, Fixed, Called, Counted, Odd, Part, Parts, tokens_of, marked, plain, fixed, is_valid, AllValid, AllShort, expr_parts}
+use Rattle.jade_parser.specs.Ops.{unary_of}
+use Rattle.jade_parser.specs.Machine.{Stack, goes}
+use Rattle.jade_parser.specs.declared.Seen.{Seen}
+use Rattle.jade_parser.specs.declared.Kind.{Kind}
+use Rattle.jade_parser.specs.declared.Kind.TheVariants.{Fixed as KFixed, Called as KCalled, Counted as KCounted, Odd as KOdd}
+use Rattle.jade_parser.specs.declared.Sign.{Sign}
+use Rattle.jade_parser.specs.declared.Stop.{Stop}
+use Rattle.jade_parser.specs.declared.Stop.TheVariants.{Token as AtToken, Long, Memory}
+
+abbrev pub token_of : Kind → Token
+token_of (KFixed s) = Fixed s
+token_of (KCalled n) = Called n.now
+token_of (KCounted v) = Counted v
+token_of KOdd = Odd
+
+abbrev pub kinds : List Seen → Tokens
+kinds xs = map (λ x. token_of x.kind) xs
+
+abbrev pub places : List Seen → List Pos
+places xs = map (λ x. x.pos) xs
+
+-- each token is one that may stand in a program, or odd
+abbrev pub is_known : Token → Bool
+is_known (Fixed s) = true
+is_known (Called n) = is_valid (Called n)
+is_known (Counted v) = is_valid (Counted v)
+is_known Odd = true
+
+pub record Known (all : List Seen) : Type 0 where
+  pub is : list_all is_known (kinds all) ≡ true
+
+abbrev pub head_sign : Tokens → Option Sign
+head_sign [] = None
+head_sign (Fixed s ∷ ts) = Some s
+head_sign (Called n ∷ ts) = None
+head_sign (Counted v ∷ ts) = None
+head_sign (Odd ∷ ts) = None
+
+-- the place of a token by its number
+abbrev pub pos_in : List Pos → ℕ → Pos
+pos_in [] at = record { line = 0; column = 0 }
+pos_in (p ∷ ps) zero = p
+pos_in (p ∷ ps) (suc at) = pos_in ps at
+
+abbrev pub place_at : List Seen → ℕ → Pos
+place_at all at = pos_in (places all) at
+
+-- the place that is kept, if one is
+abbrev pub KeptAt : Option Pos → Pos → Type 0
+KeptAt None q = Unit {0}
+KeptAt (Some p) q = p ≡ q
+
+-- the places that are kept of these parts are those of the tokens from this one on
+abbrev pub Agrees : List Pos → ℕ → Parts → Type 0
+Agrees qs at [] = Unit {0}
+Agrees qs at (p ∷ ps) = KeptAt p.at (pos_in qs at) × Agrees qs (at + 1) ps
+
+-- from one place to another stand these parts
+pub record Reads (all : List Seen) (start end : ℕ) (ps : Parts) : Type 0 where
+  pub forward : start ≤ end
+  pub within : end ≤ length all
+  pub stands : drop start (kinds all) ≡ tokens_of ps ++ drop end (kinds all)
+  pub agrees : Agrees (places all) start ps
+  pub valid : Known all → AllValid ps
+
+-- the first place at which the machine refuses
+abbrev pub place : List Seen → ℕ → Stack → ℕ
+place all at st = at + goes (drop at (kinds all)) st
+
+pub record Passes (all : List Seen) (a : ℕ) (xs : Stack) (b : ℕ) (ys : Stack) : Type 0 where
+  pub by : (st : Stack) → place all a (xs ++ st) ≡ place all b (ys ++ st)
+
+pub record Stops (all : List Seen) (a : ℕ) (xs : Stack) (k : ℕ) : Type 0 where
+  pub by : (st : Stack) → place all a (xs ++ st) ≡ k
+
+-- what stands from a up to k is the beginning of what is spelled
+pub record Begun {X : Type 0} (f : X → Parts) (all : List Seen) (a k : ℕ) : Type 0 where
+  pub read : Parts
+  pub more : Parts
+  pub tree : X
+  pub reads : Reads all a k read
+  pub by : f tree ≡ read ++ more
+  pub valid : AllValid more
+
+-- a part that was read
+pub record Whole (all : List Seen) (a : ℕ) (xs : Stack) (b : ℕ) (ys : Stack) (ps : Parts) : Type 0 where
+  pub reads : Reads all a b ps
+  pub passes : Passes all a xs b ys
+
+pub record Refusal {X : Type 0} (f : X → Parts) (all : List Seen) (a : ℕ) (xs : Stack) (k : ℕ) : Type 0 where
+  pub stops : Stops all a xs k
+  pub begun : Begun f all a k
+
+abbrev pub OnToken : Stop → (ℕ → Type 0) → Type 0
+OnToken (AtToken k) P = P k
+OnToken (Long k) P = ⊤
+OnToken Memory P = ⊤
+
+-- what a parser of one form promises: f spells the form, xs asks for it
+abbrev pub Parsed : {X : Type 0} (f : X → Parts) (all : List Seen) (a : ℕ) (xs : Stack) → Result (X × ℕ) Stop → Type 0
+Parsed f all a xs r = MatchResult r (λ p. Whole all a xs p.1 [] (f p.0)) (λ e. OnToken e (Refusal f all a xs))
+
+abbrev pub closed : Sign → Expr → Parts
+closed s e = expr_parts e ++ fixed s ∷ []
+
+-- no sign of a unary operator stands there
+pub record NoUnary (all : List Seen) (a : ℕ) : Type 0 where
+  pub none : (s : Sign) → head_sign (drop a (kinds all)) ≡ Some s → unary_of s ≡ None

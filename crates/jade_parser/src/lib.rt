@@ -1,0 +1,96 @@
+//! The parser: from the tokens of a text to the tree of its program, or to the first token that is
+//! refused.
+#![tactic(auto)]
+
+mod leaves;
+mod parse;
+
+use jade_base::Pos;
+
+/// A word or a symbol of the language.
+#[derive(Clone, Copy, Debug, PartialEq, Eq)]
+pub enum Sign {
+    TrueWord,
+    FalseWord,
+    LeftParen,
+    RightParen,
+    LeftBracket,
+    RightBracket,
+    OrSign,
+    AndSign,
+    EqualSign,
+    UnequalSign,
+    LessSign,
+    LessEqualSign,
+    GreaterSign,
+    GreaterEqualSign,
+    PlusSign,
+    MinusSign,
+    TimesSign,
+    OverSign,
+    PercentSign,
+    NotSign,
+    Semicolon,
+    Becomes,
+    LeftBrace,
+    RightBrace,
+    IfWord,
+    ElseWord,
+    ForWord,
+    InWord,
+    DotDot,
+    IntWord,
+    BoolWord,
+    WithonlyWord,
+    WithWord,
+    DoWord,
+    ContWord,
+    Comma,
+    RdWord,
+    WrWord,
+    RdWrWord,
+    DfRdWord,
+    DfWrWord,
+    DfRdWrWord,
+    NoRdWord,
+    NoWrWord,
+    NoRdWrWord,
+    InputWord,
+    ObjectWord,
+    ObjectsWord,
+    MainWord,
+    Colon,
+}
+
+/// What a token is. `Odd` is what stands in no program.
+#[derive(Clone, Copy)]
+pub enum Kind<'t> {
+    Fixed(Sign),
+    Called(&'t [u8]),
+    Counted(i64),
+    Odd,
+}
+
+/// A token as what it is, and its place.
+#[derive(Clone, Copy)]
+pub struct Seen<'t> {
+    pub kind: Kind<'t>,
+    pub pos: Pos,
+}
+
+/// Where a statement stands: in a body, in the section of a `withonly`, or in that of a `with`.
+#[derive(Clone, Copy, Debug, PartialEq, Eq)]
+pub enum Place {
+    Main,
+    Section,
+    Amends,
+}
+
+/// Why no tree was read: the number of the first refused token, or of the 257th token of an
+/// outermost expression, counted from 0, or want of memory.
+#[derive(Debug, Drop)]
+pub enum Stop {
+    Token(usize),
+    Long(usize),
+    Memory,
+}
