@@ -67,6 +67,9 @@ split (t ∷ ts) (suc at) s e =
     let w : suc at + 1 ≡ suc (at + 1) = omega arith in
     (r.0 ∙ ap (λ k. Fixed s ∷ drop k (t ∷ ts)) (sym w), omega (arith, r.1))
 
+pub split_sign : (all : List Seen) (at : ℕ) (s : Sign) → Some s ≡ head_sign (drop at (kinds all)) → drop at (kinds all) ≡ Fixed s ∷ drop (at + 1) (kinds all)
+split_sign all at s e = (split (kinds all) at s e).0
+
 pub stands : (all : List Seen) (at : ℕ) (s : Sign) (o : Option Pos) → KeptAt o (place_at all at) → Some s ≡ head_sign (drop at (kinds all)) → Reads all at (at + 1) (record { token = Fixed s; at = o; nth = 0 } ∷ [])
 stands all at s o k e =
     let r = split (kinds all) at s e in
@@ -509,3 +512,29 @@ no_sign_here all at s e u a b c st = let r = split (kinds all) at s e in rw (r.0
 
 pub within_here : (all : List Seen) (at : ℕ) (s : Sign) → Some s ≡ head_sign (drop at (kinds all)) → at ≤ length all
 within_here all at s e = let r = split (kinds all) at s e in let n : length (kinds all) ≡ length all = length-map all _ in omega (arith, r.1)
+
+-- a name, where a name may stand
+pub called_taken : (xs : List Seen) (at : ℕ) (d : Seen) (b : _) (ys zs : Stack) → at < length xs → (get_or xs at d).kind ≡ KCalled b
+    → ((rest : Tokens) (st : Stack) → goes (Called b.now ∷ rest) (ys ++ st) ≡ 1 + goes rest (zs ++ st)) → Whole xs at ys (at + 1) zs (marked (Called b.now) (place_at xs at) ∷ [])
+called_taken xs at d b ys zs lt e step =
+    let h : drop at (kinds xs) ≡ Called b.now ∷ drop (at + 1) (kinds xs) = here xs at d lt ∙ rw e refl in
+    record { reads = called_reads xs at b.now lt h; passes = record { by = λ st. rw h (let k = step (drop (at + 1) (kinds xs)) st in omega (arith, k)) } }
+
+-- a number, where a number may stand
+pub counted_taken : (xs : List Seen) (at : ℕ) (d : Seen) (v : ℤ) (ys zs : Stack) → at < length xs → (get_or xs at d).kind ≡ KCounted v
+    → ((rest : Tokens) (st : Stack) → goes (Counted v ∷ rest) (ys ++ st) ≡ 1 + goes rest (zs ++ st)) → Whole xs at ys (at + 1) zs (marked (Counted v) (get_or xs at d).pos ∷ [])
+counted_taken xs at d v ys zs lt e step =
+    let h : drop at (kinds xs) ≡ Counted v ∷ drop (at + 1) (kinds xs) = here xs at d lt ∙ rw e refl in
+    rw (pos_here xs at d lt) (record { reads = counted_reads xs at v lt h; passes = record { by = λ st. rw h (let k = step (drop (at + 1) (kinds xs)) st in omega (arith, k)) } })
+
+-- a token that may not stand there
+pub stops_kind : (xs : List Seen) (at : ℕ) (d : Seen) (k : Kind) (ys : Stack) → at < length xs → (get_or xs at d).kind ≡ k
+    → ((rest : Tokens) (st : Stack) → goes (token_of k ∷ rest) (ys ++ st) ≡ 0) → (at ≡ at) × Stops xs at ys at
+stops_kind xs at d k ys lt e none = (refl, record { by = λ st. rw (here xs at d lt, e, none (drop (at + 1) (kinds xs)) st) (omega arith) })
+
+-- the end, where more is missing
+pub stops_end : (xs : List Seen) (at : ℕ) (ys : Stack) → length xs ≤ at → ((st : Stack) → goes [] (ys ++ st) ≡ 0) → (at ≡ at) × Stops xs at ys at
+stops_end xs at ys le none =
+    let n : length (kinds xs) ≡ length xs = length-map xs _ in
+    let m : length (kinds xs) ≤ at = omega arith in
+    (refl, record { by = λ st. rw (drop_all at (kinds xs) m, none st) (omega arith) })

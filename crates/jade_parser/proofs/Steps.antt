@@ -27,7 +27,8 @@ use Rattle.jade_parser.specs.Machine.{Stack, Need, Rest, First, Second, Must, un
 use Rattle.jade_parser.specs.Ops.{unary_of}
 use Rattle.jade_parser.specs.declared.Seen.{Seen}
 use Rattle.jade_parser.specs.declared.Stop.{Stop}
-use Rattle.jade_parser.specs.Reads.{place_at, Passes, Stops, Whole, Refusal, OnToken, closed, NoUnary, head_sign, kinds, Begun}
+use Rattle.jade_parser.specs.declared.Stop.TheVariants.{Token as AtToken, Long, Memory}
+use Rattle.jade_parser.specs.Reads.{place_at, Passes, Stops, Whole, Refusal, OnToken, OnStop, OnOther, closed, NoUnary, head_sign, kinds, Begun}
 use Rattle.jade_parser.proofs.Spelling.{unary_opens, expr_made, and_made, sum_made, product_made, group_made}
 use Rattle.jade_parser.proofs.Reading.{whole_none, whole_on, whole_past, whole_under, refusal_under, refused_on, lift, reads_none, none_valid}
 use Rattle.jade_parser.proofs.Standing.{takes_sign, takes_marked, past_sign}
@@ -90,11 +91,16 @@ pub closed_first : (all : List Seen) (start : ℕ) (closer : Sign) (e : Stop) �
 closed_first all start closer e le o = lift e (Refusal expr_parts all start expr_in) (Refusal (closed closer) all start (expr_in ++ Must closer ∷ []))
     (λ k r. refused_on (closed closer) expr_parts all start start (expr_in ++ Must closer ∷ []) (expr_in ++ Must closer ∷ []) [] (λ y. y) (fixed closer ∷ []) (λ y. refl) (record { is = refl }) (whole_none all start _ le) k (refusal_under (Must closer ∷ []) r)) o
 
+only_token : (e : Stop) (P : ℕ → Type 0) → OnStop e P (λ k. ⊥) → OnToken e P
+only_token (AtToken k) P o = o
+only_token (Long k) P o = elim o [ ]
+only_token Memory P o = tt
+
 -- after the expression another token than the closing one stands
-pub closed_second : (all : List Seen) (start at : ℕ) (closer : Sign) (x : Expr) (e : Stop) → Whole all start expr_in at [] (expr_parts x) → OnToken e (λ k. (k ≡ at) × Stops all at (Must closer ∷ []) at)
+pub closed_second : (all : List Seen) (start at : ℕ) (closer : Sign) (x : Expr) (e : Stop) → Whole all start expr_in at [] (expr_parts x) → OnOther e all at (Must closer ∷ [])
     → OnToken e (Refusal (closed closer) all start (expr_in ++ Must closer ∷ []))
 closed_second all start at closer x e w o = lift e (λ k. (k ≡ at) × Stops all at (Must closer ∷ []) at) (Refusal (closed closer) all start (expr_in ++ Must closer ∷ []))
-    (λ k s. rw (s.0) (refused_here all start at closer x w s.1)) o
+    (λ k s. rw (s.0) (refused_here all start at closer x w s.1)) (only_token e _ o)
   where
     refused_here : (all : List Seen) (start at : ℕ) (closer : Sign) (x : Expr) → Whole all start expr_in at [] (expr_parts x) → Stops all at (Must closer ∷ []) at → Refusal (closed closer) all start (expr_in ++ Must closer ∷ []) at
     refused_here all start at closer x w s =

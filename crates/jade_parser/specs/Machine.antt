@@ -1,5 +1,5 @@
 -- What may still come.
-use Rattle.std.specs.Prelude.{◌≡◌, ℕ, ◌+◌, ◌==◌, Bool, true, false, cond, List, [], ◌∷◌, ◌++◌, Option, Some, None}
+use Rattle.std.specs.Prelude.{◌≡◌, ℕ, ◌+◌, ◌==◌, Bool, true, false, ◌&&◌, cond, List, [], ◌∷◌, ◌++◌, Option, Some, None}
 use Rattle.jade_parser.specs.declared.Place.{Place}
 use Rattle.jade_parser.specs.declared.Place.TheVariants.{Main, Section, Amends}
 use Rattle.jade_parser.specs.declared.Sign.{Sign}
@@ -198,20 +198,22 @@ item (Fixed ObjectsWord) st = Some (NameIs ∷ Must LeftBracket ∷ NumberIs ∷
 item (Fixed MainWord) st = Some (Must LeftBrace ∷ Body Main ∷ st)
 item t st = None
 
+abbrev pub is_main : Place → Bool
+is_main Main = true
+is_main Section = false
+is_main Amends = false
+
 abbrev pub after_name : Place → Token → Stack → Option Stack
-after_name c (Fixed Becomes) st = Some (expr_in ++ Must Semicolon ∷ st)
-after_name Main (Fixed LeftBracket) st = Some (expr_in ++ Must RightBracket ∷ Second ∷ Must Becomes ∷ expr_in ++ Must Semicolon ∷ st)
-after_name c t st = None
+after_name c t st =
+    cond (is_sign Becomes t) (Some (expr_in ++ Must Semicolon ∷ st))
+      (cond (is_main c && is_sign LeftBracket t) (Some (expr_in ++ Must RightBracket ∷ Second ∷ Must Becomes ∷ expr_in ++ Must Semicolon ∷ st)) None)
 
 abbrev pub names_begin : Token → Stack → Option Stack
 names_begin (Called n) st = Some (MoreNames ∷ st)
-names_begin (Fixed RightParen) st = Some st
-names_begin t st = None
+names_begin t st = cond (is_sign RightParen t) (Some st) None
 
 abbrev pub names_go : Token → Stack → Option Stack
-names_go (Fixed Comma) st = Some (NameIs ∷ MoreNames ∷ st)
-names_go (Fixed RightParen) st = Some st
-names_go t st = None
+names_go t st = cond (is_sign Comma t) (Some (NameIs ∷ MoreNames ∷ st)) (cond (is_sign RightParen t) (Some st) None)
 
 abbrev pub feed : Stack → Token → Option Stack
 feed [] t = None

@@ -1,14 +1,14 @@
 -- What a parser of statements promises.
 use Rattle.std.specs.Prelude.{◌≡◌, ℕ, ◌+◌, ◌<◌, true, List, [], ◌∷◌, map, Result, MatchResult, ◌++◌, ⊤}
 use Rattle.jade_syntax.specs.declared.tree.Statement.{Statement}
-use Rattle.jade_parser.specs.Spelled.{Part, Parts, AllValid, AllShort}
-use Rattle.jade_parser.specs.Machine.{Stack}
+use Rattle.jade_syntax.specs.declared.tree.Expr.{Expr}
+use Rattle.jade_parser.specs.Spelled.{Part, Parts, AllValid, AllShort, outer}
+use Rattle.jade_parser.specs.Machine.{Stack, expr_in}
 use Rattle.jade_parser.specs.Statements.{shaped, all_in}
 use Rattle.jade_parser.specs.declared.Place.{Place}
 use Rattle.jade_parser.specs.declared.Seen.{Seen}
 use Rattle.jade_parser.specs.declared.Stop.{Stop}
-use Rattle.jade_parser.specs.declared.Stop.TheVariants.{Token as AtToken, Long, Memory}
-use Rattle.jade_parser.specs.Reads.{Reads, Stops, Whole}
+use Rattle.jade_parser.specs.Reads.{Reads, Stops, Whole, OnStop, Known}
 
 -- the statement may stand there
 pub record Fits (c : Place) (s : Statement) : Type 0 where
@@ -17,6 +17,10 @@ pub record Fits (c : Place) (s : Statement) : Type 0 where
 -- each statement may stand there
 pub record FitsAll (c : Place) (b : List Statement) : Type 0 where
   pub is : all_in c (map shaped b) ≡ true
+
+-- every tree
+pub record Any {X : Type 0} (x : X) : Type 0 where
+  pub any : Unit {0}
 
 -- what stands from a up to k is the beginning of such a tree, and no outermost expression is too long up to there
 pub record BegunIn {X : Type 0} (P : X → Type 0) (f : X → Parts) (all : List Seen) (a k : ℕ) : Type 0 where
@@ -42,7 +46,7 @@ pub record LongIn {X : Type 0} (P : X → Type 0) (f : X → Parts) (all : List 
   pub reads : Reads all a (k + 1) (read ++ last ∷ [])
   pub by : f tree ≡ (read ++ last ∷ []) ++ more
   pub fits : P tree
-  pub valid : AllValid more
+  pub valid : Known all → AllValid more
   pub short : AllShort read
   pub too_many : last.nth ≡ 257
 
@@ -52,11 +56,15 @@ pub record ReadIn {X : Type 0} (P : X → Type 0) (f : X → Parts) (all : List 
   pub further : a < b
   pub short : AllShort (f tree)
 
-abbrev pub OnStop : Stop → (ℕ → Type 0) → (ℕ → Type 0) → Type 0
-OnStop (AtToken k) P Q = P k
-OnStop (Long k) P Q = Q k
-OnStop Memory P Q = ⊤
-
 -- what a parser of one form promises: such trees, which f spells, xs asks for, and after which ys is to come
 abbrev pub ParsedIn : {X : Type 0} (P : X → Type 0) (f : X → Parts) (all : List Seen) (a : ℕ) (xs ys : Stack) → Result (X × ℕ) Stop → Type 0
 ParsedIn P f all a xs ys r = MatchResult r (λ p. ReadIn P f all a xs p.1 ys p.0) (λ e. OnStop e (RefusalIn P f all a xs) (LongIn P f all a))
+
+-- an outermost expression that was read
+pub record OuterIn (all : List Seen) (a b : ℕ) (x : Expr) : Type 0 where
+  pub whole : Whole all a expr_in b [] (outer x)
+  pub short : AllShort (outer x)
+
+-- what a parser of outermost expressions promises
+abbrev pub ParsedOuter : (all : List Seen) (a : ℕ) → Result (Expr × ℕ) Stop → Type 0
+ParsedOuter all a r = MatchResult r (λ p. OuterIn all a p.1 p.0) (λ e. OnStop e (RefusalIn Any outer all a expr_in) (LongIn Any outer all a))

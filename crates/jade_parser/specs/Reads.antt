@@ -102,6 +102,16 @@ OnToken (AtToken k) P = P k
 OnToken (Long k) P = ⊤
 OnToken Memory P = ⊤
 
+-- what a refused token and what a 257th token mean; want of memory says nothing
+abbrev pub OnStop : Stop → (ℕ → Type 0) → (ℕ → Type 0) → Type 0
+OnStop (AtToken k) P Q = P k
+OnStop (Long k) P Q = Q k
+OnStop Memory P Q = ⊤
+
+-- another token than the one that is asked for stands at a place
+abbrev pub OnOther : Stop → List Seen → ℕ → Stack → Type 0
+OnOther e all at xs = OnStop e (λ k. (k ≡ at) × Stops all at xs at) (λ k. ⊥)
+
 -- what a parser of one form promises: f spells the form, xs asks for it
 abbrev pub Parsed : {X : Type 0} (f : X → Parts) (all : List Seen) (a : ℕ) (xs : Stack) → Result (X × ℕ) Stop → Type 0
 Parsed f all a xs r = MatchResult r (λ p. Whole all a xs p.1 [] (f p.0)) (λ e. OnToken e (Refusal f all a xs))

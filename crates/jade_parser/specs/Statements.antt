@@ -17,7 +17,7 @@ use Rattle.jade_syntax.specs.declared.tree.Named.{Named}
 use Rattle.jade_parser.specs.Spelled.{Token, Fixed, Called, Part, Parts, plain, fixed, marked, bracketed, outer}
 use Rattle.jade_parser.specs.declared.Place.{Place}
 use Rattle.jade_parser.specs.declared.Place.TheVariants.{Main, Section, Amends}
-use Rattle.jade_parser.specs.Machine.{declares}
+use Rattle.jade_parser.specs.Machine.{declares, is_main}
 
 abbrev pub kind_word : ValueKind → Token
 kind_word Int = Fixed IntWord
@@ -107,11 +107,6 @@ word_sign DfRdWr = DfRdWrWord
 word_sign NoRd = NoRdWord
 word_sign NoWr = NoWrWord
 word_sign NoRdWr = NoRdWrWord
-
-abbrev pub is_main : Place → Bool
-is_main Main = true
-is_main Section = false
-is_main Amends = false
 
 abbrev pub all_in : Place → List (Place → Bool) → Bool
 all_in c [] = true

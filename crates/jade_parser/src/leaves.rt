@@ -1,5 +1,5 @@
 ghost use Rattle.std.specs.Prelude.{◌≡◌, ◌+◌, ◌++◌, [], ◌∷◌, drop, MatchOption, MatchResult, IsTrue, IsFalse, IfSome, length, ◌<◌};
-ghost use Rattle.jade_parser.specs.Reads.{head_sign, kinds, place_at, Passes, Whole, Stops, OnToken, NoUnary};
+ghost use Rattle.jade_parser.specs.Reads.{head_sign, kinds, place_at, Passes, Whole, OnOther, NoUnary};
 ghost use Rattle.jade_parser.specs.Ops.{sum_of as sum_spec, product_of as product_spec, relation_of as relation_spec, unary_of as unary_spec};
 ghost use Rattle.jade_parser.specs.Machine.{Rest, Need, First, Second, Must, sum_in, product_in, expr_in, and_in, same_sign};
 ghost use Rattle.jade_parser.specs.Spelled.{sum_sign, product_sign, relation_sign, unary_sign, Fixed, fixed, marked};
@@ -164,7 +164,7 @@ pub fn bracket(tokens: &[Seen<'_>], at: usize) -> bool
 
 /// The place after the sign.
 pub fn expect(tokens: &[Seen<'_>], at: usize, wanted: Sign) -> Result<usize, Stop>
-    ensures { MatchResult result (λ next. Whole tokens.now at (Must wanted ∷ []) next [] (fixed wanted ∷ [])) (λ e. OnToken e (λ k. (k ≡ at) × Stops tokens.now at (Must wanted ∷ []) at)) }
+    ensures { MatchResult result (λ next. Whole tokens.now at (Must wanted ∷ []) next [] (fixed wanted ∷ [])) (λ e. OnOther e tokens.now at (Must wanted ∷ [])) }
 {
     match sign_at(tokens, at) {
         Some(sign) => {

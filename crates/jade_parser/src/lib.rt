@@ -2,7 +2,12 @@
 //! refused.
 #![tactic(auto)]
 
+mod items;
+mod begins;
+mod kinds;
 mod leaves;
+mod names;
+mod outer;
 mod parse;
 
 use jade_base::Pos;

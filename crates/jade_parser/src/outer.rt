@@ -1,0 +1,39 @@
+ghost use Rattle.std.specs.Prelude.{◌≤◌, length};
+ghost use Rattle.jade_parser.specs.Parts.{ParsedOuter};
+
+use crate::parse::parse_expr;
+use crate::{Seen, Stop};
+use jade_syntax::tree::Expr;
+use std::alloc::Global;
+
+/// The most tokens of an expression that lies in no other.
+const EXPRESSION_LIMIT: usize = 256;
+
+/// An expression that lies in no other.
+pub fn parse_outer(
+    alloc: Global,
+    tokens: &[Seen<'_>],
+    start: usize,
+    depth: usize,
+) -> Result<(Expr, usize), Stop>
+    requires { start ≤ length tokens.now }
+    ensures { ParsedOuter tokens.now start result }
+{
+    match parse_expr(alloc, tokens, start, depth) {
+        Ok((x, at)) => {
+            if at - start <= EXPRESSION_LIMIT {
+                Ok((x, at))
+            } else {
+                Err(Stop::Long(start + EXPRESSION_LIMIT))
+            }
+        }
+        Err(Stop::Token(at)) => {
+            if at - start <= EXPRESSION_LIMIT {
+                Err(Stop::Token(at))
+            } else {
+                Err(Stop::Long(start + EXPRESSION_LIMIT))
+            }
+        }
+        Err(_) => Err(Stop::Memory),
+    }
+}
