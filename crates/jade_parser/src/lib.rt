@@ -5,6 +5,7 @@
 mod items;
 mod begins;
 mod kinds;
+pub mod laws;
 mod leaves;
 mod names;
 mod outer;
@@ -97,5 +98,14 @@ pub enum Place {
 pub enum Stop {
     Token(usize),
     Long(usize),
+    Memory,
+}
+
+/// Why tokens are no program: the first refused token or the end, the 257th token of an outermost
+/// expression, or want of memory.
+#[derive(Clone, Copy, Debug, PartialEq, Eq)]
+pub enum ParseError {
+    Token(Pos),
+    Long(Pos),
     Memory,
 }
