@@ -206,7 +206,7 @@ is_main Amends = false
 abbrev pub after_name : Place → Token → Stack → Option Stack
 after_name c t st =
     cond (is_sign Becomes t) (Some (expr_in ++ Must Semicolon ∷ st))
-      (cond (is_main c && is_sign LeftBracket t) (Some (expr_in ++ Must RightBracket ∷ Second ∷ Must Becomes ∷ expr_in ++ Must Semicolon ∷ st)) None)
+    (cond (is_main c && is_sign LeftBracket t) (Some (expr_in ++ Must RightBracket ∷ Second ∷ Must Becomes ∷ expr_in ++ Must Semicolon ∷ st)) None)
 
 abbrev pub names_begin : Token → Stack → Option Stack
 names_begin (Called n) st = Some (MoreNames ∷ st)

@@ -2,16 +2,19 @@
 //! refused.
 #![tactic(auto)]
 
-mod items;
 mod begins;
+mod block;
+mod expressions;
+mod items;
 mod kinds;
 pub mod laws;
 mod leaves;
 mod names;
 mod outer;
-mod parse;
+mod program;
 
 use jade_base::Pos;
+pub use program::parse;
 
 /// A word or a symbol of the language.
 #[derive(Clone, Copy, Debug, PartialEq, Eq)]
@@ -101,8 +104,9 @@ pub enum Stop {
     Memory,
 }
 
-/// Why tokens are no program: the first refused token or the end, the 257th token of an outermost
-/// expression, or want of memory.
+/// Why a text has no tree: the place of its first refused token, or of its end, where that is
+/// refused; the place of the 257th token of an outermost expression; or want of memory, which says
+/// nothing of the text.
 #[derive(Clone, Copy, Debug, PartialEq, Eq)]
 pub enum ParseError {
     Token(Pos),

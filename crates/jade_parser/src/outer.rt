@@ -1,7 +1,7 @@
 ghost use Rattle.std.specs.Prelude.{◌≤◌, length};
 ghost use Rattle.jade_parser.specs.Parts.{ParsedOuter};
 
-use crate::parse::parse_expr;
+use crate::expressions::parse_expr;
 use crate::{Seen, Stop};
 use jade_syntax::tree::Expr;
 use std::alloc::Global;

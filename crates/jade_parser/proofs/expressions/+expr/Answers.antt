@@ -16,7 +16,7 @@ use Rattle.std.proofs.lemmas.Int.{to_z-of_z}
 use Rattle.jade_parser.proofs.Standing.{called_here, counted_here, head_fixed, nothing_here, odd_here, no_sign_here, within_here}
 use Rattle.jade_parser.proofs.Chains.{chain_first, chain_more, chain_kept, chain_done}
 use Rattle.jade_parser.proofs.Steps.{residual, compare_first, compare_second, compare_both, unary_refused, closed_first, closed_second, after_refused, atom_refused, single_made, member_made, named_made, whole_made, truth_made, cell_made, cell_first, cell_second, cell_both, truth_here, group_refused, group_read, named_refused}
-use Rattle.jade_parser.proofs.parse.+expr.Goals as goal
+use Rattle.jade_parser.proofs.expressions.+expr.Goals as goal
 
 pub parse_and-returns-in_err-first : goal.parse_and-returns-in_err-first
 parse_and-returns-in_err-first t c = residual _ _ _ _ c.from_residual.ensures.1 (chain_first and_parts compare_parts compare_in 4 and_part (λ y ps. roll-AndExpr (record { first = y; rest = ps })) and_made _ _ _ c.requires c.in_err-first.ensures)

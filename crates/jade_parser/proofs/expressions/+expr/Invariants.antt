@@ -3,7 +3,7 @@ use Rattle.std.specs.List.{flat_map}
 use Rattle.jade_parser.specs.Spelled.{and_parts, compare_parts, product_parts, unary_parts, or_part, and_part, sum_part, product_part}
 use Rattle.jade_parser.specs.Machine.{Rest, expr_in, and_in, sum_in, product_in}
 use Rattle.jade_parser.specs.Reads.{Whole}
-use Rattle.jade_parser.proofs.parse.+expr.Given as goal
+use Rattle.jade_parser.proofs.expressions.+expr.Given as goal
 
 abbrev pub decreases-parse_expr : goal.decreases-parse_expr
 decreases-parse_expr l = 20 * l.depth + 9

@@ -3,7 +3,7 @@ use Rattle.std.specs.List.{flat_map}
 use Rattle.jade_parser.specs.Spelled.{sign_part}
 use Rattle.jade_parser.specs.Machine.{Need}
 use Rattle.jade_parser.specs.Reads.{Whole}
-use Rattle.jade_parser.proofs.parse.signs.Given as goal
+use Rattle.jade_parser.proofs.expressions.signs.Given as goal
 
 abbrev pub invariant-loop-op : goal.invariant-loop-op
 invariant-loop-op l = Whole l.tokens l.fn.start (Need ∷ []) l.at (Need ∷ []) (flat_map sign_part l.all)

@@ -1,0 +1,58 @@
+//! A whole program.
+
+ghost use Rattle.std.specs.Prelude.{◌≡◌, MatchResult, IfOk, IfErr};
+ghost use Rattle.jade_parser.specs.Grammar.{IsReading, IsRefusal, place_of};
+ghost use Rattle.jade_parser.specs.Refused.{ReadAll, RefusedAt, TooLongAt};
+ghost use Rattle.jade_parser.specs.Reads.{OnStop};
+
+use crate::block::parse_block;
+use crate::items::parse_items;
+use crate::kinds::classified;
+use crate::{ParseError, Place, Seen, Stop};
+use jade_base::Pos;
+use jade_lexer::Tokens;
+use jade_syntax::tree::Program;
+use std::alloc::Global;
+
+/// The most brackets that are open at once.
+const DEPTH_LIMIT: usize = 64;
+
+/// The program that the tokens are.
+fn parse_seen(alloc: Global, tokens: &[Seen<'_>]) -> Result<Program, Stop>
+    ensures { MatchResult result (ReadAll tokens.now) (λ e. OnStop e (RefusedAt tokens.now) (TooLongAt tokens.now)) }
+{
+    let (items, at) = parse_items(alloc, tokens)?;
+    let (main, at) = parse_block(alloc, tokens, at, Place::Main, DEPTH_LIMIT)?;
+    if at < tokens.len() {
+        return Err(Stop::Token(at));
+    }
+    Ok(Program { items, main })
+}
+
+/// The place of the token with a number, or of the end.
+fn place_of(tokens: &Tokens<'_>, at: usize) -> Pos
+    ensures { result ≡ place_of tokens.now at }
+{
+    if at < tokens.len() {
+        tokens.at(at).pos
+    } else {
+        tokens.end()
+    }
+}
+
+/// The tree of the tokens, or the first token that is refused.
+pub fn parse(alloc: Global, tokens: &Tokens<'_>) -> Result<Program, ParseError>
+    ensures read { IfOk result (IsReading tokens.now) }
+    ensures refused { IfErr result (IsRefusal tokens.now) }
+{
+    let seen = match classified(alloc, tokens) {
+        Ok(seen) => seen,
+        Err(_) => return Err(ParseError::Memory),
+    };
+    match parse_seen(alloc, seen.as_slice()) {
+        Ok(program) => Ok(program),
+        Err(Stop::Token(at)) => Err(ParseError::Token(place_of(tokens, at))),
+        Err(Stop::Long(at)) => Err(ParseError::Long(place_of(tokens, at))),
+        Err(Stop::Memory) => Err(ParseError::Memory),
+    }
+}
