@@ -6,9 +6,11 @@ use Rattle.jade_base.specs.Bytes.{WholeText, CutText, left_after, taken_with}
 use Rattle.jade_run.specs.declared.status.Status.{Status}
 use Rattle.jade_run.specs.declared.status.Status.TheVariants.{Good, Fault, Refused, Words, Numbers, Reading, Writing, Memory}
 use Rattle.jade_run.specs.Headline.{Answers, Headline, Moment, most_read}
-use Rattle.jade_run.specs.Outcome.{IsOutcome, IsAnswered, usage, too_long, run, unbuilt, answered, first_place, answer_status}
+use Rattle.jade_run.specs.declared.words.Command.{Command}
+use Rattle.jade_run.specs.declared.words.Command.TheVariants.{Run, Show}
+use Rattle.jade_run.specs.Outcome.{IsOutcome, IsAnswered, IsShown, IsCommanded, HasSteps, usage, too_long, run, show, unbuilt, refused, answered, shown, not_shown, first_place, answer_status}
 use Rattle.jade_run.specs.Texts.{usage_text, refused_text}
-use Rattle.jade_run.specs.Words.{RunWords}
+use Rattle.jade_run.specs.Words.{RunWords, AcceptsWords, RefusesWords, Asks, to_run, to_show}
 use Rattle.jade_meaning.specs.Answer.{Answer, Faulted, Cells}
 
 -- the bytes that are told, or none
@@ -20,7 +22,7 @@ told_bytes : (left : Option (List ℕ)) (b : List ℕ) → left ≡ Some b → b
 unfolding bytes_of
 told_bytes left b e = ap bytes_of e
 
-pub usage_answers : (words : List (List ℕ)) (left : Option (List ℕ)) (text : List ℕ) (status : Status) → ((w l : ℕ) → RunWords words w l → ⊥) → text ≡ usage_text → status ≡ Words → Answers words left left text status
+pub usage_answers : (words : List (List ℕ)) (left : Option (List ℕ)) (text : List ℕ) (status : Status) → RefusesWords words → text ≡ usage_text → status ≡ Words → Answers words left left text status
 usage_answers words left text status never t s = record {
   comes = record { bytes = bytes_of left; told = told_bytes left; outcome = usage never t s };
   read = λ b e. e ∙ ap (λ z. Some (drop (most_read z) b)) (sym s);
@@ -41,11 +43,11 @@ many : (left : Option (List ℕ)) → ((b : List ℕ) → left ≡ Some b → 10
 many None h = let some = long 1048577 in record { bytes = some.0; told = λ b e. absurd (cc); more = omega (arith, some.1) }
 many (Some b) h = record { bytes = b; told = λ x e. cc; more = omega (arith, h b refl) }
 
-pub too_long_answers : (words : List (List ℕ)) (before after : Option (List ℕ)) (w l : ℕ) (text : List ℕ) (status : Status) → RunWords words w l → CutText before after → text ≡ refused_text first_place (codes "text") → status ≡ Refused → Answers words before after text status
-too_long_answers words before after w l text status named cut t s =
+pub too_long_answers : (words : List (List ℕ)) (before after : Option (List ℕ)) (text : List ℕ) (status : Status) → AcceptsWords words → CutText before after → text ≡ refused_text first_place (codes "text") → status ≡ Refused → Answers words before after text status
+too_long_answers words before after text status named cut t s =
     let m = many before cut.too_long in
     record {
-      comes = record { bytes = m.bytes; told = m.told; outcome = too_long w l named m.more t s };
+      comes = record { bytes = m.bytes; told = m.told; outcome = too_long named m.more t s };
       read = λ b e. cut.cut ∙ ap (left_after 1048577) e ∙ ap (λ z. Some (drop (most_read z) b)) (sym s);
     }
 
@@ -54,16 +56,37 @@ read_most (Faulted p b) = refl
 read_most (Cells store) = refl
 
 answered_read : {bytes : List ℕ} {limit : ℕ} {text : List ℕ} {status : Status} → IsAnswered bytes limit text status → most_read status ≡ 1048577
-answered_read (unbuilt never t s) = ap most_read s
 answered_read (answered tree reads good shows) = ap most_read shows.ended ∙ read_most _
+answered_read (refused place why never as_one t s) = ap most_read s
+answered_read (unbuilt tree never reads t s) = ap most_read s
 
-pub run_answers : (words : List (List ℕ)) (before after : Option (List ℕ)) (w l : ℕ) (bytes read text : List ℕ) (status : Status) → RunWords words w l → WholeText before after bytes → read ≡ bytes → IsAnswered read l text status → Answers words before after text status
-run_answers words before after w l bytes read text status named whole all h = record {
-  comes = record { bytes = bytes; told = whole.whole; outcome = run w l named whole.within (let P : List ℕ → Type 0 = λ z. IsAnswered z l text status in subst P all h) };
+shown_read : {bytes text : List ℕ} {status : Status} → IsShown bytes text status → most_read status ≡ 1048577
+shown_read (shown tree reads t s) = ap most_read s
+shown_read (not_shown place why as_one t s) = ap most_read s
+
+pub asks_accepted : (words : List (List ℕ)) (c : Command) → Asks words c → AcceptsWords words
+asks_accepted words (Run c) h = to_run c.workers c.limit h
+asks_accepted words Show h = to_show h
+
+pub asks_steps : (words : List (List ℕ)) (c : Command) → Asks words c → HasSteps c
+asks_steps words (Run c) h = h.some_limit
+asks_steps words Show h = tt
+
+commanded_read : (c : Command) {bytes text : List ℕ} {status : Status} → IsCommanded c bytes text status → most_read status ≡ 1048577
+commanded_read (Run c) h = answered_read h
+commanded_read Show h = shown_read h
+
+commanded : (words : List (List ℕ)) (c : Command) (bytes text : List ℕ) (status : Status) → Asks words c → length bytes ≤ 1048576 → IsCommanded c bytes text status → IsOutcome words bytes text status
+commanded words (Run c) bytes text status asked within h = run c.workers c.limit asked within h
+commanded words Show bytes text status asked within h = show asked within h
+
+pub command_answers : (words : List (List ℕ)) (before after : Option (List ℕ)) (c : Command) (bytes read text : List ℕ) (status : Status) → Asks words c → WholeText before after bytes → read ≡ bytes → IsCommanded c read text status → Answers words before after text status
+command_answers words before after c bytes read text status asked whole all h = record {
+  comes = record { bytes = bytes; told = whole.whole; outcome = commanded words c bytes text status asked whole.within (let P : List ℕ → Type 0 = λ z. IsCommanded c z text status in subst P all h) };
   read = λ b e.
       let same : bytes ≡ b = whole.whole b e in
       let within : length b ≤ 1048577 = subst (λ z. length z ≤ 1048577) same (omega (arith, whole.within)) in
-      whole.none_left b e ∙ ap (λ z. Some z) (sym (drop_all 1048577 b within)) ∙ ap (λ n. Some (drop n b)) (sym (answered_read h));
+      whole.none_left b e ∙ ap (λ z. Some z) (sym (drop_all 1048577 b within)) ∙ ap (λ n. Some (drop n b)) (sym (commanded_read c h));
 }
 
 -- the statuses with which an outcome is written
@@ -84,14 +107,21 @@ answer_written (Cells store) = tt
 
 answered_written : (bytes : List ℕ) (limit : ℕ) (text : List ℕ) (status : Status) → IsAnswered bytes limit text status → Written status
 unfolding Written
-answered_written bytes limit text status (unbuilt never t s) = subst Written (sym s) tt
 answered_written bytes limit text status (answered tree reads good shows) = subst Written (sym shows.ended) (answer_written _)
+answered_written bytes limit text status (refused place why never as_one t s) = subst Written (sym s) tt
+answered_written bytes limit text status (unbuilt tree never reads t s) = subst Written (sym s) tt
+
+shown_written : (bytes text : List ℕ) (status : Status) → IsShown bytes text status → Written status
+unfolding Written
+shown_written bytes text status (shown tree reads t s) = subst Written (sym s) tt
+shown_written bytes text status (not_shown place why as_one t s) = subst Written (sym s) tt
 
 outcome_written : (words : List (List ℕ)) (bytes text : List ℕ) (status : Status) → IsOutcome words bytes text status → Written status
 unfolding Written
 outcome_written words bytes text status (usage never t s) = subst Written (sym s) tt
-outcome_written words bytes text status (too_long w l named more t s) = subst Written (sym s) tt
+outcome_written words bytes text status (too_long named more t s) = subst Written (sym s) tt
 outcome_written words bytes text status (run w l named within h) = answered_written _ _ _ _ h
+outcome_written words bytes text status (show named within h) = shown_written _ _ _ h
 
 written_headline : (words : List (List ℕ)) (status : Status) (before after : Moment) (text : List ℕ) → Written status → Answers words before.left after.left text status → after.taken ≡ taken_with before.taken text → Headline words status before after
 unfolding Written
