@@ -1,14 +1,12 @@
 -- Statements run.
-use Rattle.std.proofs.Common.{◌≡◌, ℕ, suc, ◌+◌, ◌≤◌, ◌<◌, Bool, true, false, ◌&&◌, List, [], ◌∷◌, ◌++◌, Option, Some, None, refl, ap, sym, ◌∙◌, length, map, arith, append_assoc, append-nil, length-append}
+use Rattle.std.proofs.Common.{◌≡◌, ◌+◌, Bool, true, false, ◌&&◌, List, [], ◌∷◌, ◌++◌, refl, ap, length, map, arith, append_assoc, length-append}
 use Rattle.std.specs.List.{flat_map}
 use Rattle.std.proofs.lemmas.List.{map-append}
-use Rattle.jade_parser.specs.Spelled.{Token, Tokens, Part, Parts, tokens_of, fixed, Fixed, Called, Counted}
-use Rattle.jade_parser.specs.Machine.{Symbol, Must, Body, Else, Stack, goes, expr_in, is_sign}
+use Rattle.jade_parser.specs.Spelled.{Tokens, Parts, tokens_of, fixed, Fixed}
+use Rattle.jade_parser.specs.Machine.{Must, Body, Stack, goes, is_sign}
 use Rattle.jade_parser.specs.declared.Place.{Place}
-use Rattle.jade_parser.specs.declared.Place.TheVariants.{Main, Section, Amends}
-use Rattle.jade_parser.specs.declared.Sign.TheVariants.{LeftBrace, RightBrace, ElseWord, Semicolon}
-use Rattle.jade_parser.specs.Statements.{braced, else_parts, all_in, other_in}
-use Rattle.jade_parser.proofs.Running.{Runs}
+use Rattle.jade_parser.specs.declared.Sign.TheVariants.{LeftBrace, RightBrace, ElseWord}
+use Rattle.jade_parser.specs.Statements.{braced, all_in}
 
 -- `else` does not come next
 abbrev pub NotElse : Tokens → Type 0

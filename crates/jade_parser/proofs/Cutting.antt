@@ -1,16 +1,16 @@
 -- The parts of an outermost expression, numbered, and the beginning of what was read.
-use Rattle.std.proofs.Common.{◌≡◌, ℕ, zero, suc, ◌+◌, ◌-◌, ◌≤◌, ◌<◌, List, [], ◌∷◌, ◌++◌, refl, ap, sym, ◌∙◌, length, drop, map, arith, append_assoc, append-nil, length-append, Bool, true, false, ◌&&◌, nat_le, nat_eq}
+use Rattle.std.proofs.Common.{◌≡◌, ℕ, zero, suc, ◌+◌, ◌-◌, ◌≤◌, ◌<◌, List, [], ◌∷◌, ◌++◌, refl, ap, sym, ◌∙◌, length, drop, arith, append_assoc, append-nil, length-append, Bool, true, false, ◌&&◌, nat_le}
 use Rattle.std.specs.List.{list_all}
 use Rattle.std.proofs.lemmas.Bool.Decides.{nat_tests}
-use Rattle.std.proofs.lemmas.List.{length-map, map-append}
+use Rattle.std.proofs.lemmas.List.{map-append}
 use Rattle.std.proofs.lemmas.List.Folds.{list_all-append}
 use Rattle.jade_base.specs.declared.place.Pos.{Pos}
 use Rattle.jade_syntax.specs.declared.tree.Expr.{Expr}
-use Rattle.jade_parser.specs.Spelled.{Token, Tokens, Part, Parts, tokens_of, numbered, outer, is_valid, AllValid, AllShort, expr_parts}
+use Rattle.jade_parser.specs.Spelled.{Tokens, Part, Parts, tokens_of, numbered, outer, is_valid, AllValid, AllShort, expr_parts}
 use Rattle.jade_parser.specs.Machine.{expr_in}
 use Rattle.jade_parser.specs.declared.Seen.{Seen}
-use Rattle.jade_parser.specs.Reads.{Reads, kinds, places, Agrees, Known, Begun, Refusal, Whole}
-use Rattle.jade_parser.specs.Parts.{Any, BegunIn, RefusalIn, LongIn, OuterIn}
+use Rattle.jade_parser.specs.Reads.{Reads, kinds, places, Agrees, Known, Refusal, Whole}
+use Rattle.jade_parser.specs.Parts.{Any, RefusalIn, LongIn, OuterIn}
 use Rattle.jade_parser.proofs.Reading.{reads_length, all_valid}
 
 pub numbered_tokens : (n : ℕ) (ps : Parts) → tokens_of (numbered n ps) ≡ tokens_of ps

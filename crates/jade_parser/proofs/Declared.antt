@@ -1,5 +1,5 @@
 -- What begins an item, and an item that is refused.
-use Rattle.std.proofs.Common.{◌≡◌, ℕ, ◌+◌, ◌≤◌, ◌<◌, List, [], ◌∷◌, ◌++◌, Option, Some, None, refl, ap, sym, ◌∙◌, length, drop, map, codes, arith, append_assoc, append-nil, true, nat_le, ℤ}
+use Rattle.std.proofs.Common.{◌≡◌, ℕ, ◌+◌, ◌≤◌, List, [], ◌∷◌, ◌++◌, Some, None, refl, length, drop, codes, arith, append_assoc, append-nil, ℤ}
 use Rattle.std.specs.List.{flat_map}
 use Rattle.std.proofs.lemmas.List.Concat.{flat_map-append}
 use Rattle.jade_base.specs.declared.place.Pos.{Pos}
@@ -10,13 +10,13 @@ use Rattle.jade_parser.specs.declared.Sign.{Sign}
 use Rattle.jade_parser.specs.declared.Sign.TheVariants.{InputWord, ObjectWord, ObjectsWord, MainWord, LeftBracket, RightBracket, Colon, Semicolon}
 use Rattle.jade_parser.specs.declared.Seen.{Seen}
 use Rattle.jade_parser.specs.declared.Stop.{Stop}
-use Rattle.jade_parser.specs.Spelled.{Token, Tokens, Fixed, Called, Counted, Odd, Part, Parts, fixed, marked, number_part, AllValid, AllShort}
+use Rattle.jade_parser.specs.Spelled.{Tokens, Fixed, Called, Counted, Odd, Part, Parts, fixed, marked, number_part, AllValid, AllShort}
 use Rattle.jade_parser.specs.Machine.{Stack, Must, NameIs, NumberIs, Items, goes}
-use Rattle.jade_parser.specs.Reads.{Reads, kinds, head_sign, place_at, Whole, Stops, OnStop, OnOther}
+use Rattle.jade_parser.specs.Reads.{kinds, head_sign, place_at, Whole, Stops, OnStop, OnOther}
 use Rattle.jade_parser.specs.Parts.{Any, ReadIn, RefusalIn, LongIn}
 use Rattle.jade_parser.specs.Programs.{between_parts, item_parts, head_parts, opening_of, OpeningAt, size_in, count_in, body_in}
 use Rattle.jade_parser.proofs.Standing.{takes_sign, split_sign}
-use Rattle.jade_parser.proofs.Reading.{whole_none, whole_on, whole_under, whole_more, none_valid, lift}
+use Rattle.jade_parser.proofs.Reading.{whole_none, whole_on, whole_under, whole_more, none_valid}
 use Rattle.jade_parser.proofs.Going.{stop_in, stop_under, stop_here, stop_other, none_short, all_short}
 
 stops_sign : (all : List Seen) (at : ℕ) (s : Sign) (xs : Stack) → Some s ≡ head_sign (drop at (kinds all)) → ((rest : Tokens) (st : Stack) → goes (Fixed s ∷ rest) (xs ++ st) ≡ 0) → Stops all at xs at

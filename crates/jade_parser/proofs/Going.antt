@@ -1,14 +1,13 @@
 -- A part of a larger tree is refused, or too long: so is the tree.
-use Rattle.std.proofs.Common.{◌≡◌, ℕ, suc, ◌+◌, ◌<◌, ◌≤◌, List, [], ◌∷◌, ◌++◌, refl, ap, sym, ◌∙◌, length, arith, append_assoc, append-nil, true, nat_le}
-use Rattle.std.specs.List.{list_all}
+use Rattle.std.proofs.Common.{◌≡◌, ℕ, List, [], ◌∷◌, ◌++◌, refl, ◌∙◌, append_assoc, nat_le}
 use Rattle.std.proofs.lemmas.List.Folds.{list_all-append}
 use Rattle.jade_parser.specs.Spelled.{Part, Parts, AllValid, AllShort}
 use Rattle.jade_parser.specs.Machine.{Stack}
 use Rattle.jade_parser.specs.declared.Seen.{Seen}
 use Rattle.jade_parser.specs.declared.Stop.{Stop}
 use Rattle.jade_parser.specs.declared.Stop.TheVariants.{Token as AtToken, Long, Memory}
-use Rattle.jade_parser.specs.Reads.{Reads, Passes, Stops, Whole, OnStop, OnOther}
-use Rattle.jade_parser.specs.Parts.{BegunIn, RefusalIn, LongIn}
+use Rattle.jade_parser.specs.Reads.{Stops, Whole, OnStop, OnOther}
+use Rattle.jade_parser.specs.Parts.{RefusalIn, LongIn}
 use Rattle.jade_parser.proofs.Reading.{reads_on, all_valid}
 
 pub all_short : (s t : Parts) → AllShort s → AllShort t → AllShort (s ++ t)

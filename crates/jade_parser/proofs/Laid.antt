@@ -1,6 +1,5 @@
 -- Each kind of statement runs.
-use Rattle.std.proofs.Common.{◌≡◌, ℕ, suc, ◌+◌, ◌≤◌, ◌<◌, Bool, true, false, ◌&&◌, List, [], ◌∷◌, ◌++◌, Option, Some, None, refl, ap, sym, ◌∙◌, length, map, arith, append_assoc, append-nil, length-append}
-use Rattle.std.specs.List.{flat_map}
+use Rattle.std.proofs.Common.{◌≡◌, ℕ, suc, ◌+◌, Bool, true, false, ◌&&◌, List, [], ◌∷◌, ◌++◌, Option, Some, None, refl, ap, length, map, arith, append_assoc, append-nil, length-append}
 use Rattle.std.proofs.lemmas.List.{map-append}
 use Rattle.jade_base.specs.declared.place.Pos.{Pos}
 use Rattle.jade_syntax.specs.declared.tree.Expr.{Expr}
@@ -13,13 +12,13 @@ use Rattle.jade_syntax.specs.declared.tree.DeclareWord.{DeclareWord}
 use Rattle.jade_syntax.specs.declared.tree.DeclareWord.TheVariants.{Rd, Wr, RdWr, DfRd, DfWr, DfRdWr, NoRd, NoWr, NoRdWr}
 use Rattle.jade_syntax.specs.declared.tree.Statement.{Statement, map-Statement, fold-roll-Statement, ind-Statement}
 use Rattle.jade_syntax.specs.declared.tree.Statement.TheOpen.{Statement-F}
-use Rattle.jade_parser.specs.Spelled.{Token, Tokens, Part, Parts, tokens_of, plain, fixed, marked, numbered, outer, Fixed, Called, Counted, expr_parts, bracketed}
-use Rattle.jade_parser.specs.Machine.{Symbol, Must, Body, Else, Second, Named as NamedIn, NameIs, Names, MoreNames, Stack, goes, expr_in, is_sign, is_main, declares}
+use Rattle.jade_parser.specs.Spelled.{Tokens, Part, Parts, tokens_of, fixed, marked, numbered, outer, Fixed, Called, expr_parts, bracketed}
+use Rattle.jade_parser.specs.Machine.{Must, Body, Else, Second, NameIs, Names, MoreNames, Stack, goes, expr_in, is_sign, is_main, declares}
 use Rattle.jade_parser.specs.declared.Place.{Place}
 use Rattle.jade_parser.specs.declared.Place.TheVariants.{Main, Section, Amends}
-use Rattle.jade_parser.specs.declared.Sign.TheVariants.{LeftBrace, RightBrace, ElseWord, Semicolon, Becomes, DotDot, LeftBracket, RightBracket, LeftParen, RightParen, Comma, DoWord, ContWord, InWord}
-use Rattle.jade_parser.specs.Statements.{braced, else_parts, all_in, other_in, at_statement, at_shape, statement_parts, shaped, outer_index, object_parts, target_parts, name_parts, more_names, declare_word, word_sign}
-use Rattle.jade_parser.proofs.Running.{Runs, Follows}
+use Rattle.jade_parser.specs.declared.Sign.TheVariants.{LeftBrace, ElseWord, Semicolon, Becomes, DotDot, RightBracket, LeftParen, RightParen, DoWord, ContWord}
+use Rattle.jade_parser.specs.Statements.{braced, else_parts, all_in, other_in, at_statement, at_shape, statement_parts, shaped, outer_index, name_parts, more_names, declare_word, word_sign}
+use Rattle.jade_parser.proofs.Running.{Runs}
 use Rattle.jade_parser.proofs.Trees.{expr_runs}
 use Rattle.jade_parser.proofs.Layers.{past_second, second_index}
 use Rattle.jade_parser.proofs.Blocks.{NotElse, Goes, both, block_goes, split_tokens}

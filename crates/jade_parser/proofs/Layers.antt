@@ -1,11 +1,10 @@
 -- Each layer of a tree runs.
-use Rattle.std.proofs.Common.{◌≡◌, ℕ, suc, ◌+◌, ◌<◌, ◌≤◌, List, [], ◌∷◌, ◌++◌, Option, Some, None, refl, ap, sym, ◌∙◌, length, arith, append_assoc, append-nil, length-append, ℤ}
+use Rattle.std.proofs.Common.{◌≡◌, ℕ, suc, ◌+◌, ◌<◌, List, [], ◌∷◌, ◌++◌, refl, ap, length, arith, append_assoc, append-nil, length-append, ℤ}
 use Rattle.std.proofs.lemmas.List.{map-append}
 use Rattle.std.specs.List.{flat_map}
-use Rattle.std.proofs.lemmas.Bool.Decides.{nat_tests}
-use Rattle.jade_parser.specs.declared.Sign.TheVariants.{TrueWord, FalseWord, LeftParen, RightParen, LeftBracket, RightBracket}
-use Rattle.jade_parser.specs.Spelled.{Token, Tokens, Fixed, Called, Counted, Part, Parts, tokens_of, marked, fixed, bracketed, index_before, compared, relation_sign, unary_sign}
-use Rattle.jade_parser.specs.Machine.{Symbol, Need, Rest, First, Second, Must, Stack, rank, asks, feed, goes, unary_in, product_in, sum_in, compare_in, and_in, expr_in}
+use Rattle.jade_parser.specs.declared.Sign.TheVariants.{TrueWord, FalseWord, LeftParen, RightParen, RightBracket}
+use Rattle.jade_parser.specs.Spelled.{Tokens, Fixed, Called, Counted, Parts, tokens_of, marked, fixed, bracketed, relation_sign, unary_sign}
+use Rattle.jade_parser.specs.Machine.{Need, Rest, First, Second, Must, Stack, rank, asks, goes, unary_in, sum_in, compare_in, expr_in}
 use Rattle.jade_base.specs.declared.place.Pos.{Pos}
 use Rattle.jade_syntax.specs.declared.tree.Relation.{Relation}
 use Rattle.jade_syntax.specs.declared.tree.Relation.TheVariants.{Equal, Unequal, Less, LessEqual, Greater, GreaterEqual}

@@ -1,6 +1,6 @@
 -- Reading one part after another.
-use Rattle.std.proofs.Common.{◌≡◌, ℕ, suc, ◌+◌, ◌<◌, ◌≤◌, List, [], ◌∷◌, ◌++◌, refl, ap, sym, ◌∙◌, drop, length, map, get_or, arith, length-append, length-drop, ◌-◌, true, ◌&&◌, append_assoc, append-nil, Some, Option}
-use Rattle.std.specs.List.{flat_map, list_all}
+use Rattle.std.proofs.Common.{◌≡◌, ℕ, suc, ◌+◌, ◌≤◌, List, [], ◌∷◌, ◌++◌, refl, ap, ◌∙◌, drop, length, arith, length-append, length-drop, append_assoc, append-nil}
+use Rattle.std.specs.List.{flat_map}
 use Rattle.std.proofs.lemmas.List.{map-append, length-map}
 use Rattle.std.proofs.lemmas.List.Folds.{list_all-append}
 use Rattle.jade_base.specs.declared.place.Pos.{Pos}
@@ -10,7 +10,7 @@ use Rattle.jade_parser.specs.Machine.{Stack}
 use Rattle.jade_parser.specs.declared.Seen.{Seen}
 use Rattle.jade_parser.specs.declared.Stop.{Stop}
 use Rattle.jade_parser.specs.declared.Stop.TheVariants.{Token as AtToken, Long, Memory}
-use Rattle.jade_parser.specs.Reads.{Reads, kinds, places, Agrees, Known, Passes, Stops, Whole, Begun, Refusal, OnToken, place}
+use Rattle.jade_parser.specs.Reads.{Reads, kinds, places, Agrees, Passes, Whole, Refusal, OnToken}
 
 pub reads_none : (all : List Seen) (at : ℕ) → at ≤ length all → Reads all at at []
 reads_none all at le = record { forward = omega arith; within = le; stands = refl; agrees = tt; valid = λ k. record { is = refl } }

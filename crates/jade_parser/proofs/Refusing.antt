@@ -1,6 +1,6 @@
 -- Where the machine stops, no program goes on.
-use Rattle.std.proofs.Common.{◌≡◌, ℕ, zero, suc, ◌+◌, ◌<◌, ◌≤◌, List, [], ◌∷◌, ◌++◌, Option, Some, None, refl, ap, sym, ◌∙◌, length, take, drop, map, arith, append_assoc, append-nil, length-append, length-take, length-drop}
-use Rattle.std.proofs.lemmas.List.{length-map, take_all, drop_all, take-append-le}
+use Rattle.std.proofs.Common.{◌≡◌, ℕ, zero, suc, ◌+◌, ◌<◌, ◌≤◌, List, [], ◌∷◌, ◌++◌, Option, Some, None, refl, ap, sym, length, take, drop, arith, append-nil, length-append, length-take, length-drop}
+use Rattle.std.proofs.lemmas.List.{length-map}
 use Rattle.jade_syntax.specs.declared.tree.Item.{Item}
 use Rattle.jade_syntax.specs.declared.tree.Statement.{Statement}
 use Rattle.jade_syntax.specs.declared.tree.Program.{Program}
@@ -8,12 +8,12 @@ use Rattle.jade_parser.specs.declared.Seen.{Seen}
 use Rattle.jade_parser.specs.declared.Stop.{Stop}
 use Rattle.jade_parser.specs.declared.Stop.TheVariants.{Token as AtToken, Long, Memory}
 use Rattle.jade_parser.specs.declared.Place.TheVariants.{Main}
-use Rattle.jade_parser.specs.Spelled.{Token, Tokens, Part, Parts, tokens_of, AllShort}
+use Rattle.jade_parser.specs.Spelled.{Token, Tokens, tokens_of, AllShort}
 use Rattle.jade_parser.specs.Machine.{Stack, feed, goes, counted, Items}
 use Rattle.jade_parser.specs.Statements.{block_parts}
 use Rattle.jade_parser.specs.Programs.{head_parts, program_parts, Proper, body_in}
 use Rattle.jade_parser.specs.Parts.{Any, FitsAll, BegunIn, RefusalIn, LongIn, ReadIn}
-use Rattle.jade_parser.specs.Reads.{kinds, Reads, Whole, OnStop}
+use Rattle.jade_parser.specs.Reads.{kinds, Whole, OnStop}
 use Rattle.jade_parser.specs.Refused.{ReadAll, Nowhere, Never, RefusedAt, TooLongAt}
 use Rattle.jade_parser.proofs.Sounding.{program_runs}
 use Rattle.jade_parser.proofs.Reading.{whole_none, whole_on, none_valid}

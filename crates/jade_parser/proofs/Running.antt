@@ -1,10 +1,10 @@
 -- What is spelled runs.
-use Rattle.std.proofs.Common.{◌≡◌, ℕ, ◌+◌, ◌<◌, ◌≤◌, eqb, true, false, cond, List, [], ◌∷◌, ◌++◌, Option, Some, None, refl, ap, sym, ◌∙◌, length, arith, append_assoc, append-nil, length-append}
+use Rattle.std.proofs.Common.{◌≡◌, ℕ, ◌+◌, ◌<◌, ◌≤◌, eqb, true, false, List, [], ◌∷◌, ◌++◌, refl, ◌∙◌, length, arith, append_assoc, length-append}
 use Rattle.std.proofs.lemmas.List.{map-append}
 use Rattle.std.proofs.lemmas.Bool.Decides.{nat_tests}
 use Rattle.std.specs.List.{flat_map}
 use Rattle.jade_parser.specs.Spelled.{Token, Tokens, Part, Parts, tokens_of}
-use Rattle.jade_parser.specs.Machine.{Symbol, Need, Rest, First, Second, Must, Stack, rank, asks, feed, goes, ended, counted}
+use Rattle.jade_parser.specs.Machine.{Rest, Stack, rank, asks, goes}
 
 -- the rest does not go on at this level or below
 abbrev pub Follows : ℕ → Tokens → Type 0

@@ -1,5 +1,5 @@
 -- The tokens of every program run through the machine.
-use Rattle.std.proofs.Common.{◌≡◌, ℕ, ◌+◌, List, [], ◌∷◌, ◌++◌, refl, ap, sym, ◌∙◌, length, map, arith, append_assoc, append-nil, length-append}
+use Rattle.std.proofs.Common.{◌≡◌, ◌+◌, List, [], ◌∷◌, ◌++◌, ap, sym, ◌∙◌, length, map, arith, append-nil, length-append}
 use Rattle.std.specs.List.{flat_map}
 use Rattle.std.proofs.lemmas.List.{map-append}
 use Rattle.std.proofs.lemmas.List.Folds.{flat_map-map}
@@ -10,7 +10,7 @@ use Rattle.jade_syntax.specs.declared.tree.Statement.{Statement}
 use Rattle.jade_parser.specs.declared.Place.{Place}
 use Rattle.jade_parser.specs.declared.Place.TheVariants.{Main}
 use Rattle.jade_parser.specs.declared.Sign.TheVariants.{LeftBrace, RightBrace, MainWord}
-use Rattle.jade_parser.specs.Spelled.{Token, Tokens, Fixed, Part, Parts, tokens_of, fixed}
+use Rattle.jade_parser.specs.Spelled.{Tokens, Fixed, Part, Parts, tokens_of, fixed}
 use Rattle.jade_parser.specs.Machine.{Stack, Must, Body, Items, goes}
 use Rattle.jade_parser.specs.Statements.{block_parts, statement_parts, shaped, braced}
 use Rattle.jade_parser.specs.Programs.{item_parts, head_parts, program_parts, Proper, body_in}

@@ -1,22 +1,18 @@
 -- The tokens of a tree, opened and made.
-use Rattle.std.proofs.Common.{◌≡◌, ℕ, ◌+◌, ◌<◌, List, [], ◌∷◌, ◌++◌, refl, ap, sym, ◌∙◌, take, Option, Some, None, arith, rules}
+use Rattle.std.proofs.Common.{◌≡◌, ℕ, List, [], ◌∷◌, ◌++◌, refl, ap, ◌∙◌, Option, Some, None}
 use Rattle.jade_syntax.specs.declared.tree.Atom.TheOpen.{CellRef-F}
 use Rattle.jade_base.specs.declared.place.Pos.{Pos}
 use Rattle.jade_syntax.specs.declared.tree.Compare.{Compare}
-use Rattle.std.specs.List.{flat_map, slice_get}
-use Rattle.std.proofs.lemmas.List.Concat.{flat_map-append}
+use Rattle.std.specs.List.{flat_map}
 use Rattle.std.proofs.lemmas.List.Folds.{flat_map-map}
-use Rattle.std.proofs.lemmas.Option.{slice_get_within, get_or_from_slice_get}
-use Rattle.std.proofs.lemmas.List.{take_more}
-use Rattle.std.proofs.Common.{append-nil}
-use Rattle.jade_syntax.specs.declared.tree.Atom.{Atom, out-Atom}
+use Rattle.jade_syntax.specs.declared.tree.Atom.{Atom}
 use Rattle.jade_syntax.specs.declared.tree.AndExpr.{AndExpr, out-AndExpr, fold_out-AndExpr}
 use Rattle.jade_syntax.specs.declared.tree.CellRef.{CellRef, out-CellRef, fold_out-CellRef, map-CellRef}
 use Rattle.jade_syntax.specs.declared.tree.Expr.{Expr, out-Expr, fold_out-Expr}
 use Rattle.jade_syntax.specs.declared.tree.Product.{Product, out-Product, fold_out-Product}
 use Rattle.jade_syntax.specs.declared.tree.Sum.{Sum, out-Sum, fold_out-Sum}
 use Rattle.jade_syntax.specs.declared.tree.Unary.{Unary, fold_out-Unary}
-use Rattle.jade_parser.specs.Spelled.{Part, Parts, Called, Fixed, marked, fixed, expr_parts, and_parts, cell_parts, sum_parts, product_parts, unary_parts, atom_parts, compare_parts, or_part, and_part, sum_part, product_part, sign_part, at_atom, at_and, at_cell, at_compare, at_expr, at_product, at_sum, at_unary, bracketed, index_before}
+use Rattle.jade_parser.specs.Spelled.{Parts, Called, Fixed, marked, fixed, expr_parts, and_parts, cell_parts, sum_parts, product_parts, unary_parts, atom_parts, compare_parts, or_part, and_part, sum_part, product_part, sign_part, at_atom, at_and, at_cell, at_compare, at_expr, at_product, at_sum, at_unary, bracketed}
 use Rattle.jade_syntax.specs.declared.tree.Atom.{fold_out-Atom}
 use Rattle.jade_syntax.specs.declared.tree.Atom.TheOpen.{Expr-F, AndExpr-F, Sum-F, Product-F}
 use Rattle.jade_syntax.specs.declared.tree.Atom.TheVariants.{Group, outs-Group}

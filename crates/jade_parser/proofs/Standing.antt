@@ -1,11 +1,11 @@
 -- What stands at a place.
-use Rattle.std.proofs.Common.{◌≡◌, ℕ, zero, suc, ◌+◌, ◌<◌, ◌≤◌, List, [], ◌∷◌, ◌++◌, Option, Some, None, refl, ap, sym, ◌∙◌, drop, map, get_or, length, arith, append_assoc, add-one, drop-cons, ℤ, Bor, MatchOption, Bool, true, false, ◌&&◌, IsTrue, IsFalse}
+use Rattle.std.proofs.Common.{◌≡◌, ℕ, zero, suc, ◌+◌, ◌<◌, ◌≤◌, List, [], ◌∷◌, ◌++◌, Option, Some, None, refl, ap, sym, ◌∙◌, drop, get_or, length, arith, add-one, drop-cons, ℤ, MatchOption, Bool, true, false, ◌&&◌, IsTrue}
 use Rattle.std.specs.List.{list_all}
 use Rattle.std.proofs.lemmas.List.{get_or-map, length-map, drop_all}
 use Rattle.jade_base.specs.declared.place.Pos.{Pos}
-use Rattle.jade_parser.specs.Spelled.{Token, Tokens, Fixed, Called, Counted, Odd, Part, Parts, tokens_of, marked, plain, fixed, is_valid, AllValid, sum_sign, product_sign, relation_sign, unary_sign}
-use Rattle.jade_parser.specs.Machine.{Symbol, Need, Rest, First, Second, Must, Stack, goes, sum_in, product_in, and_in, expr_in, same_sign}
-use Rattle.jade_parser.specs.Reads.{kinds, places, pos_in, place_at, KeptAt, Agrees, Known, is_known, token_of, head_sign, Reads, Passes, Whole, Stops, place, NoUnary}
+use Rattle.jade_parser.specs.Spelled.{Token, Tokens, Fixed, Called, Counted, Odd, marked, fixed, sum_sign, product_sign, relation_sign, unary_sign}
+use Rattle.jade_parser.specs.Machine.{Need, Rest, First, Must, Stack, goes, sum_in, product_in, same_sign}
+use Rattle.jade_parser.specs.Reads.{kinds, place_at, KeptAt, is_known, token_of, head_sign, Reads, Passes, Whole, Stops, NoUnary}
 use Rattle.jade_parser.specs.Ops.{sum_of, product_of, relation_of, unary_of}
 use Rattle.jade_parser.specs.declared.Seen.{Seen}
 use Rattle.jade_parser.specs.declared.Kind.{Kind}

@@ -1,37 +1,31 @@
 -- The steps of the parser that are no chains.
-use Rattle.std.proofs.Common.{◌≡◌, ℕ, ◌+◌, ◌≤◌, ◌<◌, List, [], ◌∷◌, ◌++◌, refl, ap, sym, ◌∙◌, length, drop, get_or, codes, arith, append_assoc, append-nil, Option, Some, None, Result, Ok, Err, MatchResult, IsErrAnd, Global, ℤ, Bor, Bool, true, false}
+use Rattle.std.proofs.Common.{◌≡◌, ℕ, ◌+◌, ◌≤◌, List, [], ◌∷◌, ◌++◌, refl, ◌∙◌, length, drop, codes, arith, append_assoc, append-nil, Some, None, Result, Ok, Err, MatchResult, IsErrAnd, Global, Bool, true, false}
 use denote.RawPtr.{null_ptr}
 use Rattle.std.specs.List.{flat_map}
 use Rattle.std.specs.declared.boxed.Box.{Box}
-use Rattle.std.proofs.lemmas.List.{length-map}
-use Rattle.std.proofs.lemmas.List.Concat.{flat_map-append}
 use Rattle.jade_base.specs.declared.place.Pos.{Pos}
 use Rattle.jade_syntax.specs.declared.tree.Relation.{Relation}
-use Rattle.jade_syntax.specs.declared.tree.SumOp.{SumOp}
-use Rattle.jade_syntax.specs.declared.tree.ProductOp.{ProductOp}
 use Rattle.jade_syntax.specs.declared.tree.UnaryOp.{UnaryOp}
 use Rattle.jade_syntax.specs.declared.tree.Atom.{Atom, fold_out-Atom}
-use Rattle.jade_syntax.specs.declared.tree.Atom.TheVariants.{Whole as WholeAtom, Truth, Group, Named, Cell, outs-Whole, outs-Truth, outs-Group, outs-Named, outs-Cell}
-use Rattle.jade_syntax.specs.declared.tree.AndExpr.{AndExpr, roll-AndExpr}
+use Rattle.jade_syntax.specs.declared.tree.Atom.TheVariants.{Whole as WholeAtom, Truth, Group, Named, Cell, outs-Whole, outs-Truth, outs-Named, outs-Cell}
+use Rattle.jade_syntax.specs.declared.tree.AndExpr.{roll-AndExpr}
 use Rattle.jade_syntax.specs.declared.tree.CellRef.{CellRef, roll-CellRef, fold-roll-CellRef}
-use Rattle.jade_syntax.specs.declared.tree.Compare.{Compare, roll-Compare, fold-roll-Compare}
+use Rattle.jade_syntax.specs.declared.tree.Compare.{roll-Compare, fold-roll-Compare}
 use Rattle.jade_syntax.specs.declared.tree.Expr.{Expr, roll-Expr}
-use Rattle.jade_syntax.specs.declared.tree.Product.{Product, roll-Product}
+use Rattle.jade_syntax.specs.declared.tree.Product.{roll-Product}
 use Rattle.jade_syntax.specs.declared.tree.Sum.{Sum, roll-Sum}
-use Rattle.jade_syntax.specs.declared.tree.Unary.{Unary}
 use Rattle.jade_syntax.specs.declared.tree.Number.{Number}
-use Rattle.jade_parser.specs.Spelled.{Token, Fixed, Called, Counted, Part, Parts, marked, fixed, AllValid, expr_parts, and_parts, compare_parts, sum_parts, product_parts, unary_parts, atom_parts, cell_parts, relation_sign, truth_word, sign_part, bracketed, at_atom, at_and, at_cell, at_compare, at_expr, at_product, at_sum, at_unary}
+use Rattle.jade_parser.specs.Spelled.{Fixed, Called, Counted, Parts, marked, fixed, AllValid, expr_parts, compare_parts, sum_parts, unary_parts, atom_parts, cell_parts, relation_sign, truth_word, sign_part, bracketed, at_atom, at_and, at_cell, at_compare, at_expr, at_product, at_sum, at_unary}
 use Rattle.jade_parser.specs.declared.Sign.{Sign}
 use Rattle.jade_parser.specs.declared.Sign.TheVariants.{TrueWord, FalseWord, LeftParen, RightParen, LeftBracket, RightBracket}
-use Rattle.jade_parser.specs.Machine.{Stack, Need, Rest, First, Second, Must, unary_in, sum_in, compare_in, expr_in, goes}
-use Rattle.jade_parser.specs.Ops.{unary_of}
+use Rattle.jade_parser.specs.Machine.{Stack, Need, Rest, Second, Must, unary_in, sum_in, compare_in, expr_in, goes}
 use Rattle.jade_parser.specs.declared.Seen.{Seen}
 use Rattle.jade_parser.specs.declared.Stop.{Stop}
 use Rattle.jade_parser.specs.declared.Stop.TheVariants.{Token as AtToken, Long, Memory}
-use Rattle.jade_parser.specs.Reads.{place_at, Passes, Stops, Whole, Refusal, OnToken, OnStop, OnOther, closed, NoUnary, head_sign, kinds, Begun}
-use Rattle.jade_parser.proofs.Spelling.{unary_opens, expr_made, and_made, sum_made, product_made, group_made}
-use Rattle.jade_parser.proofs.Reading.{whole_none, whole_on, whole_past, whole_under, refusal_under, refused_on, lift, reads_none, none_valid}
-use Rattle.jade_parser.proofs.Standing.{takes_sign, takes_marked, past_sign}
+use Rattle.jade_parser.specs.Reads.{place_at, Stops, Whole, Refusal, OnToken, OnStop, OnOther, closed, head_sign, kinds}
+use Rattle.jade_parser.proofs.Spelling.{unary_opens, group_made}
+use Rattle.jade_parser.proofs.Reading.{whole_none, whole_on, whole_under, refusal_under, refused_on, lift, reads_none, none_valid}
+use Rattle.jade_parser.proofs.Standing.{takes_marked}
 
 pub residual : {T : Type 0} (r : Result T Stop) (e : Stop) (P : T → Type 0) (Q : Stop → Type 0) → IsErrAnd r (λ y. y ≡ e) → Q e → MatchResult r P Q
 residual (Ok x) e P Q h q = elim h [ ]

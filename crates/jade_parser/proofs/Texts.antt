@@ -1,18 +1,18 @@
 -- What was seen is what the bytes say.
-use Rattle.std.proofs.Common.{◌≡◌, ℕ, zero, suc, ◌+◌, ◌<◌, ◌≤◌, Bool, true, false, ◌&&◌, List, [], ◌∷◌, ◌++◌, refl, ap, sym, ◌∙◌, length, take, drop, map, arith, append_assoc, append-nil, length-append, slice_get, Option, Some, None}
+use Rattle.std.proofs.Common.{◌≡◌, ℕ, zero, suc, ◌+◌, ◌<◌, ◌≤◌, true, ◌&&◌, List, [], ◌∷◌, ◌++◌, refl, ap, sym, ◌∙◌, length, take, drop, map, arith, slice_get, Some}
 use Rattle.std.specs.List.{list_all}
-use Rattle.std.proofs.lemmas.List.{length-map, take_all, drop_all, take-append-le, take-map, map-append}
+use Rattle.std.proofs.lemmas.List.{length-map, take_all, take-append-le, take-map, map-append}
 use Rattle.jade_base.specs.declared.place.Pos.{Pos}
 use Rattle.jade_lexer.specs.Lexemes.{TokenAt, TokenList}
 use Rattle.jade_syntax.specs.declared.tree.Program.{Program}
 use Rattle.jade_parser.specs.declared.Seen.{Seen}
-use Rattle.jade_parser.specs.Spelled.{Token, Tokens, Fixed, Called, Counted, Odd, Part, Parts, tokens_of, is_valid, AllValid, AllShort}
+use Rattle.jade_parser.specs.Spelled.{Token, Tokens, Fixed, Called, Counted, Odd, Part, Parts, tokens_of, is_valid, AllValid}
 use Rattle.jade_parser.specs.Kinds.{token_bytes, token_of_bytes, IsSeen}
 use Rattle.jade_parser.specs.Programs.{program_parts, Proper}
-use Rattle.jade_parser.specs.Reads.{kinds, places, is_known, Known, Reads, Agrees}
-use Rattle.jade_parser.specs.Parts.{BegunIn, LongIn}
+use Rattle.jade_parser.specs.Reads.{kinds, is_known, Known, Reads}
+use Rattle.jade_parser.specs.Parts.{BegunIn}
 use Rattle.jade_parser.specs.Refused.{ReadAll, RefusedAt, TooLongAt}
-use Rattle.jade_parser.specs.Grammar.{bytes_of, texts, positions, IsProgram, IsReading, IsBegun, IsBegunShort, IsRefused, IsTooLong, place_or, place_of, IsRefusedAt, IsTooLongAt}
+use Rattle.jade_parser.specs.Grammar.{bytes_of, texts, IsProgram, IsReading, IsBegun, IsBegunShort, IsRefused, IsTooLong, place_or, place_of, IsRefusedAt, IsTooLongAt}
 use Rattle.jade_parser.proofs.Known.{Known as Says, known, back, both_true}
 use Rattle.jade_parser.proofs.Reading.{all_valid, reads_length}
 

@@ -1,5 +1,5 @@
 -- The tokens of each tree run.
-use Rattle.std.proofs.Common.{◌≡◌, ℕ, ◌+◌, List, [], ◌∷◌, ◌++◌, Option, Some, None, refl, ap, sym, ◌∙◌, length, arith, true, false}
+use Rattle.std.proofs.Common.{◌≡◌, ℕ, List, [], ◌∷◌, ◌++◌, Option, Some, None, refl, arith, true, false}
 use Rattle.std.specs.List.{flat_map}
 use Rattle.std.proofs.lemmas.List.Folds.{flat_map-map}
 use Rattle.jade_base.specs.declared.place.Pos.{Pos}
@@ -9,18 +9,18 @@ use Rattle.jade_syntax.specs.declared.tree.SumOp.TheVariants.{Plus, Minus}
 use Rattle.jade_syntax.specs.declared.tree.ProductOp.{ProductOp}
 use Rattle.jade_syntax.specs.declared.tree.ProductOp.TheVariants.{Times, Over, Remainder}
 use Rattle.jade_syntax.specs.declared.tree.UnaryOp.{UnaryOp}
-use Rattle.jade_syntax.specs.declared.tree.Atom.{Atom, fold-roll-Atom, roll-Atom, map-Atom}
-use Rattle.jade_syntax.specs.declared.tree.Atom.TheOpen.{Atom-F, AndExpr-F, CellRef-F, Compare-F, Expr-F, Product-F, Sum-F, Unary-F}
-use Rattle.jade_syntax.specs.declared.tree.AndExpr.{AndExpr, roll-AndExpr, fold-roll-AndExpr}
-use Rattle.jade_syntax.specs.declared.tree.CellRef.{CellRef, roll-CellRef, fold-roll-CellRef, map-CellRef}
-use Rattle.jade_syntax.specs.declared.tree.Compare.{Compare, roll-Compare, fold-roll-Compare, map-Compare}
-use Rattle.jade_syntax.specs.declared.tree.Expr.{Expr, roll-Expr, fold-roll-Expr, ind-Expr}
-use Rattle.jade_syntax.specs.declared.tree.Product.{Product, roll-Product, fold-roll-Product}
-use Rattle.jade_syntax.specs.declared.tree.Sum.{Sum, roll-Sum, fold-roll-Sum}
-use Rattle.jade_syntax.specs.declared.tree.Unary.{Unary, roll-Unary, fold-roll-Unary}
-use Rattle.jade_parser.specs.Spelled.{Token, Tokens, Part, Parts, marked, fixed, Fixed, Called, Counted, expr_parts, and_parts, compare_parts, sum_parts, product_parts, unary_parts, atom_parts, cell_parts, or_part, sum_sign, product_sign, unary_sign, at_atom, at_and, at_cell, at_compare, at_expr, at_product, at_sum, at_unary}
+use Rattle.jade_syntax.specs.declared.tree.Atom.{Atom, fold-roll-Atom, map-Atom}
+use Rattle.jade_syntax.specs.declared.tree.Atom.TheOpen.{Atom-F, CellRef-F, Compare-F}
+use Rattle.jade_syntax.specs.declared.tree.AndExpr.{AndExpr, fold-roll-AndExpr}
+use Rattle.jade_syntax.specs.declared.tree.CellRef.{CellRef, fold-roll-CellRef, map-CellRef}
+use Rattle.jade_syntax.specs.declared.tree.Compare.{Compare, fold-roll-Compare, map-Compare}
+use Rattle.jade_syntax.specs.declared.tree.Expr.{Expr, fold-roll-Expr, ind-Expr}
+use Rattle.jade_syntax.specs.declared.tree.Product.{Product, fold-roll-Product}
+use Rattle.jade_syntax.specs.declared.tree.Sum.{Sum, fold-roll-Sum}
+use Rattle.jade_syntax.specs.declared.tree.Unary.{Unary}
+use Rattle.jade_parser.specs.Spelled.{Parts, marked, Fixed, expr_parts, and_parts, compare_parts, sum_parts, product_parts, unary_parts, atom_parts, cell_parts, sum_sign, product_sign, unary_sign, at_atom, at_and, at_cell, at_compare, at_expr, at_product, at_sum, at_unary}
 use Rattle.jade_parser.specs.declared.Sign.TheVariants.{OrSign, AndSign}
-use Rattle.jade_parser.specs.Machine.{Stack, Rest, rank, asks, unary_in, product_in, sum_in, compare_in, and_in, expr_in}
+use Rattle.jade_parser.specs.Machine.{Rest, rank, asks, unary_in, product_in, sum_in, compare_in, and_in, expr_in}
 use Rattle.jade_parser.proofs.Running.{Runs, chain_runs}
 use Rattle.jade_parser.proofs.Layers.{counted_runs, true_runs, false_runs, called_runs, group_runs, single_runs, member_runs, signs_run, compare_alone, compare_pair}
 use Rattle.jade_parser.proofs.Spelling.{unary_opens}

@@ -1,6 +1,5 @@
 -- What a word begins where a statement may stand.
-use Rattle.std.specs.Prelude.{◌≡◌, true, [], ◌∷◌, ◌++◌, Option, Some, None}
-use Rattle.jade_syntax.specs.declared.tree.ValueKind.{ValueKind}
+use Rattle.std.specs.Prelude.{◌≡◌, true, ◌∷◌, ◌++◌, Option, Some, None}
 use Rattle.jade_syntax.specs.declared.tree.ValueKind.TheVariants.{Int, Bool}
 use Rattle.jade_syntax.specs.declared.tree.DeclareWord.{DeclareWord}
 use Rattle.jade_syntax.specs.declared.tree.DeclareWord.TheVariants.{Rd, Wr, RdWr, DfRd, DfWr, DfRdWr, NoRd, NoWr, NoRdWr}

@@ -1,5 +1,5 @@
 -- The parts of a program.
-use Rattle.std.specs.Prelude.{◌≡◌, ℕ, ◌+◌, List, [], ◌∷◌, ◌++◌, Option, Result, MatchOption, MatchResult}
+use Rattle.std.specs.Prelude.{ℕ, ◌+◌, List, [], ◌∷◌, ◌++◌, Option, Result, MatchOption, MatchResult}
 use Rattle.std.specs.List.{flat_map}
 use Rattle.jade_syntax.specs.declared.tree.Number.{Number}
 use Rattle.jade_syntax.specs.declared.tree.Item.{Item}
@@ -12,7 +12,7 @@ use Rattle.jade_parser.specs.declared.Sign.TheVariants.{InputWord, ObjectWord, O
 use Rattle.jade_parser.specs.declared.Place.TheVariants.{Main}
 use Rattle.jade_parser.specs.declared.items.Opening.{Opening}
 use Rattle.jade_parser.specs.declared.items.Opening.TheVariants as opening
-use Rattle.jade_parser.specs.Spelled.{Part, Parts, Called, fixed, marked, number_part}
+use Rattle.jade_parser.specs.Spelled.{Parts, Called, fixed, marked, number_part}
 use Rattle.jade_parser.specs.Statements.{block_parts}
 use Rattle.jade_parser.specs.Machine.{Stack, Must, NameIs, NumberIs, Items, Body}
 use Rattle.jade_parser.specs.Reads.{Whole, Stops, OnStop}

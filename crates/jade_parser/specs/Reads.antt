@@ -3,7 +3,7 @@ use Rattle.std.specs.Prelude.{◌≡◌, ℕ, zero, suc, ◌+◌, ◌≤◌, Boo
 use Rattle.std.specs.List.{list_all}
 use Rattle.jade_base.specs.declared.place.Pos.{Pos}
 use Rattle.jade_syntax.specs.declared.tree.Expr.{Expr}
-use Rattle.jade_parser.specs.Spelled.{Token, Tokens, Fixed, Called, Counted, Odd, Part, Parts, tokens_of, marked, plain, fixed, is_valid, AllValid, AllShort, expr_parts}
+use Rattle.jade_parser.specs.Spelled.{Token, Tokens, Fixed, Called, Counted, Odd, Parts, tokens_of, fixed, is_valid, AllValid, expr_parts}
 use Rattle.jade_parser.specs.Ops.{unary_of}
 use Rattle.jade_parser.specs.Machine.{Stack, goes}
 use Rattle.jade_parser.specs.declared.Seen.{Seen}

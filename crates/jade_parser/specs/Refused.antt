@@ -1,11 +1,10 @@
 -- What the parser of a whole program promises of the tokens that it saw.
-use Rattle.std.specs.Prelude.{◌≡◌, ℕ, ◌+◌, ◌<◌, ◌≤◌, List, [], ◌∷◌, ◌++◌, take, length}
+use Rattle.std.specs.Prelude.{◌≡◌, ℕ, ◌+◌, ◌<◌, List, ◌++◌, take, length}
 use Rattle.jade_syntax.specs.declared.tree.Program.{Program}
 use Rattle.jade_parser.specs.declared.Seen.{Seen}
-use Rattle.jade_parser.specs.Spelled.{Token, Tokens, Part, Parts, tokens_of, AllValid, AllShort}
+use Rattle.jade_parser.specs.Spelled.{Tokens, tokens_of, AllShort}
 use Rattle.jade_parser.specs.Programs.{program_parts, Proper}
-use Rattle.jade_parser.specs.Reads.{Reads, Known, kinds}
-use Rattle.jade_parser.specs.Machine.{Items}
+use Rattle.jade_parser.specs.Reads.{Reads, kinds}
 use Rattle.jade_parser.specs.Parts.{BegunIn, LongIn}
 
 -- they are the tokens of the program

@@ -1,5 +1,5 @@
 -- The parts of a statement, and where it may stand.
-use Rattle.std.specs.Prelude.{◌≡◌, ℕ, Bool, true, false, ◌&&◌, List, [], ◌∷◌, ◌++◌, Option, Some, None}
+use Rattle.std.specs.Prelude.{Bool, true, ◌&&◌, List, [], ◌∷◌, ◌++◌, Option, Some, None}
 use Rattle.std.specs.List.{flat_map}
 use Rattle.jade_parser.specs.declared.Sign.{Sign}
 use Rattle.jade_syntax.specs.declared.tree.ValueKind.{ValueKind}
@@ -9,12 +9,11 @@ use Rattle.jade_syntax.specs.declared.tree.DeclareWord.TheVariants.{Rd, Wr, RdWr
 use Rattle.jade_syntax.specs.declared.tree.ObjectRef.{ObjectRef}
 use Rattle.jade_syntax.specs.declared.tree.Statement.{Statement, fold-Statement}
 use Rattle.jade_syntax.specs.declared.tree.Statement.TheOpen.{Statement-F}
-use Rattle.jade_parser.specs.declared.Sign.TheVariants.{EqualSign, LeftBracket, RightBracket, LeftParen, RightParen, LeftBrace, RightBrace, Becomes, Semicolon, Comma, DotDot, IfWord, ElseWord, ForWord, InWord, IntWord, BoolWord, WithonlyWord, WithWord, DoWord, ContWord, RdWord, WrWord, RdWrWord, DfRdWord, DfWrWord, DfRdWrWord, NoRdWord, NoWrWord, NoRdWrWord, InputWord, ObjectWord, ObjectsWord, MainWord, Colon}
-use Rattle.jade_base.specs.declared.place.Pos.{Pos}
+use Rattle.jade_parser.specs.declared.Sign.TheVariants.{LeftParen, RightParen, LeftBrace, RightBrace, Becomes, Semicolon, Comma, DotDot, IfWord, ElseWord, ForWord, InWord, IntWord, BoolWord, WithonlyWord, WithWord, DoWord, ContWord, RdWord, WrWord, RdWrWord, DfRdWord, DfWrWord, DfRdWrWord, NoRdWord, NoWrWord, NoRdWrWord}
 use Rattle.jade_syntax.specs.declared.tree.CellRef.{CellRef, out-CellRef}
 use Rattle.jade_syntax.specs.declared.tree.Expr.{Expr}
 use Rattle.jade_syntax.specs.declared.tree.Named.{Named}
-use Rattle.jade_parser.specs.Spelled.{Token, Fixed, Called, Part, Parts, plain, fixed, marked, bracketed, outer}
+use Rattle.jade_parser.specs.Spelled.{Token, Fixed, Called, Parts, plain, fixed, marked, bracketed, outer}
 use Rattle.jade_parser.specs.declared.Place.{Place}
 use Rattle.jade_parser.specs.declared.Place.TheVariants.{Main, Section, Amends}
 use Rattle.jade_parser.specs.Machine.{declares, is_main}

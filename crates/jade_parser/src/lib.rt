@@ -3,7 +3,7 @@
 #![tactic(auto)]
 
 mod begins;
-mod block;
+mod compound;
 mod expressions;
 mod items;
 mod kinds;
@@ -11,7 +11,11 @@ pub mod laws;
 mod leaves;
 mod names;
 mod outer;
+#[cfg(test)]
+mod parser_tests;
+mod pieces;
 mod program;
+mod simple;
 
 use jade_base::Pos;
 pub use program::parse;

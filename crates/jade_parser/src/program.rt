@@ -5,7 +5,7 @@ ghost use Rattle.jade_parser.specs.Grammar.{IsReading, IsRefusal, place_of};
 ghost use Rattle.jade_parser.specs.Refused.{ReadAll, RefusedAt, TooLongAt};
 ghost use Rattle.jade_parser.specs.Reads.{OnStop};
 
-use crate::block::parse_block;
+use crate::compound::parse_block;
 use crate::items::parse_items;
 use crate::kinds::classified;
 use crate::{ParseError, Place, Seen, Stop};

@@ -8,7 +8,13 @@ use Rattle.jade_run.specs.declared.status.Status.TheVariants.{Good, Fault, Refus
 use Rattle.jade_run.specs.Headline.{Answers, Headline, Moment, most_read}
 use Rattle.jade_run.specs.declared.words.Command.{Command}
 use Rattle.jade_run.specs.declared.words.Command.TheVariants.{Run, Show}
-use Rattle.jade_run.specs.Outcome.{IsOutcome, IsAnswered, IsShown, IsCommanded, HasSteps, usage, too_long, run, show, unbuilt, refused, answered, shown, not_shown, first_place, answer_status}
+use Rattle.std.specs.Prelude.{Result, Ok, Err, IfOk}
+use Rattle.jade_base.specs.declared.place.Pos.{Pos}
+use Rattle.jade_base.specs.declared.failure.Memory.{Memory as NoMemory}
+use Rattle.jade_syntax.specs.declared.tree.Program.{Program}
+use Rattle.jade_syntax.specs.Small.{IsUnbuilt, first_word}
+use Rattle.jade_run.specs.declared.answer.Answer.{Answer as AnswerOf}
+use Rattle.jade_run.specs.Outcome.{IsOutcome, IsAnswered, IsShown, IsCommanded, ReadsAs, RefusedAs, HasSteps, usage, too_long, run, show, unbuilt, refused, answered, shown, not_shown, first_place, answer_status}
 use Rattle.jade_run.specs.Texts.{usage_text, refused_text}
 use Rattle.jade_run.specs.Words.{RunWords, AcceptsWords, RefusesWords, Asks, to_run, to_show}
 use Rattle.jade_meaning.specs.Answer.{Answer, Faulted, Cells}
@@ -72,9 +78,9 @@ pub asks_steps : (words : List (List ℕ)) (c : Command) → Asks words c → Ha
 asks_steps words (Run c) h = h.some_limit
 asks_steps words Show h = tt
 
-commanded_read : (c : Command) {bytes text : List ℕ} {status : Status} → IsCommanded c bytes text status → most_read status ≡ 1048577
-commanded_read (Run c) h = answered_read h
-commanded_read Show h = shown_read h
+commanded_read : (c : Command) (bytes text : List ℕ) (status : Status) → IsCommanded c bytes text status → most_read status ≡ 1048577
+commanded_read (Run c) bytes text status h = answered_read h
+commanded_read Show bytes text status h = shown_read h
 
 commanded : (words : List (List ℕ)) (c : Command) (bytes text : List ℕ) (status : Status) → Asks words c → length bytes ≤ 1048576 → IsCommanded c bytes text status → IsOutcome words bytes text status
 commanded words (Run c) bytes text status asked within h = run c.workers c.limit asked within h
@@ -86,7 +92,7 @@ command_answers words before after c bytes read text status asked whole all h = 
   read = λ b e.
       let same : bytes ≡ b = whole.whole b e in
       let within : length b ≤ 1048577 = subst (λ z. length z ≤ 1048577) same (omega (arith, whole.within)) in
-      whole.none_left b e ∙ ap (λ z. Some z) (sym (drop_all 1048577 b within)) ∙ ap (λ n. Some (drop n b)) (sym (commanded_read c h));
+      whole.none_left b e ∙ ap (λ z. Some z) (sym (drop_all 1048577 b within)) ∙ ap (λ n. Some (drop n b)) (sym (commanded_read c read text status h));
 }
 
 -- the statuses with which an outcome is written
@@ -138,3 +144,24 @@ written_headline words Memory before after text h a w = absurd h
 pub wrote_headline : (words : List (List ℕ)) (status : Status) (before after : Moment) (text : List ℕ) → Answers words before.left after.left text status → after.taken ≡ taken_with before.taken text → Headline words status before after
 wrote_headline words status before after text a w =
     written_headline words status before after text (outcome_written _ _ _ _ a.comes.outcome) a w
+
+no_reading : (status : Status) → Written status → status ≡ Reading → ⊥
+unfolding Written
+no_reading status w e = subst Written e w
+
+-- an answer never says that the source failed
+pub not_reading : (words : List (List ℕ)) (before after : Option (List ℕ)) (text : List ℕ) (status : Status) → Answers words before after text status → status ≡ Reading → ⊥
+not_reading words before after text status a e = no_reading status (outcome_written _ _ _ _ a.comes.outcome) e
+
+-- what a refused text is answered with
+pub refused_shown : (bytes : List ℕ) (place : Pos) (why : List ℕ) (r : Result AnswerOf NoMemory) → IfOk r (λ a. a.text.items ≡ refused_text place why) → IfOk r (λ a. a.status ≡ Refused) → RefusedAs bytes place why → IfOk r (λ a. IsShown bytes a.text.items a.status)
+refused_shown bytes place why (Ok a) t s h = not_shown place why h t s
+refused_shown bytes place why (Err e) t s h = tt
+
+pub refused_answered : (bytes : List ℕ) (limit : ℕ) (place : Pos) (why : List ℕ) (r : Result AnswerOf NoMemory) → IfOk r (λ a. a.text.items ≡ refused_text place why) → IfOk r (λ a. a.status ≡ Refused) → IsUnbuilt bytes → RefusedAs bytes place why → IfOk r (λ a. IsAnswered bytes limit a.text.items a.status)
+refused_answered bytes limit place why (Ok a) t s never h = refused place why never h t s
+refused_answered bytes limit place why (Err e) t s never h = tt
+
+pub unbuilt_answered : (bytes : List ℕ) (limit : ℕ) (place : Pos) (tree : Program) (r : Result AnswerOf NoMemory) → IfOk r (λ a. a.text.items ≡ refused_text place (codes "unbuilt")) → IfOk r (λ a. a.status ≡ Refused) → place ≡ first_word bytes → IsUnbuilt bytes → ReadsAs bytes tree → IfOk r (λ a. IsAnswered bytes limit a.text.items a.status)
+unbuilt_answered bytes limit place tree (Ok a) t s e never h = unbuilt tree never h (t ∙ ap (λ p. refused_text p (codes "unbuilt")) e) s
+unbuilt_answered bytes limit place tree (Err m) t s e never h = tt

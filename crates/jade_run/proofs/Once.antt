@@ -16,7 +16,7 @@ use Rattle.jade_base.specs.declared.place.Pos.{Pos}
 use Rattle.jade_lexer.specs.declared.lexeme.LexError.{LexError}
 use Rattle.jade_lexer.specs.declared.lexeme.LexError.TheVariants.{Byte, Number, Deep, Memory as LexMemory}
 use Rattle.jade_lexer.specs.Lexemes.{TokenList}
-use Rattle.jade_lexer.specs.Reading.{Reading, reading, Whole, Refused as Unlexed}
+use Rattle.jade_lexer.specs.Reading.{Reading as ReadOf, reading, Whole, Refused as Unlexed}
 use Rattle.jade_layout.specs.Spelling.{spelling}
 use Rattle.jade_layout.specs.Layout.{layout}
 use Rattle.jade_parser.specs.declared.ParseError.{ParseError}
@@ -101,7 +101,7 @@ whole_is ts us e = cc
 error_is : (e f : LexError) → Unlexed e ≡ Unlexed f → e ≡ f
 error_is e f h = cc
 
-not_whole : (r : Reading) (ts : TokenList) (e : LexError) → r ≡ Whole ts → r ≡ Unlexed e → ⊥
+not_whole : (r : ReadOf) (ts : TokenList) (e : LexError) → r ≡ Whole ts → r ≡ Unlexed e → ⊥
 not_whole r ts e h k = absurd (cc)
 
 same_refuses : Parses → (bytes : List ℕ) (p q : Pos) (v w : List ℕ) → Refuses bytes p v → Refuses bytes q w → (p ≡ q) × (v ≡ w)

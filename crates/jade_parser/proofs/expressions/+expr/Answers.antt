@@ -1,21 +1,18 @@
-use Rattle.std.proofs.Common.{refl, ap, sym, ◌∙◌, arith, append-nil, append_assoc, ◌∷◌, [], ◌++◌, rules}
+use Rattle.std.proofs.Common.{refl, ◌∷◌, [], rules}
 use Rattle.jade_syntax.specs.declared.tree.AndExpr.{roll-AndExpr}
 use Rattle.jade_syntax.specs.declared.tree.Expr.{roll-Expr}
 use Rattle.jade_syntax.specs.declared.tree.Product.{roll-Product}
 use Rattle.jade_syntax.specs.declared.tree.Sum.{roll-Sum}
-use Rattle.jade_syntax.specs.declared.tree.CellRef.{roll-CellRef}
-use Rattle.jade_parser.specs.declared.Sign.TheVariants.{OrSign, AndSign, LeftParen, RightParen, LeftBracket, RightBracket}
-use Rattle.jade_parser.specs.Spelled.{Fixed, Called, Counted, expr_parts, and_parts, compare_parts, sum_parts, product_parts, unary_parts, atom_parts, cell_parts, or_part, and_part, sum_part, product_part}
-use Rattle.jade_parser.specs.Machine.{Need, Rest, First, Second, Must, unary_in, product_in, sum_in, compare_in, and_in, expr_in}
-use Rattle.jade_parser.specs.Reads.{closed}
-use Rattle.jade_parser.proofs.Spelling.{unary_opens, expr_made, and_made, sum_made, product_made, group_made}
-use Rattle.jade_parser.proofs.Reading.{whole_none, whole_on, whole_past, whole_under, refusal_under, refused_on, lift}
-use mir.Val.{SFits, to_z, of_z}
+use Rattle.jade_parser.specs.Spelled.{expr_parts, and_parts, compare_parts, sum_parts, product_parts, unary_parts, or_part, and_part, sum_part, product_part}
+use Rattle.jade_parser.specs.Machine.{Must, unary_in, product_in, compare_in, and_in}
+use Rattle.jade_parser.proofs.Spelling.{unary_opens, expr_made, and_made, sum_made, product_made}
+use Rattle.jade_parser.proofs.Reading.{whole_on, whole_under}
+use mir.Val.{SFits}
 use mir.Syntax.{w64}
 use Rattle.std.proofs.lemmas.Int.{to_z-of_z}
 use Rattle.jade_parser.proofs.Standing.{called_here, counted_here, head_fixed, nothing_here, odd_here, no_sign_here, within_here}
 use Rattle.jade_parser.proofs.Chains.{chain_first, chain_more, chain_kept, chain_done}
-use Rattle.jade_parser.proofs.Steps.{residual, compare_first, compare_second, compare_both, unary_refused, closed_first, closed_second, after_refused, atom_refused, single_made, member_made, named_made, whole_made, truth_made, cell_made, cell_first, cell_second, cell_both, truth_here, group_refused, group_read, named_refused}
+use Rattle.jade_parser.proofs.Steps.{residual, compare_first, compare_second, compare_both, unary_refused, closed_first, closed_second, atom_refused, whole_made, cell_first, cell_second, cell_both, truth_here, group_refused, group_read, named_refused}
 use Rattle.jade_parser.proofs.expressions.+expr.Goals as goal
 
 pub parse_and-returns-in_err-first : goal.parse_and-returns-in_err-first

@@ -1,4 +1,4 @@
-use Rattle.std.proofs.Common.{refl, ◌∷◌, [], append-nil}
+use Rattle.std.proofs.Common.{[]}
 use Rattle.jade_parser.specs.Spelled.{sign_part}
 use Rattle.jade_parser.proofs.Reading.{whole_more}
 use Rattle.jade_parser.proofs.expressions.signs.Goals as goal

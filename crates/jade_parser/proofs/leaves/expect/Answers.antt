@@ -1,4 +1,4 @@
-use Rattle.std.proofs.Common.{refl, sym, ◌∙◌}
+use Rattle.std.proofs.Common.{sym, ◌∙◌}
 use Rattle.jade_parser.proofs.Standing.{takes_sign, head_is, must_step}
 use Rattle.jade_parser.proofs.leaves.expect.Goals as goal
 

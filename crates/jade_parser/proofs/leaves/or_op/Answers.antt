@@ -1,4 +1,4 @@
-use Rattle.std.proofs.Common.{refl, sym, ◌∙◌, IsTrue, subst}
+use Rattle.std.proofs.Common.{refl, sym, ◌∙◌}
 use Rattle.jade_parser.proofs.Standing.{takes_marked, head_is}
 use Rattle.jade_parser.proofs.leaves.or_op.Goals as goal
 

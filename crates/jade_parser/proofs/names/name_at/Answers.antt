@@ -1,4 +1,4 @@
-use Rattle.std.proofs.Common.{refl, rules}
+use Rattle.std.proofs.Common.{refl}
 use Rattle.jade_parser.proofs.Standing.{called_taken, stops_kind}
 use Rattle.jade_parser.proofs.names.name_at.Goals as goal
 

@@ -1,0 +1,233 @@
+//! Blocks, and the statements that hold blocks.
+
+ghost use Rattle.std.specs.Prelude.{◌≡◌, ◌+◌, ◌≤◌, [], ◌∷◌, drop, length, None, MatchOption};
+ghost use Rattle.jade_parser.specs.Reads.{Whole, head_sign, kinds, place_at};
+ghost use Rattle.jade_parser.specs.Parts.{ParsedIn, Fits, FitsAll};
+ghost use Rattle.jade_parser.specs.Machine.{Body};
+ghost use Rattle.jade_parser.specs.Spelled.{Fixed, fixed, marked};
+ghost use Rattle.jade_parser.specs.Statements.{statement_parts, block_parts};
+ghost use Rattle.jade_parser.specs.Compound.{block_in, if_in, for_in, withonly_in, with_in, BeginAt, StatementAt};
+ghost use Rattle.jade_parser.specs.declared.Place.TheVariants.{Main};
+ghost use Rattle.jade_parser.specs.declared.Sign.TheVariants.{IfWord, ForWord, WithonlyWord, WithWord};
+
+use crate::begins::{Begin, begin_of};
+use crate::leaves::{expect, pos_at, sign_at};
+use crate::names::name_at;
+use crate::outer::parse_outer;
+use crate::pieces::{is_at, parse_ended, parse_names};
+use crate::simple::{parse_declare, parse_local, parse_named};
+use crate::{Place, Seen, Sign, Stop};
+use jade_syntax::tree::{Block, Statement};
+use std::alloc::Global;
+
+/// What begins at the place, unless a name, a number or nothing stands there.
+fn begin_at(tokens: &[Seen<'_>], at: usize, place: Place) -> Option<Begin>
+    ensures { MatchOption result (None ≡ head_sign (drop at (kinds tokens.now))) (BeginAt place tokens.now at) }
+{
+    match sign_at(tokens, at) {
+        Some(sign) => Some(begin_of(place, sign)),
+        None => None,
+    }
+}
+
+/// A block, from its brace to its brace.
+#[cycle(statement)]
+pub fn parse_block(
+    alloc: Global,
+    tokens: &[Seen<'_>],
+    start: usize,
+    place: Place,
+    depth: usize,
+) -> Result<(Block, usize), Stop>
+    requires { start ≤ length tokens.now }
+    ensures { ParsedIn (FitsAll place) block_parts tokens.now start (block_in place) [] result }
+{
+    let mut at = match expect(tokens, start, Sign::LeftBrace) {
+        Ok(at) => at,
+        Err(e) => return Err(e),
+    };
+    let mut all = Block::empty(alloc);
+    'statements: loop {
+        match parse_statement(alloc, tokens, at, place, depth) {
+            Ok(None) => return Ok((all, at + 1)),
+            Ok(Some((next, after))) => match all.push(next) {
+                Ok(()) => at = after,
+                Err(_) => return Err(Stop::Memory),
+            },
+            Err(e) => return Err(e),
+        }
+    }
+}
+
+/// The statement that begins at the place, and the number of the token after it. There is none
+/// where the brace stands that ends the block.
+#[cycle(statement)]
+fn parse_statement(
+    alloc: Global,
+    tokens: &[Seen<'_>],
+    start: usize,
+    place: Place,
+    depth: usize,
+) -> Result<Option<(Statement, usize)>, Stop>
+    requires { start ≤ length tokens.now }
+    ensures { StatementAt place tokens.now start result }
+{
+    match begin_at(tokens, start, place) {
+        None => {
+            let read = parse_named(alloc, tokens, start, place, depth)?;
+            Ok(Some(read))
+        }
+        Some(Begin::Closing) => Ok(None),
+        Some(Begin::Nothing) => Err(Stop::Token(start)),
+        Some(Begin::Local(kind)) => {
+            let read = parse_local(alloc, tokens, start, kind, place, depth)?;
+            Ok(Some(read))
+        }
+        Some(Begin::Declare(word)) => {
+            let read = parse_declare(alloc, tokens, start, word, place, depth)?;
+            Ok(Some(read))
+        }
+        Some(Begin::If) => {
+            let read = parse_if(alloc, tokens, start, place, depth)?;
+            Ok(Some(read))
+        }
+        Some(Begin::For) => {
+            let read = parse_for(alloc, tokens, start, place, depth)?;
+            Ok(Some(read))
+        }
+        Some(Begin::Withonly) => {
+            let read = parse_withonly(alloc, tokens, start, depth)?;
+            Ok(Some(read))
+        }
+        Some(Begin::With) => {
+            let read = parse_with(alloc, tokens, start, depth)?;
+            Ok(Some(read))
+        }
+    }
+}
+
+/// An `if`, whose word was read.
+#[cycle(statement)]
+fn parse_if(
+    alloc: Global,
+    tokens: &[Seen<'_>],
+    start: usize,
+    place: Place,
+    depth: usize,
+) -> Result<(Statement, usize), Stop>
+    requires { Whole tokens.now start (Body place ∷ []) (start + 1) (if_in place) (fixed IfWord ∷ []) }
+    ensures { ParsedIn (Fits place) statement_parts tokens.now start (Body place ∷ []) (Body place ∷ []) result }
+{
+    if depth == 0 {
+        return Err(Stop::Memory);
+    }
+    let (test, tested) = parse_outer(alloc, tokens, start + 1, depth)?;
+    let (then, at) = parse_block(alloc, tokens, tested, place, depth - 1)?;
+    if is_at(tokens, at, Sign::ElseWord) {
+        let (other, end) = parse_block(alloc, tokens, at + 1, place, depth - 1)?;
+        let otherwise = Some(other);
+        Ok((
+            Statement::If {
+                test,
+                then,
+                otherwise,
+            },
+            end,
+        ))
+    } else {
+        let otherwise = None;
+        Ok((
+            Statement::If {
+                test,
+                then,
+                otherwise,
+            },
+            at,
+        ))
+    }
+}
+
+/// A `for`, whose word was read.
+#[cycle(statement)]
+fn parse_for(
+    alloc: Global,
+    tokens: &[Seen<'_>],
+    start: usize,
+    place: Place,
+    depth: usize,
+) -> Result<(Statement, usize), Stop>
+    requires { Whole tokens.now start (Body place ∷ []) (start + 1) (for_in place) (fixed ForWord ∷ []) }
+    ensures { ParsedIn (Fits place) statement_parts tokens.now start (Body place ∷ []) (Body place ∷ []) result }
+{
+    if depth == 0 {
+        return Err(Stop::Memory);
+    }
+    let pos = pos_at(tokens, start + 1);
+    let name = name_at(alloc, tokens, start + 1)?;
+    let begun = expect(tokens, start + 2, Sign::InWord)?;
+    let (low, middle) = parse_ended(alloc, tokens, begun, Sign::DotDot, depth)?;
+    let (high, at) = parse_outer(alloc, tokens, middle, depth)?;
+    let (body, end) = parse_block(alloc, tokens, at, place, depth - 1)?;
+    Ok((
+        Statement::For {
+            name,
+            pos,
+            low,
+            high,
+            body,
+        },
+        end,
+    ))
+}
+
+/// A `withonly`, whose word was read.
+#[cycle(statement)]
+fn parse_withonly(
+    alloc: Global,
+    tokens: &[Seen<'_>],
+    start: usize,
+    depth: usize,
+) -> Result<(Statement, usize), Stop>
+    requires { Whole tokens.now start (Body Main ∷ []) (start + 1) withonly_in (marked (Fixed WithonlyWord) (place_at tokens.now start) ∷ []) }
+    ensures { ParsedIn (Fits Main) statement_parts tokens.now start (Body Main ∷ []) (Body Main ∷ []) result }
+{
+    if depth == 0 {
+        return Err(Stop::Memory);
+    }
+    let pos = pos_at(tokens, start);
+    let (section, closed) = parse_block(alloc, tokens, start + 1, Place::Section, depth - 1)?;
+    let done = expect(tokens, closed, Sign::DoWord)?;
+    let opened = expect(tokens, done, Sign::LeftParen)?;
+    let (names, at) = parse_names(alloc, tokens, opened)?;
+    let (body, end) = parse_block(alloc, tokens, at, Place::Main, depth - 1)?;
+    Ok((
+        Statement::Withonly {
+            pos,
+            section,
+            names,
+            body,
+        },
+        end,
+    ))
+}
+
+/// A `with`, whose word was read.
+#[cycle(statement)]
+fn parse_with(
+    alloc: Global,
+    tokens: &[Seen<'_>],
+    start: usize,
+    depth: usize,
+) -> Result<(Statement, usize), Stop>
+    requires { Whole tokens.now start (Body Main ∷ []) (start + 1) with_in (marked (Fixed WithWord) (place_at tokens.now start) ∷ []) }
+    ensures { ParsedIn (Fits Main) statement_parts tokens.now start (Body Main ∷ []) (Body Main ∷ []) result }
+{
+    if depth == 0 {
+        return Err(Stop::Memory);
+    }
+    let pos = pos_at(tokens, start);
+    let (section, closed) = parse_block(alloc, tokens, start + 1, Place::Amends, depth - 1)?;
+    let done = expect(tokens, closed, Sign::ContWord)?;
+    let end = expect(tokens, done, Sign::Semicolon)?;
+    Ok((Statement::With { pos, section }, end))
+}

@@ -1,0 +1,173 @@
+//! Statements that hold no others: locals, assignments, stores and declarations.
+
+ghost use Rattle.std.specs.Prelude.{◌≡◌, ◌+◌, ◌≤◌, [], ◌∷◌, ◌++◌, drop, length, true, None};
+ghost use Rattle.jade_parser.specs.Reads.{head_sign, kinds, place_at, Whole};
+ghost use Rattle.jade_parser.specs.Machine.{Must, NameIs, Second, Body, expr_in, declares, is_main};
+ghost use Rattle.jade_parser.specs.Spelled.{Called, plain, marked, fixed};
+ghost use Rattle.jade_parser.specs.Statements.{statement_parts, kind_word, declare_word, word_sign};
+ghost use Rattle.jade_parser.specs.Parts.{ParsedIn, Fits};
+ghost use Rattle.jade_parser.specs.Forms.{Came};
+ghost use Rattle.jade_parser.specs.declared.Place.TheVariants.{Main};
+ghost use Rattle.jade_parser.specs.declared.Sign.TheVariants.{LeftParen, RightParen, LeftBracket, RightBracket, Semicolon, Becomes};
+
+use crate::leaves::{expect, pos_at};
+use crate::names::name_at;
+use crate::pieces::{is_at, parse_declared, parse_ended, parse_indexes};
+use crate::{Place, Seen, Sign, Stop};
+use jade_base::Pos;
+use jade_syntax::Name;
+use jade_syntax::tree::{CellRef, DeclareWord, Statement, ValueKind};
+use std::alloc::Global;
+
+/// A local, whose word was read.
+pub fn parse_local(
+    alloc: Global,
+    tokens: &[Seen<'_>],
+    start: usize,
+    kind: ValueKind,
+    place: Place,
+    depth: usize,
+) -> Result<(Statement, usize), Stop>
+    requires { Whole tokens.now start (Body place ∷ []) (start + 1) (NameIs ∷ Must Becomes ∷ expr_in ++ Must Semicolon ∷ Body place ∷ []) (plain (kind_word kind) ∷ []) }
+    ensures { ParsedIn (Fits place) statement_parts tokens.now start (Body place ∷ []) (Body place ∷ []) result }
+{
+    let named = start + 1;
+    let pos = pos_at(tokens, named);
+    let name = match name_at(alloc, tokens, named) {
+        Ok(name) => name,
+        Err(e) => return Err(e),
+    };
+    let at = match expect(tokens, named + 1, Sign::Becomes) {
+        Ok(at) => at,
+        Err(e) => return Err(e),
+    };
+    match parse_ended(alloc, tokens, at, Sign::Semicolon, depth) {
+        Ok((value, end)) => Ok((
+            Statement::Local {
+                kind,
+                name,
+                pos,
+                value,
+            },
+            end,
+        )),
+        Err(e) => Err(e),
+    }
+}
+
+/// A declaration, whose word was read.
+pub fn parse_declare(
+    alloc: Global,
+    tokens: &[Seen<'_>],
+    start: usize,
+    word: DeclareWord,
+    place: Place,
+    depth: usize,
+) -> Result<(Statement, usize), Stop>
+    requires stands { declares place (word_sign word) ≡ true }
+    requires read { Whole tokens.now start (Body place ∷ []) (start + 1) (Must LeftParen ∷ NameIs ∷ Second ∷ Must RightParen ∷ Must Semicolon ∷ Body place ∷ []) (marked (declare_word word) (place_at tokens.now start) ∷ []) }
+    ensures { ParsedIn (Fits place) statement_parts tokens.now start (Body place ∷ []) (Body place ∷ []) result }
+{
+    let pos = pos_at(tokens, start);
+    match parse_declared(alloc, tokens, start + 1, depth) {
+        Ok((object, end)) => Ok((Statement::Declare { word, pos, object }, end)),
+        Err(e) => Err(e),
+    }
+}
+
+/// An assignment, whose name and sign were read.
+fn parse_assign(
+    alloc: Global,
+    tokens: &[Seen<'_>],
+    start: usize,
+    next: usize,
+    name: Name,
+    pos: Pos,
+    place: Place,
+    depth: usize,
+) -> Result<(Statement, usize), Stop>
+    requires further { start + 1 ≤ next }
+    requires read { Came tokens.now start (Body place ∷ []) next (expr_in ++ Must Semicolon ∷ Body place ∷ []) (marked (Called name) pos ∷ fixed Becomes ∷ []) }
+    ensures { ParsedIn (Fits place) statement_parts tokens.now start (Body place ∷ []) (Body place ∷ []) result }
+{
+    match parse_ended(alloc, tokens, next, Sign::Semicolon, depth) {
+        Ok((value, end)) => Ok((Statement::Assign { name, pos, value }, end)),
+        Err(e) => Err(e),
+    }
+}
+
+/// A store, whose name and first bracket were read.
+fn parse_store(
+    alloc: Global,
+    tokens: &[Seen<'_>],
+    start: usize,
+    next: usize,
+    name: Name,
+    pos: Pos,
+    place: Place,
+    depth: usize,
+) -> Result<(Statement, usize), Stop>
+    requires main { is_main place ≡ true }
+    requires further { start + 1 ≤ next }
+    requires read { Came tokens.now start (Body place ∷ []) next (expr_in ++ Must RightBracket ∷ Second ∷ Must Becomes ∷ expr_in ++ Must Semicolon ∷ Body place ∷ []) (marked (Called name) pos ∷ fixed LeftBracket ∷ []) }
+    ensures { ParsedIn (Fits place) statement_parts tokens.now start (Body place ∷ []) (Body place ∷ []) result }
+{
+    let ((family, cell), closed) = match parse_indexes(alloc, tokens, next, depth) {
+        Ok(read) => read,
+        Err(e) => return Err(e),
+    };
+    let at = match expect(tokens, closed, Sign::Becomes) {
+        Ok(at) => at,
+        Err(e) => return Err(e),
+    };
+    match parse_ended(alloc, tokens, at, Sign::Semicolon, depth) {
+        Ok((value, end)) => {
+            let target = CellRef {
+                name,
+                pos,
+                family,
+                cell,
+            };
+            Ok((Statement::Store { target, value }, end))
+        }
+        Err(e) => Err(e),
+    }
+}
+
+/// Whether stores stand there.
+fn is_main(place: Place) -> bool
+    ensures { result ≡ is_main place }
+{
+    match place {
+        Place::Main => true,
+        Place::Section => false,
+        Place::Amends => false,
+    }
+}
+
+/// A statement that begins with a name.
+pub fn parse_named(
+    alloc: Global,
+    tokens: &[Seen<'_>],
+    start: usize,
+    place: Place,
+    depth: usize,
+) -> Result<(Statement, usize), Stop>
+    requires within { start ≤ length tokens.now }
+    requires no_sign { None ≡ head_sign (drop start (kinds tokens.now)) }
+    ensures { ParsedIn (Fits place) statement_parts tokens.now start (Body place ∷ []) (Body place ∷ []) result }
+{
+    let pos = pos_at(tokens, start);
+    let name = match name_at(alloc, tokens, start) {
+        Ok(name) => name,
+        Err(e) => return Err(e),
+    };
+    let at = start + 1;
+    if is_at(tokens, at, Sign::Becomes) {
+        return parse_assign(alloc, tokens, start, at + 1, name, pos, place, depth);
+    }
+    if is_main(place) && is_at(tokens, at, Sign::LeftBracket) {
+        return parse_store(alloc, tokens, start, at + 1, name, pos, place, depth);
+    }
+    Err(Stop::Token(at))
+}
