@@ -13,8 +13,11 @@ use Rattle.jade_base.specs.declared.place.Pos.{Pos}
 use Rattle.jade_base.specs.declared.failure.Memory.{Memory as NoMemory}
 use Rattle.jade_syntax.specs.declared.tree.Program.{Program}
 use Rattle.jade_syntax.specs.Small.{IsUnbuilt, first_word}
+use denote.Bor.{Bor}
 use Rattle.jade_run.specs.declared.answer.Answer.{Answer as AnswerOf}
-use Rattle.jade_run.specs.Outcome.{IsOutcome, IsAnswered, IsShown, IsCommanded, ReadsAs, RefusedAs, HasSteps, usage, too_long, run, show, unbuilt, refused, answered, shown, not_shown, first_place, answer_status}
+use Rattle.jade_run.specs.declared.answer.ReadError.{ReadError}
+use Rattle.jade_run.specs.declared.answer.ReadError.TheVariants.{Refused as NotRead, Memory as Unread}
+use Rattle.jade_run.specs.Outcome.{IsOutcome, IsAnswered, IsShown, IsCommanded, IsNotRead, OnRefused, ReadsAs, RefusedAs, HasSteps, usage, too_long, run, show, unbuilt, refused, answered, shown, not_shown, first_place, answer_status}
 use Rattle.jade_run.specs.Texts.{usage_text, refused_text}
 use Rattle.jade_run.specs.Words.{RunWords, AcceptsWords, RefusesWords, Asks, to_run, to_show}
 use Rattle.jade_meaning.specs.Answer.{Answer, Faulted, Cells}
@@ -153,15 +156,22 @@ no_reading status w e = subst Written e w
 pub not_reading : (words : List (List ℕ)) (before after : Option (List ℕ)) (text : List ℕ) (status : Status) → Answers words before after text status → status ≡ Reading → ⊥
 not_reading words before after text status a e = no_reading status (outcome_written _ _ _ _ a.comes.outcome) e
 
--- what a refused text is answered with
-pub refused_shown : (bytes : List ℕ) (place : Pos) (why : List ℕ) (r : Result AnswerOf NoMemory) → IfOk r (λ a. a.text.items ≡ refused_text place why) → IfOk r (λ a. a.status ≡ Refused) → RefusedAs bytes place why → IfOk r (λ a. IsShown bytes a.text.items a.status)
-refused_shown bytes place why (Ok a) t s h = not_shown place why h t s
-refused_shown bytes place why (Err e) t s h = tt
+-- what a text that was not read comes to
+pub refused_shown : (bytes : List ℕ) (e : ReadError) (r : Result AnswerOf NoMemory) → IfOk r (λ a. IsNotRead e a.text.items a.status) → OnRefused e (RefusedAs bytes) → IfOk r (λ a. IsShown bytes a.text.items a.status)
+refused_shown bytes (NotRead place why) (Ok a) n h = not_shown place why.now h n.0 n.1
+refused_shown bytes Unread (Ok a) n h = absurd n
+refused_shown bytes e (Err m) n h = tt
 
-pub refused_answered : (bytes : List ℕ) (limit : ℕ) (place : Pos) (why : List ℕ) (r : Result AnswerOf NoMemory) → IfOk r (λ a. a.text.items ≡ refused_text place why) → IfOk r (λ a. a.status ≡ Refused) → IsUnbuilt bytes → RefusedAs bytes place why → IfOk r (λ a. IsAnswered bytes limit a.text.items a.status)
-refused_answered bytes limit place why (Ok a) t s never h = refused place why never h t s
-refused_answered bytes limit place why (Err e) t s never h = tt
+pub refused_answered : (bytes : List ℕ) (limit : ℕ) (e : ReadError) (r : Result AnswerOf NoMemory) → IfOk r (λ a. IsNotRead e a.text.items a.status) → IsUnbuilt bytes → OnRefused e (RefusedAs bytes) → IfOk r (λ a. IsAnswered bytes limit a.text.items a.status)
+refused_answered bytes limit (NotRead place why) (Ok a) n never h = refused place why.now never h n.0 n.1
+refused_answered bytes limit Unread (Ok a) n never h = absurd n
+refused_answered bytes limit e (Err m) n never h = tt
 
 pub unbuilt_answered : (bytes : List ℕ) (limit : ℕ) (place : Pos) (tree : Program) (r : Result AnswerOf NoMemory) → IfOk r (λ a. a.text.items ≡ refused_text place (codes "unbuilt")) → IfOk r (λ a. a.status ≡ Refused) → place ≡ first_word bytes → IsUnbuilt bytes → ReadsAs bytes tree → IfOk r (λ a. IsAnswered bytes limit a.text.items a.status)
 unbuilt_answered bytes limit place tree (Ok a) t s e never h = unbuilt tree never h (t ∙ ap (λ p. refused_text p (codes "unbuilt")) e) s
 unbuilt_answered bytes limit place tree (Err m) t s e never h = tt
+
+-- the answer of a refusal
+pub not_read_is : (place : Pos) (why : Bor (List ℕ)) (r : Result AnswerOf NoMemory) → IfOk r (λ a. a.text.items ≡ refused_text place why.now) → IfOk r (λ a. a.status ≡ Refused) → IfOk r (λ a. IsNotRead (NotRead place why) a.text.items a.status)
+not_read_is place why (Ok a) t s = (t, s)
+not_read_is place why (Err m) t s = tt

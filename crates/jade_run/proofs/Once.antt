@@ -69,7 +69,7 @@ not_both text t never h good = never.never h.from h.reads (ap (λ p. is_faultles
 
 -- how tokens are read, as it is proved of the parser
 pub record Parses : Type 0 where
-  pub spelling : (ts : TokenList) (p q : Program) → IsReading ts p → IsReading ts q → bytes_of (program_parts p) ≡ bytes_of (program_parts q)
+  pub one_spelling : (ts : TokenList) (p q : Program) → IsReading ts p → IsReading ts q → bytes_of (program_parts p) ≡ bytes_of (program_parts q)
   pub refusal : (ts : TokenList) (e f : ParseError) → IsRefusal ts e → IsRefusal ts f → SameRefusal e f
   pub apart : (ts : TokenList) (p : Program) (e : ParseError) → IsReading ts p → IsRefusal ts e → IsMemory e
   pub alike : (p : Program) → bytes_of (program_parts p) ≡ spelling p
@@ -132,7 +132,7 @@ read_and_refused law bytes tree p v r h = read_and_refuses law bytes tree p v r 
 same_layout : Parses → (bytes : List ℕ) (x y : Program) → ReadsAs bytes x → ReadsAs bytes y → layout (spelling x) ≡ layout (spelling y)
 same_layout law bytes x y r s =
     let same : r.tokens ≡ s.tokens = whole_is r.tokens s.tokens (sym r.whole ∙ s.whole) in
-    ap layout (sym (law.alike x) ∙ law.spelling s.tokens x y (subst (λ z. IsReading z x) same r.read) s.read ∙ law.alike y)
+    ap layout (sym (law.alike x) ∙ law.one_spelling s.tokens x y (subst (λ z. IsReading z x) same r.read) s.read ∙ law.alike y)
 
 same_answers : OnlyOne → Parses → (bytes : List ℕ) (limit : ℕ) (t u : List ℕ) (s r : Status) → IsAnswered bytes limit t s → IsAnswered bytes limit u r → SameOutcome t s u r
 same_answers one law bytes limit t u s r (answered tree reads good shows) (answered tree' reads' good' shows') =

@@ -66,6 +66,11 @@ abbrev pub OnRefused : ReadError → (Pos → List ℕ → Type 0) → Type 0
 OnRefused (NotRead place why) P = P place why.now
 OnRefused Memory P = Unit {0}
 
+-- what is written of a text that was not read
+abbrev pub IsNotRead : ReadError → List ℕ → Status → Type 0
+IsNotRead (NotRead place why) text status = (text ≡ refused_text place why.now) × (status ≡ Refused)
+IsNotRead Memory text status = ⊥
+
 -- what a text of at most 1,048,576 bytes comes to, run with a limit: it can be run, it is refused, or it is a program that can't be run yet
 pub data IsAnswered (bytes : List ℕ) (limit : ℕ) (text : List ℕ) (status : Status) : Type 0 where
   answered : (tree : Program) → IsRead bytes tree → is_faultless (program tree) ≡ true → Shows (program tree) (answer (program tree) [] limit) text status → IsAnswered bytes limit text status

@@ -10,7 +10,7 @@ ghost use Rattle.jade_meaning.specs.Told.{told_answer, first_note, step_over};
 ghost use Rattle.jade_run.specs.Outcome.{fault_key};
 ghost use Rattle.jade_lexer.specs.Reading.{reading, Whole};
 ghost use Rattle.jade_syntax.specs.Small.{IsUnbuilt, first_word};
-ghost use Rattle.jade_run.specs.Outcome.{IsAnswered, IsShown, OnRefused, ReadsAs, RefusedAs, Shows};
+ghost use Rattle.jade_run.specs.Outcome.{IsAnswered, IsNotRead, IsShown, OnRefused, ReadsAs, RefusedAs, Shows};
 ghost use Rattle.jade_run.specs.Texts.{refused_text};
 
 use crate::{Status, texts};
@@ -166,6 +166,16 @@ fn refused(alloc: Global, pos: Pos, why: &[u8]) -> Result<Answer, Memory>
     })
 }
 
+/// What a text that was not read is answered with.
+fn not_read(alloc: Global, error: ReadError) -> Result<Answer, Memory>
+    ensures { IfOk result (λ a. IsNotRead error a.text.items a.status) }
+{
+    match error {
+        ReadError::Refused(pos, why) => refused(alloc, pos, why),
+        ReadError::Memory => Err(Memory),
+    }
+}
+
 /// What a text comes to that is none of the programs that can be run, whose first word is at this
 /// place.
 fn not_run(alloc: Global, text: &[u8], first: Pos, limit: u32) -> Result<Answer, Memory>
@@ -174,11 +184,11 @@ fn not_run(alloc: Global, text: &[u8], first: Pos, limit: u32) -> Result<Answer,
     requires unbuilt { IsUnbuilt text.now }
     ensures { IfOk result (λ a. IsAnswered text.now limit a.text.items a.status) }
 {
-    match program_of(alloc, text) {
-        Ok(_) => refused(alloc, first, b"unbuilt"),
-        Err(ReadError::Refused(pos, why)) => refused(alloc, pos, why),
-        Err(ReadError::Memory) => Err(Memory),
-    }
+    let _program = match program_of(alloc, text) {
+        Ok(program) => program,
+        Err(error) => return not_read(alloc, error),
+    };
+    refused(alloc, first, b"unbuilt")
 }
 
 /// What a text of at most 1,048,576 bytes comes to, run with a limit.
@@ -204,7 +214,6 @@ pub fn show_text(alloc: Global, text: &[u8]) -> Result<Answer, Memory>
             text: print_program(alloc, &program)?,
             status: Status::Good,
         }),
-        Err(ReadError::Refused(pos, why)) => refused(alloc, pos, why),
-        Err(ReadError::Memory) => Err(Memory),
+        Err(error) => not_read(alloc, error),
     }
 }
