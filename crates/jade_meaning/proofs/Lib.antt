@@ -6,6 +6,7 @@ mod Cells
 mod Carrying
 mod Telling
 mod Scoping
+mod Counting
 mod Covering
 mod Ranging
 mod Opening

@@ -6,6 +6,7 @@ mod found;
 mod grants;
 pub mod laws;
 mod ledger;
+pub mod ready;
 mod scope;
 pub mod serial;
 #[cfg(test)]
@@ -16,4 +17,5 @@ mod stop;
 mod tally;
 pub mod values;
 
+pub use ready::can_run;
 pub use serial::{serial_program, serial_run};

@@ -6,9 +6,20 @@ use Rattle.jade_base.specs.Bytes.{WholeText, CutText, left_after, taken_with}
 use Rattle.jade_run.specs.declared.status.Status.{Status}
 use Rattle.jade_run.specs.declared.status.Status.TheVariants.{Good, Fault, Refused, Words, Numbers, Reading, Writing, Memory}
 use Rattle.jade_run.specs.Headline.{Answers, Headline, Moment, most_read}
-use Rattle.jade_run.specs.Outcome.{IsOutcome, IsAnswered, usage, too_long, run, unbuilt, answered, first_place, answer_status}
+use Rattle.jade_run.specs.declared.words.Command.{Command}
+use Rattle.jade_run.specs.declared.words.Command.TheVariants.{Run, Show}
+use Rattle.std.specs.Prelude.{Result, Ok, Err, IfOk}
+use Rattle.jade_base.specs.declared.place.Pos.{Pos}
+use Rattle.jade_base.specs.declared.failure.Memory.{Memory as NoMemory}
+use Rattle.jade_syntax.specs.declared.tree.Program.{Program}
+use Rattle.jade_syntax.specs.Small.{IsUnbuilt, first_word}
+use denote.Bor.{Bor}
+use Rattle.jade_run.specs.declared.answer.Answer.{Answer as AnswerOf}
+use Rattle.jade_run.specs.declared.answer.ReadError.{ReadError}
+use Rattle.jade_run.specs.declared.answer.ReadError.TheVariants.{Refused as NotRead, Memory as Unread}
+use Rattle.jade_run.specs.Outcome.{IsOutcome, IsAnswered, IsShown, IsCommanded, IsNotRead, OnRefused, ReadsAs, RefusedAs, HasSteps, usage, too_long, run, show, unbuilt, refused, answered, shown, not_shown, first_place, answer_status}
 use Rattle.jade_run.specs.Texts.{usage_text, refused_text}
-use Rattle.jade_run.specs.Words.{RunWords}
+use Rattle.jade_run.specs.Words.{RunWords, AcceptsWords, RefusesWords, Asks, to_run, to_show}
 use Rattle.jade_meaning.specs.Answer.{Answer, Faulted, Cells}
 
 -- the bytes that are told, or none
@@ -20,7 +31,7 @@ told_bytes : (left : Option (List ℕ)) (b : List ℕ) → left ≡ Some b → b
 unfolding bytes_of
 told_bytes left b e = ap bytes_of e
 
-pub usage_answers : (words : List (List ℕ)) (left : Option (List ℕ)) (text : List ℕ) (status : Status) → ((w l : ℕ) → RunWords words w l → ⊥) → text ≡ usage_text → status ≡ Words → Answers words left left text status
+pub usage_answers : (words : List (List ℕ)) (left : Option (List ℕ)) (text : List ℕ) (status : Status) → RefusesWords words → text ≡ usage_text → status ≡ Words → Answers words left left text status
 usage_answers words left text status never t s = record {
   comes = record { bytes = bytes_of left; told = told_bytes left; outcome = usage never t s };
   read = λ b e. e ∙ ap (λ z. Some (drop (most_read z) b)) (sym s);
@@ -41,11 +52,11 @@ many : (left : Option (List ℕ)) → ((b : List ℕ) → left ≡ Some b → 10
 many None h = let some = long 1048577 in record { bytes = some.0; told = λ b e. absurd (cc); more = omega (arith, some.1) }
 many (Some b) h = record { bytes = b; told = λ x e. cc; more = omega (arith, h b refl) }
 
-pub too_long_answers : (words : List (List ℕ)) (before after : Option (List ℕ)) (w l : ℕ) (text : List ℕ) (status : Status) → RunWords words w l → CutText before after → text ≡ refused_text first_place (codes "text") → status ≡ Refused → Answers words before after text status
-too_long_answers words before after w l text status named cut t s =
+pub too_long_answers : (words : List (List ℕ)) (before after : Option (List ℕ)) (text : List ℕ) (status : Status) → AcceptsWords words → CutText before after → text ≡ refused_text first_place (codes "text") → status ≡ Refused → Answers words before after text status
+too_long_answers words before after text status named cut t s =
     let m = many before cut.too_long in
     record {
-      comes = record { bytes = m.bytes; told = m.told; outcome = too_long w l named m.more t s };
+      comes = record { bytes = m.bytes; told = m.told; outcome = too_long named m.more t s };
       read = λ b e. cut.cut ∙ ap (left_after 1048577) e ∙ ap (λ z. Some (drop (most_read z) b)) (sym s);
     }
 
@@ -54,16 +65,37 @@ read_most (Faulted p b) = refl
 read_most (Cells store) = refl
 
 answered_read : {bytes : List ℕ} {limit : ℕ} {text : List ℕ} {status : Status} → IsAnswered bytes limit text status → most_read status ≡ 1048577
-answered_read (unbuilt never t s) = ap most_read s
 answered_read (answered tree reads good shows) = ap most_read shows.ended ∙ read_most _
+answered_read (refused place why never as_one t s) = ap most_read s
+answered_read (unbuilt tree never reads t s) = ap most_read s
 
-pub run_answers : (words : List (List ℕ)) (before after : Option (List ℕ)) (w l : ℕ) (bytes read text : List ℕ) (status : Status) → RunWords words w l → WholeText before after bytes → read ≡ bytes → IsAnswered read l text status → Answers words before after text status
-run_answers words before after w l bytes read text status named whole all h = record {
-  comes = record { bytes = bytes; told = whole.whole; outcome = run w l named whole.within (let P : List ℕ → Type 0 = λ z. IsAnswered z l text status in subst P all h) };
+shown_read : {bytes text : List ℕ} {status : Status} → IsShown bytes text status → most_read status ≡ 1048577
+shown_read (shown tree reads t s) = ap most_read s
+shown_read (not_shown place why as_one t s) = ap most_read s
+
+pub asks_accepted : (words : List (List ℕ)) (c : Command) → Asks words c → AcceptsWords words
+asks_accepted words (Run c) h = to_run c.workers c.limit h
+asks_accepted words Show h = to_show h
+
+pub asks_steps : (words : List (List ℕ)) (c : Command) → Asks words c → HasSteps c
+asks_steps words (Run c) h = h.some_limit
+asks_steps words Show h = tt
+
+commanded_read : (c : Command) (bytes text : List ℕ) (status : Status) → IsCommanded c bytes text status → most_read status ≡ 1048577
+commanded_read (Run c) bytes text status h = answered_read h
+commanded_read Show bytes text status h = shown_read h
+
+commanded : (words : List (List ℕ)) (c : Command) (bytes text : List ℕ) (status : Status) → Asks words c → length bytes ≤ 1048576 → IsCommanded c bytes text status → IsOutcome words bytes text status
+commanded words (Run c) bytes text status asked within h = run c.workers c.limit asked within h
+commanded words Show bytes text status asked within h = show asked within h
+
+pub command_answers : (words : List (List ℕ)) (before after : Option (List ℕ)) (c : Command) (bytes read text : List ℕ) (status : Status) → Asks words c → WholeText before after bytes → read ≡ bytes → IsCommanded c read text status → Answers words before after text status
+command_answers words before after c bytes read text status asked whole all h = record {
+  comes = record { bytes = bytes; told = whole.whole; outcome = commanded words c bytes text status asked whole.within (let P : List ℕ → Type 0 = λ z. IsCommanded c z text status in subst P all h) };
   read = λ b e.
       let same : bytes ≡ b = whole.whole b e in
       let within : length b ≤ 1048577 = subst (λ z. length z ≤ 1048577) same (omega (arith, whole.within)) in
-      whole.none_left b e ∙ ap (λ z. Some z) (sym (drop_all 1048577 b within)) ∙ ap (λ n. Some (drop n b)) (sym (answered_read h));
+      whole.none_left b e ∙ ap (λ z. Some z) (sym (drop_all 1048577 b within)) ∙ ap (λ n. Some (drop n b)) (sym (commanded_read c read text status h));
 }
 
 -- the statuses with which an outcome is written
@@ -84,14 +116,21 @@ answer_written (Cells store) = tt
 
 answered_written : (bytes : List ℕ) (limit : ℕ) (text : List ℕ) (status : Status) → IsAnswered bytes limit text status → Written status
 unfolding Written
-answered_written bytes limit text status (unbuilt never t s) = subst Written (sym s) tt
 answered_written bytes limit text status (answered tree reads good shows) = subst Written (sym shows.ended) (answer_written _)
+answered_written bytes limit text status (refused place why never as_one t s) = subst Written (sym s) tt
+answered_written bytes limit text status (unbuilt tree never reads t s) = subst Written (sym s) tt
+
+shown_written : (bytes text : List ℕ) (status : Status) → IsShown bytes text status → Written status
+unfolding Written
+shown_written bytes text status (shown tree reads t s) = subst Written (sym s) tt
+shown_written bytes text status (not_shown place why as_one t s) = subst Written (sym s) tt
 
 outcome_written : (words : List (List ℕ)) (bytes text : List ℕ) (status : Status) → IsOutcome words bytes text status → Written status
 unfolding Written
 outcome_written words bytes text status (usage never t s) = subst Written (sym s) tt
-outcome_written words bytes text status (too_long w l named more t s) = subst Written (sym s) tt
+outcome_written words bytes text status (too_long named more t s) = subst Written (sym s) tt
 outcome_written words bytes text status (run w l named within h) = answered_written _ _ _ _ h
+outcome_written words bytes text status (show named within h) = shown_written _ _ _ h
 
 written_headline : (words : List (List ℕ)) (status : Status) (before after : Moment) (text : List ℕ) → Written status → Answers words before.left after.left text status → after.taken ≡ taken_with before.taken text → Headline words status before after
 unfolding Written
@@ -108,3 +147,31 @@ written_headline words Memory before after text h a w = absurd h
 pub wrote_headline : (words : List (List ℕ)) (status : Status) (before after : Moment) (text : List ℕ) → Answers words before.left after.left text status → after.taken ≡ taken_with before.taken text → Headline words status before after
 wrote_headline words status before after text a w =
     written_headline words status before after text (outcome_written _ _ _ _ a.comes.outcome) a w
+
+no_reading : (status : Status) → Written status → status ≡ Reading → ⊥
+unfolding Written
+no_reading status w e = subst Written e w
+
+-- an answer never says that the source failed
+pub not_reading : (words : List (List ℕ)) (before after : Option (List ℕ)) (text : List ℕ) (status : Status) → Answers words before after text status → status ≡ Reading → ⊥
+not_reading words before after text status a e = no_reading status (outcome_written _ _ _ _ a.comes.outcome) e
+
+-- what a text that was not read comes to
+pub refused_shown : (bytes : List ℕ) (e : ReadError) (r : Result AnswerOf NoMemory) → IfOk r (λ a. IsNotRead e a.text.items a.status) → OnRefused e (RefusedAs bytes) → IfOk r (λ a. IsShown bytes a.text.items a.status)
+refused_shown bytes (NotRead place why) (Ok a) n h = not_shown place why.now h n.0 n.1
+refused_shown bytes Unread (Ok a) n h = absurd n
+refused_shown bytes e (Err m) n h = tt
+
+pub refused_answered : (bytes : List ℕ) (limit : ℕ) (e : ReadError) (r : Result AnswerOf NoMemory) → IfOk r (λ a. IsNotRead e a.text.items a.status) → IsUnbuilt bytes → OnRefused e (RefusedAs bytes) → IfOk r (λ a. IsAnswered bytes limit a.text.items a.status)
+refused_answered bytes limit (NotRead place why) (Ok a) n never h = refused place why.now never h n.0 n.1
+refused_answered bytes limit Unread (Ok a) n never h = absurd n
+refused_answered bytes limit e (Err m) n never h = tt
+
+pub unbuilt_answered : (bytes : List ℕ) (limit : ℕ) (place : Pos) (tree : Program) (r : Result AnswerOf NoMemory) → IfOk r (λ a. a.text.items ≡ refused_text place (codes "unbuilt")) → IfOk r (λ a. a.status ≡ Refused) → place ≡ first_word bytes → IsUnbuilt bytes → ReadsAs bytes tree → IfOk r (λ a. IsAnswered bytes limit a.text.items a.status)
+unbuilt_answered bytes limit place tree (Ok a) t s e never h = unbuilt tree never h (t ∙ ap (λ p. refused_text p (codes "unbuilt")) e) s
+unbuilt_answered bytes limit place tree (Err m) t s e never h = tt
+
+-- the answer of a refusal
+pub not_read_is : (place : Pos) (why : Bor (List ℕ)) (r : Result AnswerOf NoMemory) → IfOk r (λ a. a.text.items ≡ refused_text place why.now) → IfOk r (λ a. a.status ≡ Refused) → IfOk r (λ a. IsNotRead (NotRead place why) a.text.items a.status)
+not_read_is place why (Ok a) t s = (t, s)
+not_read_is place why (Err m) t s = tt

@@ -1,6 +1,6 @@
 //! What a text comes to.
 
-ghost use Rattle.std.specs.Prelude.{◌≡◌, ◌≤◌, [], length, map, IfOk, MatchOption};
+ghost use Rattle.std.specs.Prelude.{◌≡◌, ◌≤◌, [], length, map, IfErr, IfOk, MatchOption};
 ghost use Rattle.std.specs.Option.{option_copied};
 ghost use Rattle.jade_syntax.specs.CheckedProgram.{IsChecked};
 ghost use Rattle.jade_syntax.specs.Image.{program};
@@ -8,17 +8,24 @@ ghost use Rattle.jade_meaning.specs.Answer.{answer, Faulted, Cells};
 ghost use Rattle.jade_meaning.specs.Report.{report, Ascends};
 ghost use Rattle.jade_meaning.specs.Told.{told_answer, first_note, step_over};
 ghost use Rattle.jade_run.specs.Outcome.{fault_key};
-ghost use Rattle.jade_run.specs.Outcome.{IsAnswered, Shows};
+ghost use Rattle.jade_lexer.specs.Reading.{reading, Whole};
+ghost use Rattle.jade_syntax.specs.Small.{IsUnbuilt, first_word};
+ghost use Rattle.jade_run.specs.Outcome.{IsAnswered, IsNotRead, IsShown, OnRefused, ReadsAs, RefusedAs, Shows};
+ghost use Rattle.jade_run.specs.Texts.{refused_text};
 
 use crate::{Status, texts};
 use fault_order::{first, key_is_before, limit_place};
 use jade_base::{
-    Blame, FaultKind, FaultNote, FaultNotes, Memory, PartStep, PartSteps, Path, Report,
+    Blame, FaultKind, FaultNote, FaultNotes, Memory, PartStep, PartSteps, Path, Pos, Report,
 };
+use jade_layout::print_program;
+use jade_lexer::{LexError, Tokens, tokens};
 use jade_meaning::laws::{report_ascends, report_tells};
 use jade_meaning::serial_run;
+use jade_parser::{ParseError, parse};
 use jade_syntax::Checked;
 use jade_syntax::small::{SmallError, read_small};
+use jade_syntax::tree::Program;
 use std::alloc::Global;
 
 /// The blame of a task whose part passes the limit.
@@ -107,6 +114,83 @@ fn run_checked(alloc: Global, checked: &Checked, limit: u32) -> Result<Answer, M
     Ok(answer)
 }
 
+/// Why a text is no program: its place and the word for it, or want of memory, which says nothing
+/// of the text.
+#[derive(Clone, Copy, Debug)]
+pub enum ReadError {
+    Refused(Pos, &'static [u8]),
+    Memory,
+}
+
+/// The tokens of a text.
+fn tokens_of(alloc: Global, text: &[u8]) -> Result<Tokens<'_>, ReadError>
+    requires { length text.now ≤ 1048576 }
+    ensures whole { IfOk result (λ found. reading text.now ≡ Whole found) }
+    ensures refused { IfErr result (λ e. OnRefused e (RefusedAs text.now)) }
+{
+    match tokens(alloc, text) {
+        Ok(tokens) => Ok(tokens),
+        Err(LexError::Byte(pos)) => Err(ReadError::Refused(pos, b"byte")),
+        Err(LexError::Number(pos)) => Err(ReadError::Refused(pos, b"number")),
+        Err(LexError::Deep(pos)) => Err(ReadError::Refused(pos, b"deep")),
+        Err(LexError::Memory) => Err(ReadError::Memory),
+    }
+}
+
+/// The program of a text.
+fn program_of(alloc: Global, text: &[u8]) -> Result<Program, ReadError>
+    requires { length text.now ≤ 1048576 }
+    ensures read { IfOk result (ReadsAs text.now) }
+    ensures refused { IfErr result (λ e. OnRefused e (RefusedAs text.now)) }
+{
+    let tokens = match tokens_of(alloc, text) {
+        Ok(tokens) => tokens,
+        Err(error) => return Err(error),
+    };
+    match parse(alloc, &tokens) {
+        Ok(program) => Ok(program),
+        Err(ParseError::Token(pos)) => Err(ReadError::Refused(pos, b"token")),
+        Err(ParseError::Long(pos)) => Err(ReadError::Refused(pos, b"long")),
+        Err(ParseError::Memory) => Err(ReadError::Memory),
+    }
+}
+
+/// What a refused text is answered with.
+fn refused(alloc: Global, pos: Pos, why: &[u8]) -> Result<Answer, Memory>
+    ensures text { IfOk result (λ a. a.text.items ≡ refused_text pos why.now) }
+    ensures status { IfOk result (λ a. a.status ≡ Status.Refused) }
+{
+    Ok(Answer {
+        text: texts::refused(alloc, pos, why)?,
+        status: Status::Refused,
+    })
+}
+
+/// What a text that was not read is answered with.
+fn not_read(alloc: Global, error: ReadError) -> Result<Answer, Memory>
+    ensures { IfOk result (λ a. IsNotRead error a.text.items a.status) }
+{
+    match error {
+        ReadError::Refused(pos, why) => refused(alloc, pos, why),
+        ReadError::Memory => Err(Memory),
+    }
+}
+
+/// What a text comes to that is none of the programs that can be run, whose first word is at this
+/// place.
+fn not_run(alloc: Global, text: &[u8], first: Pos, limit: u32) -> Result<Answer, Memory>
+    requires within { length text.now ≤ 1048576 }
+    requires place { first ≡ first_word text.now }
+    requires unbuilt { IsUnbuilt text.now }
+    ensures { IfOk result (λ a. IsAnswered text.now limit a.text.items a.status) }
+{
+    let _program = match program_of(alloc, text) {
+        Ok(program) => program,
+        Err(error) => return not_read(alloc, error),
+    };
+    refused(alloc, first, b"unbuilt")
+}
+
 /// What a text of at most 1,048,576 bytes comes to, run with a limit.
 pub fn run_text(alloc: Global, text: &[u8], limit: u32) -> Result<Answer, Memory>
     requires some { 1 ≤ limit }
@@ -115,10 +199,21 @@ pub fn run_text(alloc: Global, text: &[u8], limit: u32) -> Result<Answer, Memory
 {
     match read_small(alloc, text) {
         Ok(checked) => Ok(run_checked(alloc, &checked, limit)?),
-        Err(SmallError::Unbuilt(pos)) => Ok(Answer {
-            text: texts::refused(alloc, pos, b"unbuilt")?,
-            status: Status::Refused,
-        }),
+        Err(SmallError::Unbuilt(pos)) => not_run(alloc, text, pos, limit),
         Err(SmallError::Memory) => Err(Memory),
+    }
+}
+
+/// What a text of at most 1,048,576 bytes comes to where it is shown.
+pub fn show_text(alloc: Global, text: &[u8]) -> Result<Answer, Memory>
+    requires { length text.now ≤ 1048576 }
+    ensures { IfOk result (λ a. IsShown text.now a.text.items a.status) }
+{
+    match program_of(alloc, text) {
+        Ok(program) => Ok(Answer {
+            text: print_program(alloc, &program)?,
+            status: Status::Good,
+        }),
+        Err(error) => not_read(alloc, error),
     }
 }

@@ -1,16 +1,16 @@
 //! The top call.
 
-ghost use Rattle.std.specs.Prelude.{◌≡◌, IfOk, IfErr, MatchResult, codes};
+ghost use Rattle.std.specs.Prelude.{◌≡◌, ◌≤◌, length, IfOk, IfErr, MatchResult, codes};
 ghost use Rattle.jade_run.specs.Headline.{Answers, Headline, Stops};
-ghost use Rattle.jade_run.specs.Outcome.{first_place};
+ghost use Rattle.jade_run.specs.Outcome.{first_place, HasSteps, IsCommanded};
 ghost use Rattle.jade_run.specs.Words.{RefusesWords};
 ghost use Rattle.jade_run.specs.Texts.{refused_text, usage_text};
 
-use crate::answer::{Answer, run_text};
+use crate::answer::{Answer, run_text, show_text};
 use crate::gate::Gate;
 use crate::status::Status;
 use crate::texts;
-use crate::words::run_command;
+use crate::words::{Command, command_of};
 use jade_base::{Memory, Pos, Sink, Source, TextError, Word, read_text, write_text};
 use std::alloc::Global;
 
@@ -50,14 +50,14 @@ fn answer<S: Source>(alloc: Global, words: &[Word], source: &mut S) -> Result<An
     ensures unread { RefusesWords words.now → (source.new ≡ source.old) × IfErr result (λ s. s ≡ Status.Memory) }
     ensures answer { MatchResult result (λ a. Answers words.now (S.left source.old) (S.left source.new) a.text.items a.status) (λ s. Stops s (S.faults source.old) (S.faults source.new)) }
 {
-    let Some(command) = run_command(words) else {
+    let Some(command) = command_of(words) else {
         return match usage(alloc) {
             Ok(answer) => Ok(answer),
             Err(Memory) => Err(Status::Memory),
         };
     };
     match read_text(alloc, source) {
-        Ok(text) => match run_text(alloc, &text, command.limit) {
+        Ok(text) => match of_text(alloc, command, &text) {
             Ok(answer) => Ok(answer),
             Err(Memory) => Err(Status::Memory),
         },
@@ -67,6 +67,18 @@ fn answer<S: Source>(alloc: Global, words: &[Word], source: &mut S) -> Result<An
         },
         Err(TextError::Failed) => Err(Status::Reading),
         Err(TextError::Memory) => Err(Status::Memory),
+    }
+}
+
+/// What a command comes to on a text of at most 1,048,576 bytes.
+fn of_text(alloc: Global, command: Command, text: &[u8]) -> Result<Answer, Memory>
+    requires within { length text.now ≤ 1048576 }
+    requires limit { HasSteps command }
+    ensures { IfOk result (λ a. IsCommanded command text.now a.text.items a.status) }
+{
+    match command {
+        Command::Run(run) => run_text(alloc, text, run.limit),
+        Command::Show => show_text(alloc, text),
     }
 }
 

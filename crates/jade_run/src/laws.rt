@@ -4,6 +4,7 @@ ghost use Rattle.std.specs.Prelude.{ℕ, List};
 ghost use Rattle.jade_run.specs.declared.status.Status.{Status};
 ghost use Rattle.jade_run.specs.Outcome.{IsOutcome, SameOutcome};
 
+use jade_parser::laws::{one_reading, spelled_alike};
 use jade_syntax::small::at_most_one;
 
 /// Words and a text come to one text and one status.
@@ -11,4 +12,6 @@ pub fn one_outcome()
     ensures { (words : List (List ℕ)) (bytes t u : List ℕ) (s r : Status) → IsOutcome words bytes t s → IsOutcome words bytes u r → SameOutcome t s u r }
 {
     at_most_one();
+    one_reading();
+    spelled_alike();
 }

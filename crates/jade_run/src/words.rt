@@ -2,7 +2,7 @@
 
 ghost use Rattle.std.specs.Prelude.{◌≡◌, ◌≢◌, ℕ, ◌<◌, ◌≤◌, ◌^◌, ◌↔◌, Some, IfSome, IfNone, IsTrue, MatchOption};
 ghost use Rattle.std.specs.Fmt.{decimal};
-ghost use Rattle.jade_run.specs.Words.{RefusesWords, RunWords, SpellsAmount};
+ghost use Rattle.jade_run.specs.Words.{Asks, RefusesWords, RunWords, SpellsAmount};
 
 use itoa::Buffer;
 use jade_base::Word;
@@ -67,21 +67,39 @@ pub struct RunCommand {
     pub limit: u32,
 }
 
-/// The command that the words spell; `None` exactly where they are not `run WORKERS LIMIT` with
-/// 1 to 64 workers and a limit of 1 to 4,294,967,295. It takes no memory.
-pub fn run_command(words: &[Word]) -> Option<RunCommand>
-    ensures { MatchOption result (RefusesWords words.now) (λ c. RunWords words.now c.workers c.limit) }
+/// What is asked for: that a text be run, or that the layout of its program be shown.
+#[derive(Clone, Copy, Debug, PartialEq, Eq)]
+pub enum Command {
+    Run(RunCommand),
+    Show,
+}
+
+/// What `run` asks for with these numbers of workers and steps.
+fn run_command(workers: &[u8], limit: &[u8]) -> Option<RunCommand>
+    ensures { MatchOption result ((w l : ℕ) → SpellsAmount workers.now 64 w → SpellsAmount limit.now 4294967295 l → ⊥) (λ c. SpellsAmount workers.now 64 c.workers × SpellsAmount limit.now 4294967295 c.limit) }
+{
+    let Some(workers) = amount_of(workers, MOST_WORKERS) else {
+        return None;
+    };
+    let Some(limit) = amount_of(limit, u32::MAX) else {
+        return None;
+    };
+    Some(RunCommand { workers, limit })
+}
+
+/// The command that the words spell; `None` exactly where they are neither `show` nor
+/// `run WORKERS LIMIT` with 1 to 64 workers and a limit of 1 to 4,294,967,295. It takes no memory.
+pub fn command_of(words: &[Word]) -> Option<Command>
+    ensures { MatchOption result (RefusesWords words.now) (Asks words.now) }
 {
     match words {
         [run, workers, limit] if is_text(run.bytes(), b"run") => {
-            let Some(workers) = amount_of(workers.bytes(), MOST_WORKERS) else {
-                return None;
-            };
-            let Some(limit) = amount_of(limit.bytes(), u32::MAX) else {
-                return None;
-            };
-            Some(RunCommand { workers, limit })
+            match run_command(workers.bytes(), limit.bytes()) {
+                Some(command) => Some(Command::Run(command)),
+                None => None,
+            }
         }
+        [show] if is_text(show.bytes(), b"show") => Some(Command::Show),
         _ => None,
     }
 }

@@ -1,7 +1,16 @@
-use Rattle.std.proofs.Common.{rules}
-use Rattle.jade_run.proofs.Calls.{wrote_headline}
+use Rattle.std.proofs.Common.{rules, ◌∙◌, sym}
+use Rattle.jade_run.proofs.Calls.{wrote_headline, not_reading}
 use Rattle.jade_run.proofs.call.jade_main.Goals as goal
 
 pub returns-in-Ok-write_text-clause-headline : goal.returns-in-Ok-write_text-clause-headline
 returns-in-Ok-write_text-clause-headline g c =
     wrote_headline _ _ _ _ c.in-Ok.answer.text.items c.in-Ok.ensures.answer (search rules)
+
+pub returns-in-Ok-write_text-clause-unread : goal.returns-in-Ok-write_text-clause-unread
+returns-in-Ok-write_text-clause-unread g c h = ((c.in-Ok.ensures.unread h).0, λ e. not_reading _ _ _ c.in-Ok.answer.text.items _ c.in-Ok.ensures.answer e)
+
+pub returns-in-Ok-clause-unread : goal.returns-in-Ok-clause-unread
+returns-in-Ok-clause-unread g c h = ((c.in-Ok.ensures.unread h).0, λ e. absurd (cc))
+
+pub returns-clause-unread : goal.returns-clause-unread
+returns-clause-unread g c h = ((c.in-Err.ensures.unread h).0, λ e. let m = sym e ∙ (c.in-Err.ensures.unread h).1 in absurd (cc))
