@@ -178,6 +178,7 @@ opens = record { marked = λ d c. opens_mark d c; opened = λ d c. opens_after d
     opens_mark : (d c : ℕ) → inner_mark d c Opens ≡ c + 1
     opens_mark zero c = refl
     opens_mark (suc d) c = refl
+
     opens_after : (d c : ℕ) → after_inside d c Opens ≡ Inside (suc d) (c + 1)
     opens_after zero c = refl
     opens_after (suc d) c = refl
@@ -188,6 +189,7 @@ indexes = record { marked = λ d c. indexes_mark d c; opened = λ d c. indexes_a
     indexes_mark : (d c : ℕ) → inner_mark d c Indexes ≡ c + 1
     indexes_mark zero c = refl
     indexes_mark (suc d) c = refl
+
     indexes_after : (d c : ℕ) → after_inside d c Indexes ≡ Inside (suc d) (c + 1)
     indexes_after zero c = refl
     indexes_after (suc d) c = refl
@@ -201,9 +203,9 @@ inner_bracketed p q {ps} o e h = record {
       let a : marks (Inside (suc d) (c + 1)) (tokens_of (ps ++ q ∷ []) ++ rest) ≡ marks (Inside (suc d) (c + 1)) (tokens_of ps ++ (q.token ∷ rest)) = simp (append_assoc, map-append) in
       let b : marks (Inside (suc d) k) (q.token ∷ rest) ≡ (k + 1) ∷ marks (Inside d (k + 1)) rest = ap (λ r. inner_mark (suc d) k r ∷ marks (after_inside (suc d) k r) rest) e in
       let f : marks (Inside d c) (p.token ∷ (tokens_of (ps ++ q ∷ []) ++ rest)) ≡ (c + 1) ∷ marks (Inside (suc d) (c + 1)) (tokens_of (ps ++ q ∷ []) ++ rest) =
-          ap (λ i. i ∷ marks (after_inside d c (role p.token)) (tokens_of (ps ++ q ∷ []) ++ rest)) (o.marked d c) ∙ ap (λ s. (c + 1) ∷ marks s (tokens_of (ps ++ q ∷ []) ++ rest)) (o.opened d c) in
+      ap (λ i. i ∷ marks (after_inside d c (role p.token)) (tokens_of (ps ++ q ∷ []) ++ rest)) (o.marked d c) ∙ ap (λ s. (c + 1) ∷ marks s (tokens_of (ps ++ q ∷ []) ++ rest)) (o.opened d c) in
       let g : n ++ ((k + 1) ∷ marks (Inside d (k + 1)) rest) ≡ nths (numbered (c + 1) (ps ++ q ∷ [])) ++ marks (Inside d (k + 1)) rest =
-          sym (append_assoc n ((k + 1) ∷ []) (marks (Inside d (k + 1)) rest)) ∙ ap (λ ms. ms ++ marks (Inside d (k + 1)) rest) (sym (numbers_append (c + 1) ps (q ∷ []))) in
+      sym (append_assoc n ((k + 1) ∷ []) (marks (Inside d (k + 1)) rest)) ∙ ap (λ ms. ms ++ marks (Inside d (k + 1)) rest) (sym (numbers_append (c + 1) ps (q ∷ []))) in
       f ∙ ap (λ ms. (c + 1) ∷ ms) (a ∙ h.by (suc d) (c + 1) (q.token ∷ rest) ∙ ap (λ ms. n ++ ms) b ∙ g)
       ∙ ap (λ j. (c + 1) ∷ (nths (numbered (c + 1) (ps ++ q ∷ [])) ++ marks (Inside d j) rest)) (sym (count_append (c + 1) ps (q ∷ [])));
 }

@@ -53,8 +53,8 @@ numbers_are : (p : Program) (read more : Parts) → program_parts p ≡ read ++ 
 numbers_are p read more e =
     let whole : marks Before (tokens_of (program_parts p)) ≡ nths (program_parts p) = ap (marks Before) (sym (append-nil (tokens_of (program_parts p)))) ∙ (program_goes p).by [] ∙ append-nil (nths (program_parts p)) in
     let a : nths read ++ nths more ≡ marks Before (tokens_of read) ++ marks (stands_after Before (tokens_of read)) (tokens_of more) =
-        sym (map-append (λ (q : Part). q.nth) read more) ∙ ap nths (sym e) ∙ sym whole ∙ ap (λ ps. marks Before (tokens_of ps)) e
-        ∙ ap (marks Before) (map-append (λ (q : Part). q.token) read more) ∙ marks_append Before (tokens_of read) (tokens_of more) in
+    sym (map-append (λ (q : Part). q.nth) read more) ∙ ap nths (sym e) ∙ sym whole ∙ ap (λ ps. marks Before (tokens_of ps)) e
+    ∙ ap (marks Before) (map-append (λ (q : Part). q.token) read more) ∙ marks_append Before (tokens_of read) (tokens_of more) in
     let n : length (nths read) ≡ length (marks Before (tokens_of read)) = length-map read _ ∙ sym (length-map read _) ∙ sym (marks_length Before (tokens_of read)) in
     same_front (nths read) (marks Before (tokens_of read)) _ _ n a
 
@@ -80,7 +80,7 @@ fine_less : (ts : List (List ℕ)) (i j : ℕ) → i ≤ j → fine (numbers ts 
 fine_less ts i j le e =
     let f = front i j ts le in
     let a : numbers ts j ≡ numbers ts i ++ marks (stands_after Before (map token_of_bytes (take i ts))) (map token_of_bytes f.more) =
-        ap (λ l. marks Before (map token_of_bytes l)) f.same ∙ ap (marks Before) (map-append token_of_bytes (take i ts) f.more) ∙ marks_append Before (map token_of_bytes (take i ts)) (map token_of_bytes f.more) in
+    ap (λ l. marks Before (map token_of_bytes l)) f.same ∙ ap (marks Before) (map-append token_of_bytes (take i ts) f.more) ∙ marks_append Before (map token_of_bytes (take i ts)) (map token_of_bytes f.more) in
     fine_front (numbers ts i) _ (ap fine (sym a) ∙ e)
 
 begun_fine : (ts : List (List ℕ)) (k : ℕ) → IsBegunShort (take k ts) → fine (numbers ts k) ≡ true
