@@ -17,3 +17,5 @@ pub use sure::run_in_memory;
 
 #[cfg(test)]
 mod tests;
+#[cfg(test)]
+mod worked_programs;

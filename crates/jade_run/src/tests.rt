@@ -109,7 +109,8 @@ fn refuses_words(rt: HostRuntime) -> Result<(), Fail> {
         "run 1 -0",
         "run +1 100",
         "run 1 100 7",
-        "show",
+        "show 1",
+        "Show",
         "check",
         "serial 100",
         "drill 1 1",
@@ -125,11 +126,40 @@ fn refuses_words(rt: HostRuntime) -> Result<(), Fail> {
 #[test]
 fn refuses_texts(rt: HostRuntime) -> Result<(), Fail> {
     for (text, want) in [
+        ("main { # }", "refused 1:8 byte\n"),
+        (
+            "main { int a = 9223372036854775808; }",
+            "refused 1:16 number\n",
+        ),
+        ("main { int a = 007; }", "refused 1:16 number\n"),
+        ("main {", "refused 1:7 token\n"),
+        ("", "refused 1:1 token\n"),
+        ("// a comment\n\t main { } main", "refused 2:12 token\n"),
+        (
+            "main { if true { } else if true { } }",
+            "refused 1:25 token\n",
+        ),
+        ("main { withonly { } do (a,) { } }", "refused 1:27 token\n"),
+        ("main { a == 1; }", "refused 1:10 token\n"),
+        (
+            "object s : 1; main { s[0] = 1; withonly { cm(s); } do () { } }",
+            "refused 1:43 token\n",
+        ),
+    ] {
+        for line in ["run 4 1000", "show"] {
+            let (taken, status) = answer(&rt, line, text)?;
+            assert_eq!(rt; taken.as_slice(), want.as_bytes(), "{line}: {text}");
+            assert_eq!(rt; status, Status::Refused, "{line}: {text}");
+        }
+    }
+    Ok(())
+}
+
+#[test]
+fn runs_no_other_forms_yet(rt: HostRuntime) -> Result<(), Fail> {
+    for (text, want) in [
         ("main { int a = 1; }", "refused 1:1 unbuilt\n"),
-        (" main {", "refused 1:2 unbuilt\n"),
-        ("", "refused 1:1 unbuilt\n"),
-        ("// a comment\n\t main { } main", "refused 2:3 unbuilt\n"),
-        ("object s : 0; main { }", "refused 1:1 unbuilt\n"),
+        (" object s : 0; main { }", "refused 1:2 unbuilt\n"),
         (
             "object s : 1; object s : 1; main { }",
             "refused 1:1 unbuilt\n",
@@ -143,12 +173,80 @@ fn refuses_texts(rt: HostRuntime) -> Result<(), Fail> {
     Ok(())
 }
 
+/// `main { int a = `, then the head, so many times the middle, and the tail.
+fn local_of(
+    alloc: Global,
+    head: &str,
+    middle: &str,
+    count: usize,
+    tail: &str,
+) -> Result<Vec<u8>, Fail> {
+    let mut text = Vec::from_slice(alloc, b"main { int a = ")?;
+    text.extend_from_slice(head.as_bytes())?;
+    for _ in 0..count {
+        text.extend_from_slice(middle.as_bytes())?;
+    }
+    text.extend_from_slice(tail.as_bytes())?;
+    Ok(text)
+}
+
+#[test]
+fn bounds_brackets_and_expressions(rt: HostRuntime) -> Result<(), Fail> {
+    let alloc = rt.alloc();
+    for (head, middle, count, tail, want) in [
+        ("", "(", 64usize, "", "refused 1:79 deep\n"),
+        ("", "(", 63, "", "refused 1:79 token\n"),
+        ("1", " + 1", 128, "; }", "refused 1:528 long\n"),
+    ] {
+        let words = words_of(alloc, "show")?;
+        let mut source = SureSource::new(local_of(alloc, head, middle, count, tail)?);
+        let mut sink = SureSink::new(alloc, 1024)?;
+        let status = run_in_memory(&rt, alloc, &words, &mut source, &mut sink, &EmptyGate);
+        assert_eq!(rt; sink.taken(), want.as_bytes());
+        assert_eq!(rt; status, Status::Refused);
+    }
+    let words = words_of(alloc, "show")?;
+    let mut source = SureSource::new(local_of(alloc, "1", " + 1", 127, "; }")?);
+    let mut sink = SureSink::new(alloc, 1024)?;
+    let status = run_in_memory(&rt, alloc, &words, &mut source, &mut sink, &EmptyGate);
+    assert_eq!(rt; status, Status::Good);
+    Ok(())
+}
+
+const COLUMN: &str = "input n;\nobjects col[4] : 2;\nmain {\n    for j in 0 .. 4 {\n        \
+                      withonly {\n            wr(col[j]);\n        } do (j) {\n            \
+                      col[j][0] = j * 10;\n            col[j][1] = n;\n        }\n    }\n    \
+                      for j in 1 .. 4 {\n        withonly {\n            rd(col[j - 1]);\n            \
+                      rd_wr(col[j]);\n        } do (j) {\n            \
+                      col[j][0] = col[j][0] + col[j - 1][0];\n        }\n    }\n}\n";
+
+#[test]
+fn shows_layouts(rt: HostRuntime) -> Result<(), Fail> {
+    for (text, want) in [
+        ("main{}", "main { }\n"),
+        (
+            SEVEN,
+            "object s : 1;\nmain {\n    withonly {\n        wr(s);\n    } do () {\n        s[0] = 7;\n    }\n}\n",
+        ),
+        (
+            "main { if ! true||false { int a=- 1; } else { } with { no_rd ( a ) ; } cont ; }",
+            "main {\n    if !true || false {\n        int a = -1;\n    } else { }\n    with {\n        no_rd(a);\n    } cont;\n}\n",
+        ),
+        (COLUMN, COLUMN),
+    ] {
+        let (taken, status) = answer(&rt, "show", text)?;
+        assert_eq!(rt; taken.as_slice(), want.as_bytes(), "{text}");
+        assert_eq!(rt; status, Status::Good, "{text}");
+    }
+    Ok(())
+}
+
 #[test]
 fn refuses_long_texts(rt: HostRuntime) -> Result<(), Fail> {
     let alloc = rt.alloc();
     for (count, want) in [
         (1_048_577usize, "refused 1:1 text\n"),
-        (1_048_576, "refused 1:1048577 unbuilt\n"),
+        (1_048_576, "refused 1:1048577 token\n"),
     ] {
         let words = words_of(alloc, "run 4 1000")?;
         let mut source = SureSource::new(Vec::from_elem(alloc, b' ', count)?);
