@@ -9,6 +9,7 @@ mod items;
 mod kinds;
 pub mod laws;
 mod leaves;
+mod lexicon;
 mod names;
 mod outer;
 #[cfg(test)]
