@@ -10,6 +10,7 @@ pub mod Proper
 pub mod Report
 pub mod Carry
 pub mod Direct
+pub mod Heard
 pub mod Links
 pub mod Tallied
 pub mod Perform

@@ -11,6 +11,7 @@ pub mod serial;
 #[cfg(test)]
 mod serial_tests;
 mod setting;
+mod source;
 mod statements;
 mod stop;
 mod tally;
