@@ -10,6 +10,7 @@ mod Covering
 mod Ranging
 mod Opening
 mod Chaining
+mod Listing
 mod Storing
 mod Performing
 mod Following

@@ -14,6 +14,8 @@ pub mod Heard
 pub mod Links
 pub mod Tallied
 pub mod Perform
+pub mod Frames
+pub mod Holding
 pub mod Scopes
 pub mod Drafts
 pub mod Told

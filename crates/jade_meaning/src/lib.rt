@@ -3,7 +3,9 @@
 
 mod draft;
 mod found;
+mod frames;
 mod grants;
+mod holds;
 pub mod laws;
 mod ledger;
 mod scope;
@@ -16,5 +18,9 @@ mod statements;
 mod stop;
 mod tally;
 pub mod values;
+pub mod walker;
+#[cfg(test)]
+mod walker_tests;
 
 pub use serial::{serial_program, serial_run};
+pub use walker::{Act, Carried, Walker};
