@@ -10,6 +10,8 @@ mod Covering
 mod Ranging
 mod Opening
 mod Chaining
+mod Framing
+mod Hearing
 mod Listing
 mod Storing
 mod Performing

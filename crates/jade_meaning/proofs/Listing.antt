@@ -8,7 +8,9 @@ use Rattle.jade_base.specs.Rights.{mode_of}
 use Rattle.jade_meaning.specs.declared.holds.Told.{Told}
 use Rattle.jade_meaning.specs.Specification.{Specification, numbers, objects, rights_on}
 use Rattle.jade_meaning.specs.Talk.{Task, Event, start_holds}
-use Rattle.jade_meaning.specs.Holding.{event_of, events_of}
+use Rattle.jade_meaning.specs.declared.holds.Listing.{Listing}
+use Rattle.jade_meaning.specs.declared.holds.Keeping.{Keeping}
+use Rattle.jade_meaning.specs.Holding.{event_of, events_of, listed, kept_as}
 
 append_nil : {A : Type 0} (xs : List A) → xs ++ [] ≡ xs
 append_nil [] = refl
@@ -55,3 +57,12 @@ numbers_later f o (suc n) = ap (λ xs. f (suc o) ∷ xs) (numbers_later f (suc o
 pub start_is : (spec : Specification) → map (λ o. mode_of (rights_on spec o)) (objects spec) ≡ start_holds spec
 start_is [] = refl
 start_is (a ∷ spec) = ap (λ hs. mode_of a ∷ hs) (numbers_later (λ o. mode_of (rights_on (a ∷ spec) o)) 0 (length spec) ∙ start_is spec)
+
+-- the same rights, hold and object
+pub listed_same : (kind : Listing) (a a' b b' : Rights) (h h' : Option Mode) (i i' : ℕ) → a ≡ a' → b ≡ b' → h ≡ h' → i ≡ i' → listed kind a b h i ≡ listed kind a' b' h' i'
+listed_same kind a a' b b' h h' i i' e f g k =
+    ap (λ x. listed kind x b h i) e ∙ ap (λ x. listed kind a' x h i) f ∙ ap (λ x. listed kind a' b' x i) g ∙ ap (λ x. listed kind a' b' h' x) k
+
+pub kept_same : (kind : Keeping) (a a' b b' : Rights) (h h' : Option Mode) → a ≡ a' → b ≡ b' → h ≡ h' → kept_as kind a b h ≡ kept_as kind a' b' h'
+kept_same kind a a' b b' h h' e f g =
+    ap (λ x. kept_as kind x b h) e ∙ ap (λ x. kept_as kind a' x h) f ∙ ap (λ x. kept_as kind a' b' x) g

@@ -271,7 +271,7 @@ impl<'c> Setting<'c> {
         answers: &[i64],
         run: &mut Running<'c>,
     ) -> Result<Deed<'c>, Memory>
-        ensures { IfOk result (λ deed. Did (shown self.now) answers.now deed (abstract.For name.now (expression range.0.now) (expression range.1.now) (block body.now)) run.old run.new) }
+        ensures { IfOk result (λ deed. Did (shown self.now) answers.now deed (abstract.For name.now (expression range.entry.0.now) (expression range.entry.1.now) (block body.now)) run.old run.new) }
     {
         let mut used = run.used;
         let (low, high) = range;
@@ -357,7 +357,7 @@ impl<'c> Setting<'c> {
         answers: &[i64],
         run: &mut Running<'c>,
     ) -> Result<Deed<'c>, Memory>
-        ensures { IfOk result (λ deed. DoesNext (shown self.now) answers.now deed (Frame.Doing statement) run.old run.new) }
+        ensures { IfOk result (λ deed. DoesNext (shown self.now) answers.now deed (Frame.Doing statement.entry) run.old run.new) }
     {
         match self.statement_deed(statement, answers, run)? {
             Deed::Asked(object, cell) => {
@@ -370,15 +370,16 @@ impl<'c> Setting<'c> {
 
     // The statements of a block from one on: the next one's step begins.
     fn rest(&self, block: &'c Block, next: usize, run: &mut Running<'c>) -> Result<Deed<'c>, Memory>
-        ensures { (vs : List ℤ) → IfOk result (λ deed. DoesNext (shown self.now) vs deed (Frame.Rest block next) run.old run.new) }
+        ensures { (vs : List ℤ) → IfOk result (λ deed. DoesNext (shown self.now) vs deed (Frame.Rest block.entry next) run.old run.new) }
     {
         if next < block.len() {
+            let statement = block.at(next);
             match run.task.tally.begin_step(self.limit) {
                 Ok(()) => {}
                 Err(blame) => return Ok(Deed::Ended(Some(blame))),
             }
             run.frames.push(Frame::Rest(block, next + 1))?;
-            run.frames.push(Frame::Doing(block.at(next)))?;
+            run.frames.push(Frame::Doing(statement))?;
             Ok(Deed::Stepped)
         } else {
             Ok(Deed::Silent)
@@ -393,7 +394,7 @@ impl<'c> Setting<'c> {
         range: (i64, i64),
         run: &mut Running<'c>,
     ) -> Result<Deed<'c>, Memory>
-        ensures { (vs : List ℤ) → IfOk result (λ deed. DoesNext (shown self.now) vs deed (Frame.Turning name body range.0 range.1) run.old run.new) }
+        ensures { (vs : List ℤ) → IfOk result (λ deed. DoesNext (shown self.now) vs deed (Frame.Turning name.entry body.entry range.0 range.1) run.old run.new) }
     {
         let (index, high) = range;
         if index < high {
@@ -419,7 +420,7 @@ impl<'c> Setting<'c> {
         body: &'c Block,
         run: &mut Running<'c>,
     ) -> Result<Deed<'c>, Memory>
-        ensures { (vs : List ℤ) → IfOk result (λ deed. DoesNext (shown self.now) vs deed (Frame.Creating at names body) run.old run.new) }
+        ensures { (vs : List ℤ) → IfOk result (λ deed. DoesNext (shown self.now) vs deed (Frame.Creating at names.entry body.entry) run.old run.new) }
     {
         let grants = self.end_building(&mut run.task)?;
         if !run.task.grants.covers(&grants) {
@@ -449,7 +450,7 @@ impl<'c> Setting<'c> {
         answers: &[i64],
         run: &mut Running<'c>,
     ) -> Result<Deed<'c>, Memory>
-        ensures { IfOk result (λ deed. DoesNext (shown self.now) answers.now deed frame run.old run.new) }
+        ensures { IfOk result (λ deed. DoesNext (shown self.now) answers.now deed frame.entry run.old run.new) }
     {
         match frame {
             Frame::Rest(block, next) => self.rest(block, next, run),

@@ -286,17 +286,27 @@ pub(crate) fn tell(
     ensures { OnOk result ((t : Task) → map (event_of t) events.new.items ≡ map (event_of t) events.old.items ++ all_listed kind old.now new.now holds.now) }
 {
     for object in 0..new.len() {
-        let told = listed(
-            kind,
-            old.on(object),
-            new.on(object),
-            holds.on(object),
-            named(object)?,
-        );
-        match told {
-            Some(told) => events.push(told)?,
-            None => {}
-        }
+        let id = named(object)?;
+        add(
+            events,
+            listed(
+                kind,
+                old.on(object),
+                new.on(object),
+                holds.on(object),
+                id,
+            ),
+        )?;
     }
     Ok(())
+}
+
+// An event more, if there is one.
+fn add(events: &mut Vec<Told>, told: Option<Told>) -> Result<(), Memory>
+    ensures { OnOk result ((t : Task) → map (event_of t) events.new.items ≡ map (event_of t) events.old.items ++ events_of t told) }
+{
+    match told {
+        Some(told) => Ok(events.push(told)?),
+        None => Ok(()),
+    }
 }

@@ -1,0 +1,13 @@
+use Rattle.std.proofs.Common.{◌≡◌, ◌+◌, ◌-◌, ◌++◌, ◌∷◌, [], List, map, length, drop, refl, ap, sym, ◌∙◌, Some, arith}
+use Rattle.jade_syntax.specs.Image.{expression, reference, object, block, action}
+use Rattle.jade_meaning.specs.Perform.{shown}
+use Rattle.jade_meaning.proofs.setting.Setting.statement_deed.Goals as goal
+
+pub returns-in-Local : goal.returns-in-Local
+returns-in-Local c = ?
+
+pub returns-in-Withonly : goal.returns-in-Withonly
+returns-in-Withonly c = ?
+
+pub returns-in-With : goal.returns-in-With
+returns-in-With c = ?
