@@ -7,7 +7,7 @@ use Rattle.jade_base.specs.declared.place.Pos.{Pos}
 use Rattle.jade_base.specs.declared.report.FaultKind.TheVariants.{Cover, Change}
 use Rattle.jade_base.specs.declared.report.Blame.{Blame}
 use Rattle.jade_base.specs.declared.rights.Rights.{Rights}
-use Rattle.jade_syntax.specs.declared.tree.ValueKind.TheVariants.{Int}
+use Rattle.jade_syntax.specs.declared.tree.ValueKind.{ValueKind}
 use Rattle.jade_syntax.specs.declared.tree.DeclareWord.{DeclareWord}
 use Rattle.jade_syntax.specs.declared.tree.Statement.{Statement}
 use Rattle.jade_syntax.specs.Abstract.{Name, Expression, Place, Action, Actions, Local, Assign, Store, If, IfElse, For, Withonly, With, Declare}
@@ -64,8 +64,8 @@ module _ (s : Setting) (vs : List ℤ) (r : Running) where
   after = frames_on s r.frames.items
 
   -- a local, and an assignment
-  pub local_told : (x : Name) (e : Expression) → Tells vs (told s.items r.task.scope r.task.grants (Answers vs) e r.used) (λ v. after (bind x v (mine_of r.task))) (from_action s vs (Local Int x e) r)
-  local_told x e = eval_tells s vs e (mine_of r.task) (λ v. after (bind x v (mine_of r.task))) r.used
+  pub local_told : (kind : ValueKind) (x : Name) (e : Expression) → Tells vs (told s.items r.task.scope r.task.grants (Answers vs) e r.used) (λ v. after (bind x v (mine_of r.task))) (from_action s vs (Local kind x e) r)
+  local_told kind x e = eval_tells s vs e (mine_of r.task) (λ v. after (bind x v (mine_of r.task))) r.used
 
   pub assign_told : (x : Name) (e : Expression) → Tells vs (told s.items r.task.scope r.task.grants (Answers vs) e r.used) (λ v. after (record (mine_of r.task) { env = assigned x v r.task.scope })) (from_action s vs (Assign x e) r)
   assign_told x e = eval_tells s vs e (mine_of r.task) (λ v. after (record (mine_of r.task) { env = assigned x v r.task.scope })) r.used
@@ -84,9 +84,9 @@ module _ (s : Setting) (vs : List ℤ) (r : Running) where
   declare_told how at o = find_tells s vs o (mine_of r.task) (λ f. declare r.task.draft how f.number at after (mine_of r.task)) r.used
 
   -- a local, once its value is heard
-  pub local_goes : (x : Name) (e : Expression) (v : Value) (k : ℕ) (env : Environment) → Got v k ≡ told s.items r.task.scope r.task.grants (Answers vs) e r.used → env ≡ record { name = x; value = v } ∷ r.task.scope → from_action s vs (Local Int x e) r ≡ fed (drop k vs) (after (record (mine_of r.task) { env = env }))
-  local_goes x e v k env h g =
-      heard_as vs (told s.items r.task.scope r.task.grants (Answers vs) e r.used) v k (λ v. after (bind x v (mine_of r.task))) (from_action s vs (Local Int x e) r) h (local_told x e)
+  pub local_goes : (kind : ValueKind) (x : Name) (e : Expression) (v : Value) (k : ℕ) (env : Environment) → Got v k ≡ told s.items r.task.scope r.task.grants (Answers vs) e r.used → env ≡ record { name = x; value = v } ∷ r.task.scope → from_action s vs (Local kind x e) r ≡ fed (drop k vs) (after (record (mine_of r.task) { env = env }))
+  local_goes kind x e v k env h g =
+      heard_as vs (told s.items r.task.scope r.task.grants (Answers vs) e r.used) v k (λ v. after (bind x v (mine_of r.task))) (from_action s vs (Local kind x e) r) h (local_told kind x e)
       ∙ ap (λ n. fed (drop k vs) (after (record (mine_of r.task) { env = n }))) (sym g)
 
   pub assign_goes : (x : Name) (e : Expression) (v : Value) (k : ℕ) (env : Environment) → Got v k ≡ told s.items r.task.scope r.task.grants (Answers vs) e r.used → env ≡ assigned x v r.task.scope → from_action s vs (Assign x e) r ≡ fed (drop k vs) (after (record (mine_of r.task) { env = env }))
@@ -120,11 +120,11 @@ module _ (s : Setting) (vs : List ℤ) (r : Running) where
   holds_goes body None v k h = ap (λ b. fed (drop k vs) (choose b (scoped (run_all s (block body)) after) after (mine_of r.task))) h
   holds_goes body (Some more) v k h = ap (λ b. fed (drop k vs) (choose b (scoped (run_all s (block body)) after) (scoped (run_all s (block more)) after) (mine_of r.task))) h
 
-  pub fails_goes : (body : List Statement) (v : Value) (k : ℕ) → holds v ≡ false → fed (drop k vs) (tested s after body None (mine_of r.task) v) ≡ fed (drop k vs) (after (mine_of r.task))
-  fails_goes body v k h = ap (λ b. fed (drop k vs) (choose b (scoped (run_all s (block body)) after) after (mine_of r.task))) h
+  pub fails_goes : (body : List Statement) (other : Option (List Statement)) (v : Value) (k : ℕ) → other ≡ None → holds v ≡ false → fed (drop k vs) (tested s after body other (mine_of r.task) v) ≡ fed (drop k vs) (after (mine_of r.task))
+  fails_goes body other v k e h = ap (λ x. fed (drop k vs) (tested s after body x (mine_of r.task) v)) e ∙ ap (λ b. fed (drop k vs) (choose b (scoped (run_all s (block body)) after) after (mine_of r.task))) h
 
-  pub other_goes : (body more : List Statement) (v : Value) (k : ℕ) → holds v ≡ false → fed (drop k vs) (tested s after body (Some more) (mine_of r.task) v) ≡ fed (drop k vs) (scoped (run_all s (block more)) after (mine_of r.task))
-  other_goes body more v k h = ap (λ b. fed (drop k vs) (choose b (scoped (run_all s (block body)) after) (scoped (run_all s (block more)) after) (mine_of r.task))) h
+  pub other_goes : (body more : List Statement) (other : Option (List Statement)) (v : Value) (k : ℕ) → other ≡ Some more → holds v ≡ false → fed (drop k vs) (tested s after body other (mine_of r.task) v) ≡ fed (drop k vs) (scoped (run_all s (block more)) after (mine_of r.task))
+  other_goes body more other v k e h = ap (λ x. fed (drop k vs) (tested s after body x (mine_of r.task) v)) e ∙ ap (λ b. fed (drop k vs) (choose b (scoped (run_all s (block body)) after) (scoped (run_all s (block more)) after) (mine_of r.task))) h
 
 -- a word of a section
 drafted_amend : (a : Option Rights) (spec : Specification) (o : ℕ) (at : Pos) (on : On) (m : Mine) (d : Draft) → amended_with a spec o at ≡ Ok d → amend a spec o at on m ≡ on (record m { draft = d })
@@ -206,8 +206,9 @@ module _ (s : Setting) (vs : List ℤ) (r : Running) where
       let rest : ℤ → On = λ z. turns s.limit (turn_count z high) z x (run_all s (block body)) onward in
       let left : ℤ → On = λ z n. rest z (record n { env = drop (length n.env - length r.task.scope) n.env }) in
       let turn : On = λ a. scoped (λ q b. run_all s (block body) q (bind x (IntOf i) b)) (rest (i +ℤ pos 1)) a in
+      let dropping : On → On = λ on n. on (record n { env = drop (length n.env - length r.task.scope) n.env }) in
       let low : frames_on s gs ≡ rest j = ap (frames_on s) e1 ∙ frames_pushed s r.frames.items f finish ∙ ef onward in
-      let middle : frames_on s hs ≡ left j = ap (frames_on s) e2 ∙ frames_pushed s gs g finish ∙ eg (frames_on s gs) ∙ ap (λ (on : On) (n : Mine). on (record n { env = drop (length n.env - length r.task.scope) n.env })) low in
+      let middle : frames_on s hs ≡ left j = ap (frames_on s) e2 ∙ frames_pushed s gs g finish ∙ eg (frames_on s gs) ∙ ap dropping low in
       let frames : frames_on s ks ≡ run_all s (block body) (left (i +ℤ pos 1)) = ap (frames_on s) e3 ∙ frames_pushed s hs k finish ∙ ek (frames_on s hs) ∙ ap (run_all s (block body)) (middle ∙ ap left next) in
       ap (λ n. begun_with vs (turns s.limit n i x (run_all s (block body)) onward) r) (turn_less i high less)
       ∙ step_goes turn lt
@@ -259,8 +260,8 @@ module _ (s : Setting) (vs : List ℤ) (r : Running) where
   abbrev follows : On
   follows = frames_on s r.frames.items
 
-  pub local_pauses : (x : Name) (e : Expression) (p : Pause) (d : Deed) → d ≡ paused_as p → stopped p ≡ told s.items r.task.scope r.task.grants (Answers vs) e r.used → Did s vs d (Local Int x e) r r
-  local_pauses x e p d h g = did_paused s vs (Local Int x e) r p d (told s.items r.task.scope r.task.grants (Answers vs) e r.used) (λ v. follows (bind x v (mine_of r.task))) h g (local_told s vs r x e)
+  pub local_pauses : (kind : ValueKind) (x : Name) (e : Expression) (p : Pause) (d : Deed) → d ≡ paused_as p → stopped p ≡ told s.items r.task.scope r.task.grants (Answers vs) e r.used → Did s vs d (Local kind x e) r r
+  local_pauses kind x e p d h g = did_paused s vs (Local kind x e) r p d (told s.items r.task.scope r.task.grants (Answers vs) e r.used) (λ v. follows (bind x v (mine_of r.task))) h g (local_told s vs r kind x e)
 
   pub assign_pauses : (x : Name) (e : Expression) (p : Pause) (d : Deed) → d ≡ paused_as p → stopped p ≡ told s.items r.task.scope r.task.grants (Answers vs) e r.used → Did s vs d (Assign x e) r r
   assign_pauses x e p d h g = did_paused s vs (Assign x e) r p d (told s.items r.task.scope r.task.grants (Answers vs) e r.used) (λ v. follows (record (mine_of r.task) { env = assigned x v r.task.scope })) h g (assign_told s vs r x e)
@@ -276,3 +277,11 @@ module _ (s : Setting) (vs : List ℤ) (r : Running) where
 
   pub declare_pauses : (how : DeclareWord) (at : Pos) (o : Place) (p : Pause) (d : Deed) → d ≡ paused_as p → stopped p ≡ told_place s.items r.task.scope r.task.grants (Answers vs) o r.used → Did s vs d (Declare how at o) r r
   declare_pauses how at o p d h g = did_paused s vs (Declare how at o) r p d (told_place s.items r.task.scope r.task.grants (Answers vs) o r.used) (λ f. declare r.task.draft how f.number at follows (mine_of r.task)) h g (declare_told s vs r how at o)
+
+-- the last frame of a task's frames comes first
+pub popped_goes : (s : Setting) (vs : List ℤ) (r : Running) (gs : List Frame) (f : Frame) → r.frames.items ≡ gs ++ f ∷ [] → course_of s vs r ≡ begun_with vs (frame_on s f (frames_on s gs)) r
+popped_goes s vs r gs f e = ap (λ on. fed (drop r.used vs) (on (mine_of r.task))) (ap (frames_on s) e ∙ frames_pushed s gs f finish)
+
+-- without frames the task ends
+pub none_goes : (s : Setting) (vs : List ℤ) (r : Running) → r.frames.items ≡ [] → course_of s vs r ≡ Ends None
+none_goes s vs r e = ap (λ fs. fed (drop r.used vs) (frames_on s fs (mine_of r.task))) e ∙ fed_ends (drop r.used vs) None

@@ -63,7 +63,7 @@ abbrev pub frame_on : Setting → Frame → On → On
 frame_on s (Rest b i) on = run_all s (block (drop i b.now)) on
 frame_on s (Doing a) on = run s (action a.now) on
 frame_on s (Leaving k) on = λ n. on (record n { env = drop (length n.env - k) n.env })
-frame_on s (Turning x body i high) on = turns s.limit (turn_count i high) i x.now (run_all s (block body.now)) on
+frame_on s (Turning x body r) on = turns s.limit (turn_count r.0 r.1) r.0 x.now (run_all s (block body.now)) on
 frame_on s (Creating at names body) on = create s at (map (λ n. n.name) names.now) (run_all s (block body.now) finish) on
 frame_on s Changing on = change on
 
@@ -92,7 +92,7 @@ abbrev pub deed_on : Setting → Deed → Course → Specification → Course
 deed_on s Silent c new = c
 deed_on s Stepped c new = Steps c
 deed_on s (Asked o a) c new = Reads o a (λ v. fed (v ∷ []) c)
-deed_on s (Wrote o a z) c new = Writes o a z c
+deed_on s (Wrote w) c new = Writes w.0 w.1 w.2 c
 deed_on s (Created n) c new = Creates n.grants (born_course s n) c
 deed_on s (Changed old) c new = Changes new c
 deed_on s (Ended b) c new = Ends b
@@ -115,7 +115,7 @@ Did s vs (Asked o c) a r q =
     (from_action s vs a r ≡ Reads o c (λ v. fed (v ∷ []) (from_action s vs a r))) × (q ≡ r)
 Did s vs Silent a r q = GoesOn s vs Silent (from_action s vs a r) q
 Did s vs Stepped a r q = GoesOn s vs Stepped (from_action s vs a r) q
-Did s vs (Wrote o c z) a r q = GoesOn s vs (Wrote o c z) (from_action s vs a r) q
+Did s vs (Wrote w) a r q = GoesOn s vs (Wrote w) (from_action s vs a r) q
 Did s vs (Created n) a r q = GoesOn s vs (Created n) (from_action s vs a r) q
 Did s vs (Changed old) a r q = GoesOn s vs (Changed old) (from_action s vs a r) q
 Did s vs (Ended b) a r q = GoesOn s vs (Ended b) (from_action s vs a r) q

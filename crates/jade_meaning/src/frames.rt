@@ -27,7 +27,7 @@ pub(crate) enum Frame<'c> {
     /// The end of a block's variables, so that so many stay.
     Leaving(usize),
     /// The turns of a loop, from a value of its variable on.
-    Turning(&'c Name, &'c Block, i64, i64),
+    Turning(&'c Name, &'c Block, (i64, i64)),
     /// The creation at the end of the section of a `withonly`.
     Creating(Pos, &'c NameList, &'c Block),
     /// The change at the end of the section of a `with`.
@@ -49,7 +49,7 @@ pub(crate) enum Deed<'c> {
     Silent,
     Stepped,
     Asked(usize, usize),
-    Wrote(usize, usize, i64),
+    Wrote((usize, usize, i64)),
     Created(Newborn<'c>),
     Changed(Grants),
     Ended(Option<Blame>),
@@ -83,7 +83,7 @@ impl<'c> Setting<'c> {
         answers: &[i64],
         run: &mut Running<'c>,
     ) -> Result<Deed<'c>, Memory>
-        ensures { IfOk result (λ deed. Did (shown self.now) answers.now deed (abstract.Local ValueKind.Int name.now (expression value.now)) run.old run.new) }
+        ensures { (kind : ValueKind) → IfOk result (λ deed. Did (shown self.now) answers.now deed (abstract.Local kind name.now (expression value.now)) run.old run.new) }
     {
         let mut used = run.used;
         match self.told(&run.task, &Cells::Answered(answers), &mut used, value) {
@@ -171,9 +171,9 @@ impl<'c> Setting<'c> {
     {
         let mut used = run.used;
         match self.stored(target, value, &run.task, &Cells::Answered(answers), &mut used) {
-            Ok((object, cell, number)) => {
+            Ok(written) => {
                 run.used = used;
-                Deed::Wrote(object, cell, number)
+                Deed::Wrote(written)
             }
             Err(pause) => paused(pause),
         }
@@ -276,8 +276,8 @@ impl<'c> Setting<'c> {
         let mut used = run.used;
         let (low, high) = range;
         match self.bounds(low, high, &run.task, &Cells::Answered(answers), &mut used) {
-            Ok((low, high)) => {
-                run.frames.push(Frame::Turning(name, body, low, high))?;
+            Ok(range) => {
+                run.frames.push(Frame::Turning(name, body, range))?;
                 run.used = used;
                 Ok(Deed::Silent)
             }
@@ -391,18 +391,18 @@ impl<'c> Setting<'c> {
         &self,
         name: &'c Name,
         body: &'c Block,
-        range: (i64, i64),
+        index: i64,
+        high: i64,
         run: &mut Running<'c>,
     ) -> Result<Deed<'c>, Memory>
-        ensures { (vs : List ℤ) → IfOk result (λ deed. DoesNext (shown self.now) vs deed (Frame.Turning name.entry body.entry range.0 range.1) run.old run.new) }
+        ensures { (vs : List ℤ) → IfOk result (λ deed. DoesNext (shown self.now) vs deed (Frame.Turning name.entry body.entry (index, high)) run.old run.new) }
     {
-        let (index, high) = range;
         if index < high {
             match run.task.tally.begin_step(self.limit) {
                 Ok(()) => {}
                 Err(blame) => return Ok(Deed::Ended(Some(blame))),
             }
-            run.frames.push(Frame::Turning(name, body, index + 1, high))?;
+            run.frames.push(Frame::Turning(name, body, (index + 1, high)))?;
             run.frames.push(Frame::Leaving(run.task.scope.len()))?;
             run.frames.push(Frame::Rest(body, 0))?;
             run.task.scope.bind(name, Value::IntOf(index))?;
@@ -459,8 +459,8 @@ impl<'c> Setting<'c> {
                 run.task.scope.leave(variables);
                 Ok(Deed::Silent)
             }
-            Frame::Turning(name, body, index, high) => {
-                self.turn_deed(name, body, (index, high), run)
+            Frame::Turning(name, body, range) => {
+                self.turn_deed(name, body, range.0, range.1, run)
             }
             Frame::Creating(at, names, body) => self.create_deed(at, names, body, run),
             Frame::Changing => self.change_deed(run),
@@ -476,7 +476,10 @@ impl<'c> Setting<'c> {
         ensures { IfOk result (λ deed. GoesOn (shown self.now) answers.now deed (course_of (shown self.now) answers.now run.old) run.new) }
     {
         match run.frames.pop() {
-            Some(frame) => self.frame_deed(frame, answers, run),
+            Some(frame) => {
+                let deed = self.frame_deed(frame, answers, run)?;
+                Ok(deed)
+            }
             None => Ok(Deed::Ended(None)),
         }
     }

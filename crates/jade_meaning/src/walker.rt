@@ -104,13 +104,13 @@ impl<'c> Setting<'c> {
     // A write.
     fn tell_write(
         &self,
-        object: usize,
-        cell: usize,
-        value: i64,
+        written: (usize, usize, i64),
         at: &mut Standing<'c>,
     ) -> Result<(), Memory> {
-        self.touch(object, at)?;
-        at.pending.push(Told::Write(named(object)?, short(cell)?, value))?;
+        self.touch(written.0, at)?;
+        let id = named(written.0)?;
+        let cell = short(written.1)?;
+        at.pending.push(Told::Write(id, cell, written.2))?;
         Ok(())
     }
 
@@ -154,7 +154,7 @@ impl<'c> Setting<'c> {
             Deed::Silent => Ok(()),
             Deed::Stepped => Ok(()),
             Deed::Asked(object, cell) => self.tell_read(object, cell, at),
-            Deed::Wrote(object, cell, value) => self.tell_write(object, cell, value, at),
+            Deed::Wrote(written) => self.tell_write(written, at),
             Deed::Created(newborn) => self.tell_creation(newborn, at),
             Deed::Changed(old) => self.tell_change(&old, at),
             Deed::Ended(blame) => self.tell_end(blame, at),
