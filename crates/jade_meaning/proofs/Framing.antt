@@ -241,9 +241,9 @@ module _ (s : Setting) (vs : List ℤ) (r : Running) where
       ∙ fed_ends (drop r.used vs) (Some (blame_at Cover at))
 
   -- the task's own rights change
-  pub change_goes : (t : Task) → t ≡ changed r.task → begun_with vs (change onward) r ≡ Changes t.grants (fed (drop r.used vs) (onward (mine_of t)))
-  change_goes t e =
-      fed_changes (drop r.used vs) (changed r.task).grants (onward (mine_of (changed r.task))) ∙ ap (λ u. Changes u.grants (fed (drop r.used vs) (onward (mine_of u)))) (sym e)
+  pub change_goes : (t : Task) (new : Specification) → t ≡ changed r.task → new ≡ t.grants → begun_with vs (change onward) r ≡ Changes new (fed (drop r.used vs) (onward (mine_of t)))
+  change_goes t new e g =
+      fed_changes (drop r.used vs) (changed r.task).grants (onward (mine_of (changed r.task))) ∙ ap (λ u. Changes u.grants (fed (drop r.used vs) (onward (mine_of u)))) (sym e) ∙ ap (λ n. Changes n (fed (drop r.used vs) (onward (mine_of t)))) (sym g)
 
 -- a statement that waits stays to be done
 pub did_next : (s : Setting) (vs : List ℤ) (a : Action) (r q : Running) (o c : ℕ) (hs : List Frame) (f : Frame) → (from_action s vs a r ≡ Reads o c (λ v. fed (v ∷ []) (from_action s vs a r))) × (q ≡ r) → hs ≡ q.frames.items ++ f ∷ [] → ((on : On) → frame_on s f on ≡ run s a on) → from_action s vs a r ≡ Reads o c (λ v. fed (v ∷ []) (fed (drop q.used vs) (frames_on s hs (mine_of q.task))))

@@ -87,19 +87,19 @@ course_of s vs r = begun_with vs (frames_on s r.frames.items) r
 abbrev pub born_course : Setting → Newborn → Course
 born_course s n = run_all s (block n.body.now) finish (child_start n.scope n.grants)
 
--- a deed, and then what follows, where the task then has these rights
-abbrev pub deed_on : Setting → Deed → Course → Specification → Course
-deed_on s Silent c new = c
-deed_on s Stepped c new = Steps c
-deed_on s (Asked o a) c new = Reads o a (λ v. fed (v ∷ []) c)
-deed_on s (Wrote w) c new = Writes w.0 w.1 w.2 c
-deed_on s (Created n) c new = Creates n.grants (born_course s n) c
-deed_on s (Changed old) c new = Changes new c
-deed_on s (Ended b) c new = Ends b
+-- a deed, and then what follows
+abbrev pub deed_on : Setting → Deed → Course → Course
+deed_on s Silent c = c
+deed_on s Stepped c = Steps c
+deed_on s (Asked o a) c = Reads o a (λ v. fed (v ∷ []) c)
+deed_on s (Wrote w) c = Writes w.0 w.1 w.2 c
+deed_on s (Created n) c = Creates n.grants (born_course s n) c
+deed_on s (Changed new) c = Changes new c
+deed_on s (Ended b) c = Ends b
 
 -- a deed is what a course begins with
 abbrev pub GoesOn : Setting → List ℤ → Deed → Course → Running → Type 0
-GoesOn s vs deed c r = c ≡ deed_on s deed (course_of s vs r) r.task.grants
+GoesOn s vs deed c r = c ≡ deed_on s deed (course_of s vs r)
 
 -- a frame above the others is done by a deed
 abbrev pub DoesNext : Setting → List ℤ → Deed → Frame → (before after : Running) → Type 0

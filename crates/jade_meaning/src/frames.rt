@@ -1,6 +1,7 @@
 //! What is left of a task, as a stack of frames, and what it does next.
 
-ghost use Rattle.std.specs.Prelude.{◌≡◌, List, ℤ, map, IfOk, OnOk};
+ghost use Rattle.std.specs.Prelude.{◌≡◌, List, ℤ, pos, ◌+ℤ◌, ◌<ℤ◌, ◌≤ℤ◌, true, false, map, IfOk, OnOk};
+ghost use Rattle.jade_meaning.specs.declared.values.Value.TheVariants.{IntOf};
 ghost use Rattle.jade_syntax.specs.declared.tree.ValueKind.{ValueKind};
 ghost use Rattle.jade_syntax.specs.Image.{expression, reference, object, action, block};
 ghost use Rattle.jade_syntax.specs.Abstract as abstract;
@@ -43,7 +44,7 @@ pub(crate) struct Newborn<'c> {
 }
 
 /// What a task does next: nothing that others see, the beginning of a step, a read that has no
-/// answer yet, a write, a creation, a change from these rights, or its end.
+/// answer yet, a write, a creation, a change to these rights, or its end.
 #[derive(Drop)]
 pub(crate) enum Deed<'c> {
     Silent,
@@ -62,6 +63,29 @@ pub(crate) struct Running<'c> {
     pub(crate) task: Task<'c>,
     pub(crate) frames: Vec<Frame<'c>>,
     pub(crate) used: usize,
+}
+
+// Whether a number of a range is left.
+fn is_left(range: (i64, i64)) -> bool
+    ensures left { result ≡ true → range.0 <ℤ range.1 }
+    ensures over { result ≡ false → range.1 ≤ℤ range.0 }
+{
+    range.0 < range.1
+}
+
+// The first number of a range, as a value.
+fn first_of(range: (i64, i64)) -> Value
+    ensures { result ≡ IntOf range.0 }
+{
+    Value::IntOf(range.0)
+}
+
+// A range without its first number.
+fn after_first(range: (i64, i64)) -> (i64, i64)
+    requires { range.0 <ℤ range.1 }
+    ensures { result ≡ (range.0 +ℤ pos 1, range.1) }
+{
+    (range.0 + 1, range.1)
 }
 
 // What a pause lets a task do.
@@ -322,7 +346,10 @@ impl<'c> Setting<'c> {
         ensures { IfOk result (λ deed. Did (shown self.now) answers.now deed (action statement.now) run.old run.new) }
     {
         match statement {
-            Statement::Local { name, value, .. } => self.local_deed(name, value, answers, run),
+            Statement::Local { name, value, .. } => {
+                let deed = self.local_deed(name, value, answers, run)?;
+                Ok(deed)
+            }
             Statement::Assign { name, value, .. } => Ok(self.assign_deed(name, value, answers, run)),
             Statement::Store { target, value } => Ok(self.store_deed(target, value, answers, run)),
             Statement::If {
@@ -342,8 +369,14 @@ impl<'c> Setting<'c> {
                 section,
                 names,
                 body,
-            } => self.withonly_deed(*pos, section, names, body, run),
-            Statement::With { pos, section } => self.with_deed(*pos, section, run),
+            } => {
+                let deed = self.withonly_deed(*pos, section, names, body, run)?;
+                Ok(deed)
+            }
+            Statement::With { pos, section } => {
+                let deed = self.with_deed(*pos, section, run)?;
+                Ok(deed)
+            }
             Statement::Declare { word, pos, object } => {
                 Ok(self.declare_deed(*word, *pos, object, answers, run))
             }
@@ -391,21 +424,20 @@ impl<'c> Setting<'c> {
         &self,
         name: &'c Name,
         body: &'c Block,
-        index: i64,
-        high: i64,
+        range: (i64, i64),
         run: &mut Running<'c>,
     ) -> Result<Deed<'c>, Memory>
-        ensures { (vs : List ℤ) → IfOk result (λ deed. DoesNext (shown self.now) vs deed (Frame.Turning name.entry body.entry (index, high)) run.old run.new) }
+        ensures { (vs : List ℤ) → IfOk result (λ deed. DoesNext (shown self.now) vs deed (Frame.Turning name.entry body.entry range) run.old run.new) }
     {
-        if index < high {
+        if is_left(range) {
             match run.task.tally.begin_step(self.limit) {
                 Ok(()) => {}
                 Err(blame) => return Ok(Deed::Ended(Some(blame))),
             }
-            run.frames.push(Frame::Turning(name, body, (index + 1, high)))?;
+            run.frames.push(Frame::Turning(name, body, after_first(range)))?;
             run.frames.push(Frame::Leaving(run.task.scope.len()))?;
             run.frames.push(Frame::Rest(body, 0))?;
-            run.task.scope.bind(name, Value::IntOf(index))?;
+            run.task.scope.bind(name, first_of(range))?;
             Ok(Deed::Stepped)
         } else {
             Ok(Deed::Silent)
@@ -438,9 +470,9 @@ impl<'c> Setting<'c> {
     fn change_deed(&self, run: &mut Running<'c>) -> Result<Deed<'c>, Memory>
         ensures { (vs : List ℤ) → IfOk result (λ deed. DoesNext (shown self.now) vs deed Frame.Changing run.old run.new) }
     {
-        let before = run.task.grants.copy(self.alloc)?;
         self.end_amending(&mut run.task)?;
-        Ok(Deed::Changed(before))
+        let new = run.task.grants.copy(self.alloc)?;
+        Ok(Deed::Changed(new))
     }
 
     // The next thing that is left to do.
@@ -460,7 +492,8 @@ impl<'c> Setting<'c> {
                 Ok(Deed::Silent)
             }
             Frame::Turning(name, body, range) => {
-                self.turn_deed(name, body, range.0, range.1, run)
+                let deed = self.turn_deed(name, body, range, run)?;
+                Ok(deed)
             }
             Frame::Creating(at, names, body) => self.create_deed(at, names, body, run),
             Frame::Changing => self.change_deed(run),
