@@ -11,6 +11,7 @@ mod Ranging
 mod Opening
 mod Chaining
 mod Framing
+mod Standings
 mod Hearing
 mod Listing
 mod Storing

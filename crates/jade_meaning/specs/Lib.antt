@@ -16,6 +16,7 @@ pub mod Tallied
 pub mod Perform
 pub mod Frames
 pub mod Holding
+pub mod Standing
 pub mod Scopes
 pub mod Drafts
 pub mod Told

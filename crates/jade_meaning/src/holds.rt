@@ -208,7 +208,7 @@ fn when(test: bool, told: Told) -> Option<Told>
 }
 
 // An object is taken in a mode, where there is one.
-fn take_in(mode: Option<Mode>, object: ObjectId) -> Option<Told>
+pub(crate) fn take_in(mode: Option<Mode>, object: ObjectId) -> Option<Told>
     ensures { (t : Task) → events_of t result ≡ take_in mode object.0 }
 {
     match mode {
@@ -302,7 +302,7 @@ pub(crate) fn tell(
 }
 
 // An event more, if there is one.
-fn add(events: &mut Vec<Told>, told: Option<Told>) -> Result<(), Memory>
+pub(crate) fn add(events: &mut Vec<Told>, told: Option<Told>) -> Result<(), Memory>
     ensures { OnOk result ((t : Task) → map (event_of t) events.new.items ≡ map (event_of t) events.old.items ++ events_of t told) }
 {
     match told {

@@ -14,6 +14,7 @@ pub mod serial;
 mod serial_tests;
 mod setting;
 mod source;
+mod standing;
 mod statements;
 mod stop;
 mod tally;

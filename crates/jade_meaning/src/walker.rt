@@ -2,14 +2,14 @@
 
 use crate::draft::Draft;
 use crate::found::Declared;
-use crate::frames::{Deed, Frame, Newborn, Running};
+use crate::frames::{Frame, Newborn, Running};
 use crate::grants::Grants;
-use crate::holds::{Holds, Keeping, Listing, Told, named, tell};
+use crate::holds::{Holds, Keeping, Listing, Told, tell};
 use crate::scope::Scope;
 use crate::serial::inputs;
 use crate::setting::{Setting, Task};
+use crate::standing::{Stage, Standing};
 use crate::tally::Tally;
-use access_spec::mode_of;
 use jade_base::{Blame, Memory, Mode, ObjectId, Rights};
 use jade_syntax::Checked;
 use jade_syntax::tree::{Block, Program};
@@ -40,24 +40,6 @@ pub enum Carried {
     Ended(Option<Blame>, u64),
 }
 
-// Where a task comes once what is pending is told.
-#[derive(Clone, Copy)]
-enum Stage {
-    Going,
-    Asking(ObjectId, u32),
-    Over,
-}
-
-// Where a task stands: it goes on from here once what is pending is told.
-#[derive(Drop)]
-struct Standing<'c> {
-    run: Running<'c>,
-    holds: Holds,
-    pending: Vec<Told>,
-    newborn: Newborn<'c>,
-    stage: Stage,
-}
-
 /// A task that tells its events one after another.
 #[derive(Drop)]
 pub struct Walker<'c> {
@@ -81,98 +63,6 @@ impl<'c> Setting<'c> {
             limit: self.limit,
         })
     }
-
-    // What a touched object is taken for, where it is not held.
-    fn touch(&self, object: usize, at: &mut Standing<'c>) -> Result<(), Memory> {
-        let mode = mode_of(at.run.task.grants.on(object));
-        match (at.holds.on(object), mode) {
-            (None, Some(mode)) => at.pending.push(Told::Take(named(object)?, mode))?,
-            (None, None) => {}
-            (Some(_), _) => {}
-        }
-        at.holds.set(object, mode);
-        Ok(())
-    }
-
-    // A read that has no answer yet.
-    fn tell_read(&self, object: usize, cell: usize, at: &mut Standing<'c>) -> Result<(), Memory> {
-        self.touch(object, at)?;
-        at.stage = Stage::Asking(named(object)?, short(cell)?);
-        Ok(())
-    }
-
-    // A write.
-    fn tell_write(
-        &self,
-        written: (usize, usize, i64),
-        at: &mut Standing<'c>,
-    ) -> Result<(), Memory> {
-        self.touch(written.0, at)?;
-        let id = named(written.0)?;
-        let cell = short(written.1)?;
-        at.pending.push(Told::Write(id, cell, written.2))?;
-        Ok(())
-    }
-
-    // A creation.
-    fn tell_creation(&self, newborn: Newborn<'c>, at: &mut Standing<'c>) -> Result<(), Memory> {
-        let child = &newborn.grants;
-        tell(Listing::CreationGives, child, child, &at.holds, &mut at.pending)?;
-        tell(Listing::Enters, child, child, &at.holds, &mut at.pending)?;
-        at.pending
-            .push(Told::Enroll(u64::from(at.run.task.tally.part())))?;
-        at.holds = at.holds.next(self.alloc, Keeping::AtCreation, child, child)?;
-        at.run.task.tally.begin_part()?;
-        at.newborn = newborn;
-        Ok(())
-    }
-
-    // A change of the task's own rights.
-    fn tell_change(&self, old: &Grants, at: &mut Standing<'c>) -> Result<(), Memory> {
-        let new = &at.run.task.grants;
-        tell(Listing::ChangeGives, old, new, &at.holds, &mut at.pending)?;
-        tell(Listing::Shifts, old, new, &at.holds, &mut at.pending)?;
-        tell(Listing::ChangeTakes, old, new, &at.holds, &mut at.pending)?;
-        at.holds = at.holds.next(self.alloc, Keeping::AtChange, old, new)?;
-        Ok(())
-    }
-
-    // The end.
-    fn tell_end(&self, blame: Option<Blame>, at: &mut Standing<'c>) -> Result<(), Memory> {
-        let grants = &at.run.task.grants;
-        tell(Listing::EndGives, grants, grants, &at.holds, &mut at.pending)?;
-        tell(Listing::EndLeaves, grants, grants, &at.holds, &mut at.pending)?;
-        at.pending
-            .push(Told::Resign(blame, u64::from(at.run.task.tally.part())))?;
-        at.stage = Stage::Over;
-        Ok(())
-    }
-
-    // What a deed tells.
-    fn tell_deed(&self, deed: Deed<'c>, at: &mut Standing<'c>) -> Result<(), Memory> {
-        match deed {
-            Deed::Silent => Ok(()),
-            Deed::Stepped => Ok(()),
-            Deed::Asked(object, cell) => self.tell_read(object, cell, at),
-            Deed::Wrote(written) => self.tell_write(written, at),
-            Deed::Created(newborn) => self.tell_creation(newborn, at),
-            Deed::Changed(old) => self.tell_change(&old, at),
-            Deed::Ended(blame) => self.tell_end(blame, at),
-        }
-    }
-
-    // Goes on until there is something to tell. A task that is silent for so many steps that they
-    // cannot be counted is want of memory.
-    fn advance(&self, answers: &[i64], at: &mut Standing<'c>) -> Result<(), Memory> {
-        for _ in 0..u64::MAX {
-            if is_ready(at) {
-                return Ok(());
-            }
-            let deed = self.deed(answers, &mut at.run)?;
-            self.tell_deed(deed, at)?;
-        }
-        Err(Memory)
-    }
 }
 
 // What stands for a child where there is none.
@@ -181,26 +71,6 @@ fn nobody<'c>(alloc: Global, body: &'c Block) -> Newborn<'c> {
         scope: Scope::empty(alloc),
         grants: Grants::empty(alloc),
         body,
-    }
-}
-
-// Whether there is something to tell.
-fn is_ready(at: &Standing) -> bool {
-    if at.pending.len() > 0 {
-        return true;
-    }
-    match at.stage {
-        Stage::Going => false,
-        Stage::Asking(..) => true,
-        Stage::Over => true,
-    }
-}
-
-// A number of a cell; the error is want of numbers.
-fn short(cell: usize) -> Result<u32, Memory> {
-    match u32::try_from(cell) {
-        Ok(cell) => Ok(cell),
-        Err(_) => Err(Memory),
     }
 }
 
@@ -232,7 +102,9 @@ impl<'c> Standing<'c> {
         };
         let mut at = Standing {
             run,
+            grants: grants.copy(alloc)?,
             holds,
+            part: 0,
             pending,
             newborn: nobody(alloc, body),
             stage: Stage::Going,
@@ -256,7 +128,9 @@ impl<'c> Standing<'c> {
         };
         Ok(Standing {
             run,
+            grants: self.grants.copy(alloc)?,
             holds: self.holds.copy(alloc)?,
+            part: self.part,
             pending: Vec::new(alloc),
             newborn: nobody(alloc, self.newborn.body),
             stage: Stage::Going,
