@@ -12,6 +12,7 @@ mod Opening
 mod Chaining
 mod Framing
 mod Standings
+mod Walking
 mod Hearing
 mod Listing
 mod Storing

@@ -16,11 +16,15 @@ use Rattle.jade_meaning.specs.declared.standing.Standing.{Standing}
 use Rattle.jade_meaning.specs.declared.standing.Stage.{Stage}
 use Rattle.jade_meaning.specs.declared.standing.Stage.TheVariants.{Going, Asking, Over}
 use Rattle.jade_meaning.specs.Specification.{Specification}
-use Rattle.jade_meaning.specs.Course.{Course, Reads, Setting}
-use Rattle.jade_meaning.specs.Talk.{Task, Event, TouchWrite, Enroll, Resign, Holds, first_take, touched, creation_gives, enters, kept, change_gives, shifts, change_takes, changed, end_gives, end_leaves, events}
-use Rattle.jade_meaning.specs.Frames.{fed, deed_on, course_of}
+use Rattle.jade_meaning.specs.Course.{Course, Environment, On, Reads, Setting, run_all, finish, child_start}
+use Rattle.jade_meaning.specs.Perform.{mine_of}
+use Rattle.jade_syntax.specs.declared.tree.Statement.{Statement}
+use Rattle.jade_syntax.specs.Image.{block}
+use Rattle.jade_meaning.specs.declared.frames.Frame.{Frame}
+use Rattle.jade_meaning.specs.Talk.{Task, Event, talk, start_takes, start_holds, TouchWrite, Enroll, Resign, Holds, first_take, touched, creation_gives, enters, kept, change_gives, shifts, change_takes, changed, end_gives, end_leaves, events}
+use Rattle.jade_meaning.specs.Frames.{fed, deed_on, course_of, frame_on, frames_on}
 use Rattle.jade_meaning.specs.Holding.{event_of, all_listed}
-use Rattle.jade_meaning.specs.Standing.{newborn_task, later, pending_of, ahead, ready, taken_first, TellsDeed}
+use Rattle.jade_meaning.specs.Standing.{newborn_task, later, pending_of, ahead, ready, over, taken_first, task_from, Resumes, TellsDeed}
 
 -- what a deed tells, part by part
 abbrev pub TellsAs : Setting → Deed → Standing → Running → Specification → Holds → (part : ℕ) → List Told → Newborn → Stage → Type 0
@@ -122,12 +126,37 @@ one_deed s given t u v d run e going h same told vs =
     ∙ ap (λ (y : Running). map (event_of (newborn_task s v.newborn)) v.pending.items ++ later v.stage (course_of s given y) v.grants v.holds v.part vs) (sym (told.1 ∙ ap (λ (y : Standing). y.run) same))
 
 -- nothing to tell: nothing is pending, and the task goes on
-pub idle : (ps : List Told) (stage : Stage) → ready ps stage ≡ false → (ps ≡ []) × (stage ≡ Going)
-idle (e ∷ es) stage h = absurd (cc)
-idle [] Going h = (refl, refl)
-idle [] (Asking o a) h = absurd (cc)
-idle [] Over h = absurd (cc)
+pub idle : (ps : List Told) (stage : Stage) → ready ps stage ≡ false → over stage ≡ false → (ps ≡ []) × (stage ≡ Going)
+idle (e ∷ es) stage h g = absurd (cc)
+idle [] Going h g = (refl, refl)
+idle [] (Asking o a) h g = absurd (cc)
+idle [] Over h g = absurd (cc)
 
 -- the same hold, mode and object
 pub touched_same : (h h' m m' : Option Mode) (i i' : ℕ) → h ≡ h' → m ≡ m' → i ≡ i' → taken_first h m i ≡ taken_first h' m' i'
 touched_same h h' m m' i i' e f g = ap (λ x. taken_first x m i) e ∙ ap (λ x. taken_first h' x i) f ∙ ap (taken_first h' m') g
+
+-- a task that begins
+pub begins_as : (s : Setting) (env : Environment) (spec : Specification) (body : List Statement) (t : Standing) (f : Frame) → ((on : On) → frame_on s f on ≡ run_all s (block body) on) → t.run.frames.items ≡ f ∷ [] → t.run.used ≡ 0 → mine_of t.run.task ≡ child_start env spec → t.grants ≡ spec → t.holds ≡ start_holds spec → t.part ≡ 0 → ((w : Task) → pending_of w t ≡ start_takes spec) → t.stage ≡ Going → (vs : List ℤ) → talk (task_from s env spec body) vs ≡ ahead s [] t 0 vs
+begins_as s env spec body t f ef e u m g h n p going vs =
+    let W : Task = newborn_task s t.newborn in
+    let C : Course = run_all s (block body) finish (child_start env spec) in
+    let course : course_of s [] t.run ≡ C = ap (λ k. fed (drop k []) (frames_on s t.run.frames.items (mine_of t.run.task))) u ∙ ap (λ fs. frames_on s fs (mine_of t.run.task)) e ∙ ap (λ on. on (mine_of t.run.task)) (ef finish) ∙ ap (run_all s (block body) finish) m in
+    ap (λ xs. xs ++ events C spec (start_holds spec) 0 vs) (sym (p W))
+    ∙ ap (λ x. pending_of W t ++ events C x (start_holds spec) 0 vs) (sym g)
+    ∙ ap (λ x. pending_of W t ++ events C t.grants x 0 vs) (sym h)
+    ∙ ap (λ x. pending_of W t ++ events C t.grants t.holds x vs) (sym n)
+    ∙ ap (λ x. pending_of W t ++ events x t.grants t.holds t.part vs) (sym course)
+    ∙ ap (λ x. pending_of W t ++ later x (course_of s [] t.run) t.grants t.holds t.part vs) (sym going)
+
+-- a task that goes on once all is told
+pub resumes_as : (s : Setting) (given : List ℤ) (t u : Standing) → Resumes t u → (vs : List ℤ) → events (course_of s given t.run) t.grants t.holds t.part vs ≡ ahead s given u 0 vs
+resumes_as s given t u r vs =
+    let W : Task = newborn_task s u.newborn in
+    let course : course_of s given u.run ≡ course_of s given t.run = ap (λ x. fed (drop u.run.used given) (frames_on s u.run.frames.items (mine_of x))) r.0 ∙ ap (λ x. fed (drop u.run.used given) (frames_on s x (mine_of t.run.task))) r.1 ∙ ap (λ x. fed (drop x given) (frames_on s t.run.frames.items (mine_of t.run.task))) r.2 in
+    ap (λ x. events x t.grants t.holds t.part vs) (sym course)
+    ∙ ap (λ x. events (course_of s given u.run) x t.holds t.part vs) (sym r.3)
+    ∙ ap (λ x. events (course_of s given u.run) u.grants x t.part vs) (sym r.4)
+    ∙ ap (λ x. events (course_of s given u.run) u.grants u.holds x vs) (sym r.5)
+    ∙ ap (λ x. later x (course_of s given u.run) u.grants u.holds u.part vs) (sym r.7)
+    ∙ ap (λ x. map (event_of W) x ++ later u.stage (course_of s given u.run) u.grants u.holds u.part vs) (sym r.6)

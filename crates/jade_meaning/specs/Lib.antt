@@ -17,6 +17,9 @@ pub mod Perform
 pub mod Frames
 pub mod Holding
 pub mod Standing
+pub mod Stands
+pub mod Walks
+pub mod Walk
 pub mod Scopes
 pub mod Drafts
 pub mod Told

@@ -8,7 +8,9 @@ use Rattle.jade_meaning.specs.declared.standing.Standing.{Standing}
 use Rattle.jade_meaning.specs.declared.standing.Stage.{Stage}
 use Rattle.jade_meaning.specs.declared.standing.Stage.TheVariants.{Going, Asking, Over}
 use Rattle.jade_meaning.specs.Specification.{Specification}
-use Rattle.jade_meaning.specs.Course.{Course, Setting}
+use Rattle.jade_syntax.specs.declared.tree.Statement.{Statement}
+use Rattle.jade_syntax.specs.Image.{block}
+use Rattle.jade_meaning.specs.Course.{Course, Environment, Setting, run_all, finish, child_start}
 use Rattle.jade_meaning.specs.Talk.{Task, Event, TouchRead, Wants, Holds, take_in, first_take, touched, events}
 use Rattle.jade_meaning.specs.Frames.{fed, course_of, born_course, deed_on}
 use Rattle.jade_meaning.specs.Holding.{event_of}
@@ -46,7 +48,22 @@ abbrev pub ready : List Told → Stage → Bool
 ready (e ∷ es) stage = true
 ready [] Going = false
 ready [] (Asking o a) = true
-ready [] Over = true
+ready [] Over = false
+
+-- whether the end is told
+abbrev pub over : Stage → Bool
+over Going = false
+over (Asking o a) = false
+over Over = true
+
+-- a task of these variables and rights
+abbrev pub task_from : Setting → Environment → Specification → List Statement → Task
+task_from s env spec body = record { spec = spec; course = run_all s (block body) finish (child_start env spec) }
+
+-- a task once what is pending is told
+abbrev pub Resumes : (before after : Standing) → Type 0
+Resumes t u =
+    (u.run.task ≡ t.run.task) × (u.run.frames.items ≡ t.run.frames.items) × (u.run.used ≡ t.run.used) × (u.grants ≡ t.grants) × (u.holds ≡ t.holds) × (u.part ≡ t.part) × (u.pending.items ≡ []) × (u.stage ≡ Going)
 
 -- a deed is told: its events are pending, and the run is as it was
 abbrev pub TellsDeed : Setting → Deed → (before after : Standing) → Type 0

@@ -3,17 +3,22 @@
 ghost use Rattle.std.specs.Prelude.{◌≡◌, ◌++◌, ◌∷◌, [], true, List, ℤ, map, IfOk, OnOk};
 ghost use Rattle.jade_meaning.specs.Course.{Setting as SettingOf};
 ghost use Rattle.jade_meaning.specs.Perform.{shown};
-ghost use Rattle.jade_meaning.specs.Talk.{Task as TaskOf, first_take, touched};
-ghost use Rattle.jade_meaning.specs.Holding.{event_of, events_of};
-ghost use Rattle.jade_meaning.specs.Standing.{taken_first, pending_of, ahead, IsIdle, ready, TellsDeed};
+ghost use Rattle.jade_meaning.specs.Talk.{Task as TaskOf, first_take, touched, events, talk};
+ghost use Rattle.jade_meaning.specs.Frames.{course_of};
+ghost use Rattle.jade_meaning.specs.Holding.{events_of};
+ghost use Rattle.jade_meaning.specs.Standing.{taken_first, pending_of, ahead, IsIdle, ready, over, task_from, Resumes, TellsDeed};
 
+use crate::draft::Draft;
 use crate::frames::{Deed, Frame, Newborn, Running};
 use crate::grants::Grants;
 use crate::holds::{Holds, Keeping, Listing, Told, add, named, take_in, tell};
 use crate::scope::Scope;
-use crate::setting::Setting;
+use crate::setting::{Setting, Task};
+use crate::tally::Tally;
 use access_spec::mode_of;
 use jade_base::{Blame, Memory, Mode, ObjectId};
+use jade_syntax::tree::Block;
+use std::alloc::Global;
 
 /// Where a task comes once what is pending is told.
 #[derive(Clone, Copy)]
@@ -174,6 +179,9 @@ impl<'c> Setting<'c> {
             if is_ready(at) {
                 return Ok(());
             }
+            if is_over(at) {
+                return Err(Memory);
+            }
             let deed = self.deed(answers, &mut at.run)?;
             self.tell_deed(deed, at)?;
         }
@@ -225,10 +233,142 @@ fn is_ready(at: &Standing) -> bool
 {
     if at.pending.is_empty() {
         match at.stage {
-            Stage::Going => false,
-            Stage::Asking(..) | Stage::Over => true,
+            Stage::Asking(..) => true,
+            Stage::Going | Stage::Over => false,
         }
     } else {
         true
     }
+}
+
+// Whether the task has told its end, after which nothing is asked of it.
+pub(crate) fn is_over(at: &Standing) -> bool
+    ensures { result ≡ over at.now.stage }
+{
+    match at.stage {
+        Stage::Over => true,
+        Stage::Going | Stage::Asking(..) => false,
+    }
+}
+
+// What stands for a child where there is none.
+fn nobody<'c>(alloc: Global, body: &'c Block) -> Newborn<'c> {
+    Newborn {
+        scope: Scope::empty(alloc),
+        grants: Grants::empty(alloc),
+        body,
+    }
+}
+
+// What a task has of its own once more.
+fn same_task<'c>(alloc: Global, task: &Task<'c>) -> Result<Task<'c>, Memory>
+    ensures { IfOk result (λ copy. copy ≡ task.now) }
+{
+    Ok(Task {
+        scope: task.scope.copy(alloc)?,
+        grants: task.grants.copy(alloc)?,
+        draft: task.draft.copy(alloc)?,
+        tally: task.tally.copy(),
+    })
+}
+
+// The same run once more.
+fn same_run<'c>(alloc: Global, run: &Running<'c>) -> Result<Running<'c>, Memory>
+    ensures { IfOk result (λ copy. (copy.task ≡ run.now.task) × (copy.frames.items ≡ run.now.frames.items) × (copy.used ≡ run.now.used)) }
+{
+    let task = same_task(alloc, &run.task)?;
+    let frames = Vec::from_slice(alloc, run.frames.as_slice())?;
+    Ok(Running {
+        task,
+        frames,
+        used: run.used,
+    })
+}
+
+// A task once what is pending is told.
+fn resumed<'c>(alloc: Global, at: &Standing<'c>) -> Result<Standing<'c>, Memory>
+    ensures { IfOk result (λ t. Resumes at.now t) }
+{
+    let run = same_run(alloc, &at.run)?;
+    let grants = at.grants.copy(alloc)?;
+    let holds = at.holds.copy(alloc)?;
+    Ok(Standing {
+        run,
+        grants,
+        holds,
+        part: at.part,
+        pending: Vec::new(alloc),
+        newborn: nobody(alloc, at.newborn.body),
+        stage: Stage::Going,
+    })
+}
+
+/// Where a task stands once it goes on with these answers, after all that is pending is told.
+pub(crate) fn onward<'c>(
+    setting: &Setting<'c>,
+    at: &Standing<'c>,
+    answers: &[i64],
+) -> Result<Standing<'c>, Memory>
+    ensures same { IfOk result (λ t. (vs : List ℤ) → events (course_of (shown setting.now) answers.now at.now.run) at.now.grants at.now.holds at.now.part vs ≡ ahead (shown setting.now) answers.now t 0 vs) }
+    ensures ready { IfOk result (λ t. ready t.pending.items t.stage ≡ true) }
+{
+    let mut next = resumed(setting.alloc, at)?;
+    setting.advance(answers, &mut next)?;
+    Ok(next)
+}
+
+// A task before its first event.
+fn unbegun<'c>(
+    setting: &Setting<'c>,
+    scope: &Scope<'c>,
+    grants: &Grants,
+    body: &'c Block,
+) -> Result<Standing<'c>, Memory>
+    ensures { IfOk result (λ t. (vs : List ℤ) → talk (task_from (shown setting.now) scope.now grants.now body.now) vs ≡ ahead (shown setting.now) [] t 0 vs) }
+{
+    let alloc = setting.alloc;
+    let mut frames = Vec::new(alloc);
+    frames.push(Frame::Rest(body, 0))?;
+    let none = Holds::empty(alloc);
+    let mut pending = Vec::new(alloc);
+    tell(Listing::StartTakes, grants, grants, &none, &mut pending)?;
+    let holds = none.next(alloc, Keeping::AtStart, grants, grants)?;
+    let own = scope.copy(alloc)?;
+    let rights = grants.copy(alloc)?;
+    let same = grants.copy(alloc)?;
+    let task = Task {
+        scope: own,
+        grants: rights,
+        draft: Draft::absent(alloc),
+        tally: Tally::start(),
+    };
+    let run = Running {
+        task,
+        frames,
+        used: 0,
+    };
+    Ok(Standing {
+        run,
+        grants: same,
+        holds,
+        part: 0,
+        pending,
+        newborn: nobody(alloc, body),
+        stage: Stage::Going,
+    })
+}
+
+/// A task at its first event.
+pub(crate) fn begun<'c>(
+    setting: &Setting<'c>,
+    scope: &Scope<'c>,
+    grants: &Grants,
+    body: &'c Block,
+) -> Result<Standing<'c>, Memory>
+    ensures same { IfOk result (λ t. (vs : List ℤ) → talk (task_from (shown setting.now) scope.now grants.now body.now) vs ≡ ahead (shown setting.now) [] t 0 vs) }
+    ensures ready { IfOk result (λ t. ready t.pending.items t.stage ≡ true) }
+{
+    let mut at = unbegun(setting, scope, grants, body)?;
+    setting.advance(&[], &mut at)?;
+    Ok(at)
 }
