@@ -19,7 +19,9 @@ use Rattle.jade_meaning.specs.Holding.{event_of}
 use Rattle.jade_meaning.specs.Standing.{newborn_task, later, ahead, ready, over, task_from}
 use Rattle.jade_meaning.specs.Stands.{Stands}
 use Rattle.jade_meaning.specs.Walks.{Walk}
-use Rattle.jade_meaning.specs.Walk.{First, act_of, carried_of, read_of, Passes, Bears, IsChildOf, enrolls, creates, task_of, upcoming}
+use Rattle.jade_meaning.specs.declared.frames.Newborn.{Newborn}
+use Rattle.jade_syntax.specs.declared.tree.Item.{Item}
+use Rattle.jade_meaning.specs.Walk.{setting_of, begun_as, First, act_of, carried_of, read_of, Passes, Bears, IsChildOf, enrolls, creates, task_of, upcoming}
 use Rattle.jade_meaning.proofs.Cells.{drop_at}
 use Rattle.jade_meaning.proofs.Hearing.{fed_append}
 
@@ -189,3 +191,18 @@ pub left_ready : (ps : List Told) (k : ℕ) (stage : Stage) → k < length ps �
 left_ready [] k stage h = absurd (omega arith)
 left_ready (p ∷ ps) zero stage h = refl
 left_ready (p ∷ ps) (suc k) stage h = left_ready ps k stage (omega arith)
+
+-- a child that begins with what a creation hands on
+pub is_child : (v : Walk) (nb : Newborn) (items : List Item) (given : Environment) (limit : ℕ) (env : Environment) (spec : Specification) (child : Walk) → child ≡ begun_as items given limit env spec nb.body.now → items ≡ v.items → given ≡ v.given → limit ≡ v.limit → env ≡ nb.scope → spec ≡ nb.grants → IsChildOf v (newborn_task (setting_of v) nb) child
+is_child v nb items given limit env spec child e a b c d f =
+    let body = nb.body.now in
+    let same : child ≡ begun_as v.items v.given v.limit nb.scope nb.grants body =
+      e ∙ ap (λ x. begun_as x given limit env spec body) a ∙ ap (λ x. begun_as v.items x limit env spec body) b ∙ ap (λ x. begun_as v.items v.given x env spec body) c ∙ ap (λ x. begun_as v.items v.given v.limit x spec body) d ∙ ap (λ x. begun_as v.items v.given v.limit nb.scope x body) f in
+    record {
+      task = ap task_of same;
+      items = ap (λ (w : Walk). w.items) same;
+      given = ap (λ (w : Walk). w.given) same;
+      limit = ap (λ (w : Walk). w.limit) same;
+      answers = ap (λ (w : Walk). w.answers) same;
+      done = ap (λ (w : Walk). w.done) same;
+    }

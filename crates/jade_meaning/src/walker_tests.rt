@@ -1,7 +1,5 @@
 //! The talk of a whole program, walked event by event.
 
-ghost use Rattle.std.specs.Prelude.{◌≡◌, ◌≤◌, [], length, IfOk};
-
 use crate::serial_tests::{child, number, program, put, store, unary};
 use crate::walker::{Act, Carried, Walker};
 use jade_base::{Memory, Mode, ObjectId, Pos, Right, Rights};
@@ -40,7 +38,10 @@ fn next_number(alloc: Global) -> Result<Expr, Fail> {
         rest: Sequence::empty(alloc),
     };
     let one = Product {
-        first: unary(alloc, Atom::Whole(jade_syntax::tree::Number { value: 1, pos: AT })),
+        first: unary(
+            alloc,
+            Atom::Whole(jade_syntax::tree::Number { value: 1, pos: AT }),
+        ),
         rest: Sequence::empty(alloc),
     };
     put(&mut sum.rest, (SumOp::Plus, AT, one))?;
@@ -71,40 +72,82 @@ fn pass<'c>(
     Ok(())
 }
 
-#[test]
-fn walks_a_task_and_its_child(rt: HostRuntime) -> Result<(), Fail> {
-    let alloc = rt.alloc();
+// The task of `main` as far as its child.
+fn walk_to_child<'c>(
+    rt: &impl Abort,
+    alloc: Global,
+    walker: &mut Walker<'c>,
+) -> Result<Option<Walker<'c>>, Memory> {
+    pass(
+        rt,
+        alloc,
+        walker,
+        Act::Take(S),
+        Carried::Mode(Mode::Writing),
+    )?;
+    pass(rt, alloc, walker, Act::Give(S), Carried::Nothing)?;
+    pass(rt, alloc, walker, Act::Enter(S), Carried::Rights(WRITES))?;
+    assert_eq!(rt; walker.next(), Act::Enroll);
+    assert_eq!(rt; walker.carried(), Carried::Steps(2));
+    walker.go_on(alloc, None)
+}
+
+// A task that writes this number and ends.
+fn walk_write<'c>(
+    rt: &impl Abort,
+    alloc: Global,
+    walker: &mut Walker<'c>,
+    number: i64,
+) -> Result<(), Memory> {
+    pass(rt, alloc, walker, Act::Touch, Carried::Write(S, 0, number))?;
+    pass(rt, alloc, walker, Act::Give(S), Carried::Nothing)?;
+    pass(rt, alloc, walker, Act::Leave(S), Carried::Nothing)?;
+    assert_eq!(rt; walker.next(), Act::Resign);
+    assert_eq!(rt; walker.carried(), Carried::Ended(None, 1));
+    Ok(())
+}
+
+// The first cell is taken for writing.
+fn walk_take<'c>(rt: &impl Abort, alloc: Global, walker: &mut Walker<'c>) -> Result<(), Memory> {
+    pass(
+        rt,
+        alloc,
+        walker,
+        Act::Take(S),
+        Carried::Mode(Mode::Writing),
+    )
+}
+
+// The first cell is read, and holds five.
+fn walk_read<'c>(rt: &impl Abort, alloc: Global, walker: &mut Walker<'c>) -> Result<(), Memory> {
+    assert_eq!(rt; walker.next(), Act::Touch);
+    assert_eq!(rt; walker.carried(), Carried::Read(S, 0));
+    let none = walker.go_on(alloc, Some(5))?;
+    assert!(rt; none.is_none());
+    Ok(())
+}
+
+// A task that creates a child which writes five, and then adds one.
+fn writing_program(alloc: Global) -> Result<Block, Fail> {
     let mut main = Block::empty(alloc);
     put(
         &mut main,
         child(alloc, DeclareWord::Wr, store(alloc, 0, number(alloc, 5))?)?,
     )?;
     put(&mut main, store(alloc, 0, next_number(alloc)?)?)?;
-    let program = program(alloc, main)?;
+    Ok(main)
+}
+
+#[test]
+fn walks_a_task_and_its_child(rt: HostRuntime) -> Result<(), Fail> {
+    let alloc = rt.alloc();
+    let program = program(alloc, writing_program(alloc)?)?;
     let mut root = Walker::of_program(alloc, &program, &[], 100)?;
-    let walker = &mut root;
-    pass(&rt, alloc, walker, Act::Take(S), Carried::Mode(Mode::Writing))?;
-    pass(&rt, alloc, walker, Act::Give(S), Carried::Nothing)?;
-    pass(&rt, alloc, walker, Act::Enter(S), Carried::Rights(WRITES))?;
-    assert_eq!(rt; walker.next(), Act::Enroll);
-    assert_eq!(rt; walker.carried(), Carried::Steps(2));
-    let mut born = walker.go_on(alloc, None)?.ok_or("no child")?;
-    pass(&rt, alloc, walker, Act::Take(S), Carried::Mode(Mode::Writing))?;
-    assert_eq!(rt; walker.next(), Act::Touch);
-    assert_eq!(rt; walker.carried(), Carried::Read(S, 0));
-    let none = walker.go_on(alloc, Some(5))?;
-    assert!(rt; none.is_none());
-    pass(&rt, alloc, walker, Act::Touch, Carried::Write(S, 0, 6))?;
-    pass(&rt, alloc, walker, Act::Give(S), Carried::Nothing)?;
-    pass(&rt, alloc, walker, Act::Leave(S), Carried::Nothing)?;
-    assert_eq!(rt; walker.next(), Act::Resign);
-    assert_eq!(rt; walker.carried(), Carried::Ended(None, 1));
-    let walker = &mut born;
-    pass(&rt, alloc, walker, Act::Take(S), Carried::Mode(Mode::Writing))?;
-    pass(&rt, alloc, walker, Act::Touch, Carried::Write(S, 0, 5))?;
-    pass(&rt, alloc, walker, Act::Give(S), Carried::Nothing)?;
-    pass(&rt, alloc, walker, Act::Leave(S), Carried::Nothing)?;
-    assert_eq!(rt; walker.next(), Act::Resign);
-    assert_eq!(rt; walker.carried(), Carried::Ended(None, 1));
+    let mut born = walk_to_child(&rt, alloc, &mut root)?.ok_or("no child")?;
+    walk_take(&rt, alloc, &mut root)?;
+    walk_read(&rt, alloc, &mut root)?;
+    walk_write(&rt, alloc, &mut root, 6)?;
+    walk_take(&rt, alloc, &mut born)?;
+    walk_write(&rt, alloc, &mut born, 5)?;
     Ok(())
 }
