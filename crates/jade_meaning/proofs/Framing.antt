@@ -59,7 +59,6 @@ tested s on body None m v = choose (holds v) (scoped (run_all s (block body)) on
 tested s on body (Some other) m v = choose (holds v) (scoped (run_all s (block body)) on) (scoped (run_all s (block other)) on) m
 
 module _ (s : Setting) (vs : List ℤ) (r : Running) where
-
   abbrev after : On
   after = frames_on s r.frames.items
 
@@ -249,7 +248,7 @@ module _ (s : Setting) (vs : List ℤ) (r : Running) where
 pub did_next : (s : Setting) (vs : List ℤ) (a : Action) (r q : Running) (o c : ℕ) (hs : List Frame) (f : Frame) → (from_action s vs a r ≡ Reads o c (λ v. fed (v ∷ []) (from_action s vs a r))) × (q ≡ r) → hs ≡ q.frames.items ++ f ∷ [] → ((on : On) → frame_on s f on ≡ run s a on) → from_action s vs a r ≡ Reads o c (λ v. fed (v ∷ []) (fed (drop q.used vs) (frames_on s hs (mine_of q.task))))
 did_next s vs a r q o c hs f h e k =
     let same : from_action s vs a r ≡ fed (drop q.used vs) (frames_on s hs (mine_of q.task)) =
-      ap (from_action s vs a) (sym h.1) ∙ ap (λ on. fed (drop q.used vs) (on (mine_of q.task))) (sym (ap (frames_on s) e ∙ frames_pushed s q.frames.items f finish ∙ k (frames_on s q.frames.items))) in
+    ap (from_action s vs a) (sym h.1) ∙ ap (λ on. fed (drop q.used vs) (on (mine_of q.task))) (sym (ap (frames_on s) e ∙ frames_pushed s q.frames.items f finish ∙ k (frames_on s q.frames.items))) in
     h.0 ∙ ap (λ x. Reads o c (λ v. fed (v ∷ []) x)) same
 
 -- two frames more

@@ -52,12 +52,14 @@ module _ (s : Setting) (t : Standing) where
   pub read_tells : (v : Standing) (o a : ℕ) (id : ObjectId) (k : ℕ) → t.pending.items ≡ [] → ((w : Task) → pending_of w v ≡ pending_of w t ++ first_take t.grants t.holds o) → v ≡ record t { holds = touched t.grants t.holds o; pending = v.pending } → id.0 ≡ o → k ≡ a → TellsAs s (Asked o a) t v.run v.grants v.holds v.part v.pending.items v.newborn (Asking id k)
   read_tells v o a id k e told same f g =
       let W : Task = newborn_task s v.newborn in
-      let h : pending_of W v ≡ first_take t.grants t.holds o = none_before W t.pending.items v.pending.items (first_take t.grants t.holds o) e (told W) in
-      ((λ c vs. read_events o a c t.grants t.holds t.part vs
-      ∙ ap (λ xs. xs ++ later (Asking (record { 0 = o }) a) c t.grants (touched t.grants t.holds o) t.part vs) (sym h)
-      ∙ ap (λ (x : ℕ). pending_of W v ++ later (Asking (record { 0 = x }) a) c t.grants (touched t.grants t.holds o) t.part vs) (sym f)
-      ∙ ap (λ (x : ℕ). pending_of W v ++ later (Asking id x) c t.grants (touched t.grants t.holds o) t.part vs) (sym g)
-      ∙ ap (λ (x : Standing). pending_of W v ++ later (Asking id k) c x.grants x.holds x.part vs) (sym same)), ap (λ (x : Standing). x.run) same)
+      let h : pending_of W v ≡ first_take t.grants t.holds o = none_before W t.pending.items v.pending.items (first_take t.grants t.holds o) e (told W) in (
+        (λ c vs. read_events o a c t.grants t.holds t.part vs
+            ∙ ap (λ xs. xs ++ later (Asking (record { 0 = o }) a) c t.grants (touched t.grants t.holds o) t.part vs) (sym h)
+            ∙ ap (λ (x : ℕ). pending_of W v ++ later (Asking (record { 0 = x }) a) c t.grants (touched t.grants t.holds o) t.part vs) (sym f)
+            ∙ ap (λ (x : ℕ). pending_of W v ++ later (Asking id x) c t.grants (touched t.grants t.holds o) t.part vs) (sym g)
+            ∙ ap (λ (x : Standing). pending_of W v ++ later (Asking id k) c x.grants x.holds x.part vs) (sym same)),
+        ap (λ (x : Standing). x.run) same,
+      )
 
   pub write_tells : (v : Standing) (x : ℕ × ℕ × ℤ) (id : ObjectId) (k : ℕ) (ps : List Told) → t.pending.items ≡ [] → t.stage ≡ Going → ((w : Task) → pending_of w v ≡ pending_of w t ++ first_take t.grants t.holds x.0) → v ≡ record t { holds = touched t.grants t.holds x.0; pending = v.pending } → id.0 ≡ x.0 → k ≡ x.1 → ps ≡ v.pending.items ++ tells.Write id k x.2 ∷ [] → TellsAs s (Wrote x) t v.run v.grants v.holds v.part ps v.newborn v.stage
   write_tells v x id k ps e going told same f g p =
@@ -65,32 +67,38 @@ module _ (s : Setting) (t : Standing) where
       let h : pending_of W v ≡ first_take t.grants t.holds x.0 = none_before W t.pending.items v.pending.items (first_take t.grants t.holds x.0) e (told W) in
       let q : map (event_of W) ps ≡ first_take t.grants t.holds x.0 ++ TouchWrite id.0 k x.2 ∷ [] = one_after W v.pending.items ps (tells.Write id k x.2) (first_take t.grants t.holds x.0) p h in
       let q2 : map (event_of W) ps ≡ first_take t.grants t.holds x.0 ++ TouchWrite x.0 x.1 x.2 ∷ [] = q ∙ ap (λ i. first_take t.grants t.holds x.0 ++ TouchWrite i k x.2 ∷ []) f ∙ ap (λ i. first_take t.grants t.holds x.0 ++ TouchWrite x.0 i x.2 ∷ []) g in
-      let stays : v.stage ≡ Going = ap (λ (y : Standing). y.stage) same ∙ going in
-      ((λ c vs. sym (append_assoc (first_take t.grants t.holds x.0) (TouchWrite x.0 x.1 x.2 ∷ []) (events c t.grants (touched t.grants t.holds x.0) t.part vs))
-      ∙ ap (λ xs. xs ++ events c t.grants (touched t.grants t.holds x.0) t.part vs) (sym q2)
-      ∙ ap (λ (y : Standing). map (event_of W) ps ++ events c y.grants y.holds y.part vs) (sym same)
-      ∙ ap (λ y. map (event_of W) ps ++ later y c v.grants v.holds v.part vs) (sym stays)), ap (λ (y : Standing). y.run) same)
+      let stays : v.stage ≡ Going = ap (λ (y : Standing). y.stage) same ∙ going in (
+        (λ c vs. sym (append_assoc (first_take t.grants t.holds x.0) (TouchWrite x.0 x.1 x.2 ∷ []) (events c t.grants (touched t.grants t.holds x.0) t.part vs))
+            ∙ ap (λ xs. xs ++ events c t.grants (touched t.grants t.holds x.0) t.part vs) (sym q2)
+            ∙ ap (λ (y : Standing). map (event_of W) ps ++ events c y.grants y.holds y.part vs) (sym same)
+            ∙ ap (λ y. map (event_of W) ps ++ later y c v.grants v.holds v.part vs) (sym stays)),
+        ap (λ (y : Standing). y.run) same,
+      )
 
   pub creation_tells : (nb : Newborn) (h : Holds) (ps qs rs : List Told) → t.pending.items ≡ [] → t.stage ≡ Going → ((w : Task) → map (event_of w) ps ≡ map (event_of w) t.pending.items ++ all_listed CreationGives nb.grants nb.grants t.holds) → ((w : Task) → map (event_of w) qs ≡ map (event_of w) ps ++ all_listed Enters nb.grants nb.grants t.holds) → rs ≡ qs ++ tells.Enroll t.part ∷ [] → h ≡ kept nb.grants t.holds → TellsAs s (Created nb) t t.run t.grants h 0 rs nb t.stage
   creation_tells nb h ps qs rs e going f g p k =
       let W : Task = newborn_task s nb in
       let first : map (event_of W) ps ≡ creation_gives nb.grants t.holds = none_before W t.pending.items ps (creation_gives nb.grants t.holds) e (f W) in
       let both : map (event_of W) qs ≡ creation_gives nb.grants t.holds ++ enters nb.grants = g W ∙ ap (λ xs. xs ++ enters nb.grants) first in
-      let all : map (event_of W) rs ≡ creation_gives nb.grants t.holds ++ enters nb.grants ++ Enroll W t.part ∷ [] = one_after W qs rs (tells.Enroll t.part) (creation_gives nb.grants t.holds ++ enters nb.grants) p both in
-      ((λ c vs. sym (append_assoc (creation_gives nb.grants t.holds ++ enters nb.grants) (Enroll W t.part ∷ []) (events c t.grants (kept nb.grants t.holds) 0 vs))
-      ∙ ap (λ xs. xs ++ events c t.grants (kept nb.grants t.holds) 0 vs) (sym all)
-      ∙ ap (λ y. map (event_of W) rs ++ events c t.grants y 0 vs) (sym k)
-      ∙ ap (λ y. map (event_of W) rs ++ later y c t.grants h 0 vs) (sym going)), refl)
+      let all : map (event_of W) rs ≡ creation_gives nb.grants t.holds ++ enters nb.grants ++ Enroll W t.part ∷ [] = one_after W qs rs (tells.Enroll t.part) (creation_gives nb.grants t.holds ++ enters nb.grants) p both in (
+        (λ c vs. sym (append_assoc (creation_gives nb.grants t.holds ++ enters nb.grants) (Enroll W t.part ∷ []) (events c t.grants (kept nb.grants t.holds) 0 vs))
+            ∙ ap (λ xs. xs ++ events c t.grants (kept nb.grants t.holds) 0 vs) (sym all)
+            ∙ ap (λ y. map (event_of W) rs ++ events c t.grants y 0 vs) (sym k)
+            ∙ ap (λ y. map (event_of W) rs ++ later y c t.grants h 0 vs) (sym going)),
+        refl,
+      )
 
   pub change_tells : (new : Specification) (h : Holds) (ps qs rs : List Told) → t.pending.items ≡ [] → t.stage ≡ Going → ((w : Task) → map (event_of w) ps ≡ map (event_of w) t.pending.items ++ all_listed ChangeGives t.grants new t.holds) → ((w : Task) → map (event_of w) qs ≡ map (event_of w) ps ++ all_listed Shifts t.grants new t.holds) → ((w : Task) → map (event_of w) rs ≡ map (event_of w) qs ++ all_listed ChangeTakes t.grants new t.holds) → h ≡ changed t.grants new t.holds → TellsAs s (Changed new) t t.run new h t.part rs t.newborn t.stage
   change_tells new h ps qs rs e going f g i k =
       let W : Task = newborn_task s t.newborn in
       let first : map (event_of W) ps ≡ change_gives new t.holds = none_before W t.pending.items ps (change_gives new t.holds) e (f W) in
       let both : map (event_of W) qs ≡ change_gives new t.holds ++ shifts t.grants new = g W ∙ ap (λ xs. xs ++ shifts t.grants new) first in
-      let all : map (event_of W) rs ≡ change_gives new t.holds ++ shifts t.grants new ++ change_takes t.grants new t.holds = i W ∙ ap (λ xs. xs ++ change_takes t.grants new t.holds) both in
-      ((λ c vs. ap (λ xs. xs ++ events c new (changed t.grants new t.holds) t.part vs) (sym all)
-      ∙ ap (λ y. map (event_of W) rs ++ events c new y t.part vs) (sym k)
-      ∙ ap (λ y. map (event_of W) rs ++ later y c new h t.part vs) (sym going)), refl)
+      let all : map (event_of W) rs ≡ change_gives new t.holds ++ shifts t.grants new ++ change_takes t.grants new t.holds = i W ∙ ap (λ xs. xs ++ change_takes t.grants new t.holds) both in (
+        (λ c vs. ap (λ xs. xs ++ events c new (changed t.grants new t.holds) t.part vs) (sym all)
+            ∙ ap (λ y. map (event_of W) rs ++ events c new y t.part vs) (sym k)
+            ∙ ap (λ y. map (event_of W) rs ++ later y c new h t.part vs) (sym going)),
+        refl,
+      )
 
   pub end_tells : (b : Option Blame) (ps qs rs : List Told) → t.pending.items ≡ [] → ((w : Task) → map (event_of w) ps ≡ map (event_of w) t.pending.items ++ all_listed EndGives t.grants t.grants t.holds) → ((w : Task) → map (event_of w) qs ≡ map (event_of w) ps ++ all_listed EndLeaves t.grants t.grants t.holds) → rs ≡ qs ++ tells.Resign b t.part ∷ [] → TellsAs s (Ended b) t t.run t.grants t.holds t.part rs t.newborn Over
   end_tells b ps qs rs e f g p =
@@ -102,16 +110,20 @@ module _ (s : Setting) (t : Standing) where
 
   pub step_tells : (n : ℕ) → t.pending.items ≡ [] → t.stage ≡ Going → n ≡ suc t.part → TellsAs s Stepped t t.run t.grants t.holds n t.pending.items t.newborn t.stage
   step_tells n e going k =
-      let W : Task = newborn_task s t.newborn in
-      ((λ c vs. ap (λ y. events c t.grants t.holds y vs) (sym k)
-      ∙ ap (λ y. map (event_of W) y ++ events c t.grants t.holds n vs) (sym e)
-      ∙ ap (λ y. map (event_of W) t.pending.items ++ later y c t.grants t.holds n vs) (sym going)), refl)
+      let W : Task = newborn_task s t.newborn in (
+        (λ c vs. ap (λ y. events c t.grants t.holds y vs) (sym k)
+            ∙ ap (λ y. map (event_of W) y ++ events c t.grants t.holds n vs) (sym e)
+            ∙ ap (λ y. map (event_of W) t.pending.items ++ later y c t.grants t.holds n vs) (sym going)),
+        refl,
+      )
 
   pub silent_tells : t.pending.items ≡ [] → t.stage ≡ Going → TellsAs s Silent t t.run t.grants t.holds t.part t.pending.items t.newborn t.stage
   silent_tells e going =
-      let W : Task = newborn_task s t.newborn in
-      ((λ c vs. ap (λ y. map (event_of W) y ++ events c t.grants t.holds t.part vs) (sym e)
-      ∙ ap (λ y. map (event_of W) t.pending.items ++ later y c t.grants t.holds t.part vs) (sym going)), refl)
+      let W : Task = newborn_task s t.newborn in (
+        (λ c vs. ap (λ y. map (event_of W) y ++ events c t.grants t.holds t.part vs) (sym e)
+            ∙ ap (λ y. map (event_of W) t.pending.items ++ later y c t.grants t.holds t.part vs) (sym going)),
+        refl,
+      )
 
 -- a task goes on by one deed
 pub one_deed : (s : Setting) (given : List ℤ) (t u v : Standing) (d : Deed) (run : Running) → t.pending.items ≡ [] → t.stage ≡ Going → course_of s given t.run ≡ deed_on s d (course_of s given run) → u ≡ record t { run = run } → TellsDeed s d u v → (vs : List ℤ) → ahead s given t 0 vs ≡ ahead s given v 0 vs

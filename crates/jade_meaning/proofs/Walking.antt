@@ -94,14 +94,14 @@ answer_stands s env spec body answers more done next told t u v st f le m n same
     let course : course_of s more t.run ≡ fed (v ∷ []) c = ap (λ vs. fed (drop t.run.used vs) X) m ∙ ap (λ vs. fed vs X) (drop-append-le t.run.used answers (v ∷ []) le) ∙ fed_append X (drop t.run.used answers) (v ∷ []) in
     record {
       known = λ vs.
-        let r = reads_next W (drop told t.pending.items) t.stage c t.grants t.holds t.part v st.ready (first_told st (Passes (Some v)) f) vs in
-        let all : drop done (talk T (answers ++ v ∷ vs)) ≡ TouchRead r.0 r.1 v ∷ events (fed (v ∷ []) c) t.grants t.holds t.part vs = st.known (v ∷ vs) ∙ r.2 in
-        ap (λ k. drop k (talk T (more ++ vs))) n
-        ∙ ap (λ a. drop (done + 1) (talk T (a ++ vs))) m
-        ∙ ap (λ a. drop (done + 1) (talk T a)) (append_assoc answers (v ∷ []) vs)
-        ∙ drop_next done (talk T (answers ++ v ∷ vs)) (TouchRead r.0 r.1 v) (events (fed (v ∷ []) c) t.grants t.holds t.part vs) all
-        ∙ ap (λ x. events x t.grants t.holds t.part vs) (sym course)
-        ∙ same vs;
+          let r = reads_next W (drop told t.pending.items) t.stage c t.grants t.holds t.part v st.ready (first_told st (Passes (Some v)) f) vs in
+          let all : drop done (talk T (answers ++ v ∷ vs)) ≡ TouchRead r.0 r.1 v ∷ events (fed (v ∷ []) c) t.grants t.holds t.part vs = st.known (v ∷ vs) ∙ r.2 in
+          ap (λ k. drop k (talk T (more ++ vs))) n
+          ∙ ap (λ a. drop (done + 1) (talk T (a ++ vs))) m
+          ∙ ap (λ a. drop (done + 1) (talk T a)) (append_assoc answers (v ∷ []) vs)
+          ∙ drop_next done (talk T (answers ++ v ∷ vs)) (TouchRead r.0 r.1 v) (events (fed (v ∷ []) c) t.grants t.holds t.part vs) all
+          ∙ ap (λ x. events x t.grants t.holds t.part vs) (sym course)
+          ∙ same vs;
       ready = rd;
     }
 
@@ -120,11 +120,11 @@ pass_left s env spec body answers done next told later' t st f n k rd =
     let r = passes_next W (drop told t.pending.items) t.stage c t.grants t.holds t.part st.ready (first_told st (Passes None) f) in
     record {
       known = λ vs.
-        let rest : List Event = later t.stage c t.grants t.holds t.part vs in
-        let all : drop done (talk T (answers ++ vs)) ≡ event_of W r.0 ∷ (map (event_of W) r.1 ++ rest) = st.known vs ∙ ap (λ xs. map (event_of W) xs ++ rest) r.2 in
-        ap (λ k. drop k (talk T (answers ++ vs))) n
-        ∙ drop_next done (talk T (answers ++ vs)) (event_of W r.0) (map (event_of W) r.1 ++ rest) all
-        ∙ ap (λ xs. map (event_of W) xs ++ rest) (sym (ap (λ j. drop j t.pending.items) k ∙ drop_next told t.pending.items r.0 r.1 r.2));
+          let rest : List Event = later t.stage c t.grants t.holds t.part vs in
+          let all : drop done (talk T (answers ++ vs)) ≡ event_of W r.0 ∷ (map (event_of W) r.1 ++ rest) = st.known vs ∙ ap (λ xs. map (event_of W) xs ++ rest) r.2 in
+          ap (λ k. drop k (talk T (answers ++ vs))) n
+          ∙ drop_next done (talk T (answers ++ vs)) (event_of W r.0) (map (event_of W) r.1 ++ rest) all
+          ∙ ap (λ xs. map (event_of W) xs ++ rest) (sym (ap (λ j. drop j t.pending.items) k ∙ drop_next told t.pending.items r.0 r.1 r.2));
       ready = rd;
     }
 
@@ -145,13 +145,13 @@ pass_on s env spec body answers done next told later' t u st f n k rd ov same ru
     let nil : r.1 ≡ [] = sym (ap (λ j. drop j t.pending.items) k ∙ drop_next told t.pending.items r.0 r.1 r.2) ∙ g.0 in
     record {
       known = λ vs.
-        let rest : List Event = later t.stage c t.grants t.holds t.part vs in
-        let all : drop done (talk T (answers ++ vs)) ≡ event_of W r.0 ∷ (map (event_of W) r.1 ++ rest) = st.known vs ∙ ap (λ xs. map (event_of W) xs ++ rest) r.2 in
-        ap (λ k. drop k (talk T (answers ++ vs))) n
-        ∙ drop_next done (talk T (answers ++ vs)) (event_of W r.0) (map (event_of W) r.1 ++ rest) all
-        ∙ ap (λ xs. map (event_of W) xs ++ rest) nil
-        ∙ ap (λ x. later x c t.grants t.holds t.part vs) g.1
-        ∙ same vs;
+          let rest : List Event = later t.stage c t.grants t.holds t.part vs in
+          let all : drop done (talk T (answers ++ vs)) ≡ event_of W r.0 ∷ (map (event_of W) r.1 ++ rest) = st.known vs ∙ ap (λ xs. map (event_of W) xs ++ rest) r.2 in
+          ap (λ k. drop k (talk T (answers ++ vs))) n
+          ∙ drop_next done (talk T (answers ++ vs)) (event_of W r.0) (map (event_of W) r.1 ++ rest) all
+          ∙ ap (λ xs. map (event_of W) xs ++ rest) nil
+          ∙ ap (λ x. later x c t.grants t.holds t.part vs) g.1
+          ∙ same vs;
       ready = ru;
     }
 
@@ -197,7 +197,7 @@ pub is_child : (v : Walk) (nb : Newborn) (items : List Item) (given : Environmen
 is_child v nb items given limit env spec child e a b c d f =
     let body = nb.body.now in
     let same : child ≡ begun_as v.items v.given v.limit nb.scope nb.grants body =
-      e ∙ ap (λ x. begun_as x given limit env spec body) a ∙ ap (λ x. begun_as v.items x limit env spec body) b ∙ ap (λ x. begun_as v.items v.given x env spec body) c ∙ ap (λ x. begun_as v.items v.given v.limit x spec body) d ∙ ap (λ x. begun_as v.items v.given v.limit nb.scope x body) f in
+    e ∙ ap (λ x. begun_as x given limit env spec body) a ∙ ap (λ x. begun_as v.items x limit env spec body) b ∙ ap (λ x. begun_as v.items v.given x env spec body) c ∙ ap (λ x. begun_as v.items v.given v.limit x spec body) d ∙ ap (λ x. begun_as v.items v.given v.limit nb.scope x body) f in
     record {
       task = ap task_of same;
       items = ap (λ (w : Walk). w.items) same;

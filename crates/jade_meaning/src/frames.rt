@@ -194,7 +194,13 @@ impl<'c> Setting<'c> {
         ensures { Did (shown self.now) answers.now result (abstract.Store (reference target.now).place (reference target.now).cell (expression value.now)) run.old run.new }
     {
         let mut used = run.used;
-        match self.stored(target, value, &run.task, &Cells::Answered(answers), &mut used) {
+        match self.stored(
+            target,
+            value,
+            &run.task,
+            &Cells::Answered(answers),
+            &mut used,
+        ) {
             Ok(written) => {
                 run.used = used;
                 Deed::Wrote(written)
@@ -327,7 +333,12 @@ impl<'c> Setting<'c> {
     }
 
     // The section of a `with`, after which the task's own rights change.
-    fn with_deed(&self, at: Pos, section: &'c Block, run: &mut Running<'c>) -> Result<Deed<'c>, Memory>
+    fn with_deed(
+        &self,
+        at: Pos,
+        section: &'c Block,
+        run: &mut Running<'c>,
+    ) -> Result<Deed<'c>, Memory>
         ensures { (vs : List ℤ) → IfOk result (λ deed. Did (shown self.now) vs deed (abstract.With at (block section.now)) run.old run.new) }
     {
         self.begin_amending(&mut run.task)?;
@@ -350,7 +361,9 @@ impl<'c> Setting<'c> {
                 let deed = self.local_deed(name, value, answers, run)?;
                 Ok(deed)
             }
-            Statement::Assign { name, value, .. } => Ok(self.assign_deed(name, value, answers, run)),
+            Statement::Assign { name, value, .. } => Ok(self.assign_deed(
+                name, value, answers, run,
+            )),
             Statement::Store { target, value } => Ok(self.store_deed(target, value, answers, run)),
             Statement::If {
                 test,
@@ -434,7 +447,8 @@ impl<'c> Setting<'c> {
                 Ok(()) => {}
                 Err(blame) => return Ok(Deed::Ended(Some(blame))),
             }
-            run.frames.push(Frame::Turning(name, body, after_first(range)))?;
+            run.frames
+                .push(Frame::Turning(name, body, after_first(range)))?;
             run.frames.push(Frame::Leaving(run.task.scope.len()))?;
             run.frames.push(Frame::Rest(body, 0))?;
             run.task.scope.bind(name, first_of(range))?;
@@ -501,11 +515,7 @@ impl<'c> Setting<'c> {
     }
 
     /// What a task does next.
-    pub(crate) fn deed(
-        &self,
-        answers: &[i64],
-        run: &mut Running<'c>,
-    ) -> Result<Deed<'c>, Memory>
+    pub(crate) fn deed(&self, answers: &[i64], run: &mut Running<'c>) -> Result<Deed<'c>, Memory>
         ensures { IfOk result (λ deed. GoesOn (shown self.now) answers.now deed (course_of (shown self.now) answers.now run.old) run.new) }
     {
         match run.frames.pop() {

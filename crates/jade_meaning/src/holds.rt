@@ -111,12 +111,7 @@ impl Holds {
     {
         let mut modes = Vec::new(alloc);
         for object in 0..new.len() {
-            modes.push(kept_as(
-                kind,
-                old.on(object),
-                new.on(object),
-                self.on(object),
-            ))?;
+            modes.push(kept_as(kind, old.on(object), new.on(object), self.on(object)))?;
         }
         Ok(Holds { modes })
     }
@@ -183,13 +178,7 @@ fn kept_as(kind: Keeping, old: Rights, new: Rights, hold: Option<Mode>) -> Optio
 {
     match kind {
         Keeping::AtStart => mode_of(new),
-        Keeping::AtCreation => {
-            if yields(hold, new) {
-                None
-            } else {
-                hold
-            }
-        }
+        Keeping::AtCreation => { if yields(hold, new) { None } else { hold } }
         Keeping::AtChange => {
             if taken_anew(old, new, hold) {
                 mode_of(new)
@@ -289,13 +278,7 @@ pub(crate) fn tell(
         let id = named(object)?;
         add(
             events,
-            listed(
-                kind,
-                old.on(object),
-                new.on(object),
-                holds.on(object),
-                id,
-            ),
+            listed(kind, old.on(object), new.on(object), holds.on(object), id),
         )?;
     }
     Ok(())

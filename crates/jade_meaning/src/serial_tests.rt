@@ -121,7 +121,11 @@ fn declare(alloc: Global, word: DeclareWord) -> Result<Block, Fail> {
     Ok(section)
 }
 
-pub(crate) fn child(alloc: Global, word: DeclareWord, statement: Statement) -> Result<Statement, Fail> {
+pub(crate) fn child(
+    alloc: Global,
+    word: DeclareWord,
+    statement: Statement,
+) -> Result<Statement, Fail> {
     let mut body = Block::empty(alloc);
     put(&mut body, statement)?;
     Ok(Statement::Withonly {

@@ -6,12 +6,12 @@ ghost use Rattle.jade_syntax.specs.Image.{expression, and_expression, compare_ex
 ghost use Rattle.jade_meaning.specs.Direct.{worth, located, blame_at, member_of, index_in, indexed};
 ghost use Rattle.jade_meaning.specs.Heard.{heard, source, told, told_place, told_cell};
 
-use crate::source::{Cells, Pause};
 use crate::draft::Draft;
 use crate::found::{Declared, Found, Range};
 use crate::grants::Grants;
 use crate::ledger::Store;
 use crate::scope::Scope;
+use crate::source::{Cells, Pause};
 use crate::tally::Tally;
 use crate::values::{Value, index_below};
 use jade_base::{Blame, FaultKind, Pos, Right};
@@ -95,7 +95,13 @@ fn read(
 impl<'c> Setting<'c> {
     /// The value of an expression, or its fault.
     #[cycle(told)]
-    pub(crate) fn told(&self, task: &Task<'c>, cells: &Cells, used: &mut usize, e: &Expr) -> Result<Value, Pause>
+    pub(crate) fn told(
+        &self,
+        task: &Task<'c>,
+        cells: &Cells,
+        used: &mut usize,
+        e: &Expr,
+    ) -> Result<Value, Pause>
         ensures { heard result used.new ≡ told self.now.items task.now.scope task.now.grants (source cells.now) (expression e.now) used.old }
     {
         let mut value = match self.and_told(task, cells, used, &e.first) {
@@ -116,7 +122,13 @@ impl<'c> Setting<'c> {
     }
 
     #[cycle(told)]
-    fn and_told(&self, task: &Task<'c>, cells: &Cells, used: &mut usize, e: &AndExpr) -> Result<Value, Pause>
+    fn and_told(
+        &self,
+        task: &Task<'c>,
+        cells: &Cells,
+        used: &mut usize,
+        e: &AndExpr,
+    ) -> Result<Value, Pause>
         ensures { heard result used.new ≡ told self.now.items task.now.scope task.now.grants (source cells.now) (and_expression e.now) used.old }
     {
         let mut value = match self.compare_told(task, cells, used, &e.first) {
@@ -137,7 +149,13 @@ impl<'c> Setting<'c> {
     }
 
     #[cycle(told)]
-    fn compare_told(&self, task: &Task<'c>, cells: &Cells, used: &mut usize, e: &Compare) -> Result<Value, Pause>
+    fn compare_told(
+        &self,
+        task: &Task<'c>,
+        cells: &Cells,
+        used: &mut usize,
+        e: &Compare,
+    ) -> Result<Value, Pause>
         ensures { heard result used.new ≡ told self.now.items task.now.scope task.now.grants (source cells.now) (compare_expression e.now) used.old }
     {
         let left = match self.sum_told(task, cells, used, &e.left) {
@@ -154,7 +172,13 @@ impl<'c> Setting<'c> {
     }
 
     #[cycle(told)]
-    fn sum_told(&self, task: &Task<'c>, cells: &Cells, used: &mut usize, e: &Sum) -> Result<Value, Pause>
+    fn sum_told(
+        &self,
+        task: &Task<'c>,
+        cells: &Cells,
+        used: &mut usize,
+        e: &Sum,
+    ) -> Result<Value, Pause>
         ensures { heard result used.new ≡ told self.now.items task.now.scope task.now.grants (source cells.now) (sum_expression e.now) used.old }
     {
         let mut value = match self.product_told(task, cells, used, &e.first) {
@@ -176,7 +200,13 @@ impl<'c> Setting<'c> {
     }
 
     #[cycle(told)]
-    fn product_told(&self, task: &Task<'c>, cells: &Cells, used: &mut usize, e: &Product) -> Result<Value, Pause>
+    fn product_told(
+        &self,
+        task: &Task<'c>,
+        cells: &Cells,
+        used: &mut usize,
+        e: &Product,
+    ) -> Result<Value, Pause>
         ensures { heard result used.new ≡ told self.now.items task.now.scope task.now.grants (source cells.now) (product_expression e.now) used.old }
     {
         let mut value = match self.unary_told(task, cells, used, &e.first) {
@@ -198,7 +228,13 @@ impl<'c> Setting<'c> {
     }
 
     #[cycle(told)]
-    fn unary_told(&self, task: &Task<'c>, cells: &Cells, used: &mut usize, e: &Unary) -> Result<Value, Pause>
+    fn unary_told(
+        &self,
+        task: &Task<'c>,
+        cells: &Cells,
+        used: &mut usize,
+        e: &Unary,
+    ) -> Result<Value, Pause>
         ensures { heard result used.new ≡ told self.now.items task.now.scope task.now.grants (source cells.now) (unary_expression e.now) used.old }
     {
         let mut value = match self.atom_told(task, cells, used, &e.atom) {
@@ -218,7 +254,13 @@ impl<'c> Setting<'c> {
     }
 
     #[cycle(told)]
-    fn atom_told(&self, task: &Task<'c>, cells: &Cells, used: &mut usize, e: &Atom) -> Result<Value, Pause>
+    fn atom_told(
+        &self,
+        task: &Task<'c>,
+        cells: &Cells,
+        used: &mut usize,
+        e: &Atom,
+    ) -> Result<Value, Pause>
         ensures { heard result used.new ≡ told self.now.items task.now.scope task.now.grants (source cells.now) (atom_expression e.now) used.old }
     {
         match e {
@@ -231,7 +273,13 @@ impl<'c> Setting<'c> {
     }
 
     #[cycle(told)]
-    fn cell_told(&self, task: &Task<'c>, cells: &Cells, used: &mut usize, e: &CellRef) -> Result<Value, Pause>
+    fn cell_told(
+        &self,
+        task: &Task<'c>,
+        cells: &Cells,
+        used: &mut usize,
+        e: &CellRef,
+    ) -> Result<Value, Pause>
         ensures { heard result used.new ≡ told self.now.items task.now.scope task.now.grants (source cells.now) (Cell (reference e.now).place (reference e.now).cell) used.old }
     {
         let found = match self.told_place(task, cells, used, &e.name, e.pos, &e.family) {

@@ -133,21 +133,9 @@ impl<'c> Setting<'c> {
         ensures { OnOk result (TellsDeed (shown self.now) (Deed.Changed new) at.old at.new) }
     {
         let old = &at.grants;
-        tell(
-            Listing::ChangeGives,
-            old,
-            &new,
-            &at.holds,
-            &mut at.pending,
-        )?;
+        tell(Listing::ChangeGives, old, &new, &at.holds, &mut at.pending)?;
         tell(Listing::Shifts, old, &new, &at.holds, &mut at.pending)?;
-        tell(
-            Listing::ChangeTakes,
-            old,
-            &new,
-            &at.holds,
-            &mut at.pending,
-        )?;
+        tell(Listing::ChangeTakes, old, &new, &at.holds, &mut at.pending)?;
         at.holds = at.holds.next(self.alloc, Keeping::AtChange, old, &new)?;
         at.grants = new;
         Ok(())

@@ -6,6 +6,9 @@ use Rattle.jade_meaning.proofs.Framing.{twice}
 use Rattle.jade_meaning.proofs.frames.enter.Goals as goal
 
 pub returns : goal.returns
-returns c =
-    ((λ s. twice s _ _ _ _ _ c.in_ok-push.ensures.items c.in_ok-push-2.ensures.items
-    ∙ ap (λ k. run_all s (block c.args.statements.now) (λ n. frames_on s c.args.run.now.frames.items (record n { env = drop (length n.env - k) n.env }))) c.len.ensures), refl, refl)
+returns c = (
+  (λ s. twice s _ _ _ _ _ c.in_ok-push.ensures.items c.in_ok-push-2.ensures.items
+      ∙ ap (λ k. run_all s (block c.args.statements.now) (λ n. frames_on s c.args.run.now.frames.items (record n { env = drop (length n.env - k) n.env }))) c.len.ensures),
+  refl,
+  refl,
+)

@@ -20,7 +20,13 @@ returns c =
     let spec = c.args.grants.now in
     let t : Standing = record {
       run = record { task = record { scope = c.in_ok-own.own; grants = c.in_ok-rights.rights; draft = c.absent.result; tally = c.start.result }; frames = c.push.new.self; used = 0 };
-      grants = c.in_ok-same.same; holds = c.in_ok-holds.holds; part = 0; pending = c.tell.new.events; newborn = c.nobody.result; stage = Going } in
+      grants = c.in_ok-same.same;
+      holds = c.in_ok-holds.holds;
+      part = 0;
+      pending = c.tell.new.events;
+      newborn = c.nobody.result;
+      stage = Going;
+    } in
     let mine : Environment → Specification → Draft → Tallied → Mine = λ e g d k. record { env = e; spec = g; draft = d; taken = k.taken } in
     let empty : c.new-frames.result.items ≡ [] = search rules in
     let none : c.new-pending.result.items ≡ [] = search rules in
