@@ -10,9 +10,10 @@ use Rattle.jade_meaning.specs.declared.standing.Standing.{Standing}
 use Rattle.jade_meaning.specs.declared.standing.Stage.{Stage}
 use Rattle.jade_meaning.specs.declared.standing.Stage.TheVariants.{Going, Asking, Over}
 use Rattle.jade_meaning.specs.declared.walker.Act.TheVariants as act
+use Rattle.jade_meaning.specs.declared.walker.Carried.{Carried}
 use Rattle.jade_meaning.specs.Specification.{Specification}
 use Rattle.jade_meaning.specs.Course.{Course, Environment, Setting}
-use Rattle.jade_meaning.specs.Talk.{Task, Event, Wants, TouchRead, Holds, talk, events}
+use Rattle.jade_meaning.specs.Talk.{Task, Event, Enter, Enroll, Take, TouchRead, TouchWrite, Wants, Give, Leave, Shift, Resign, Holds, talk, events}
 use Rattle.jade_meaning.specs.Perform.{mine_of}
 use Rattle.jade_meaning.specs.Frames.{fed, course_of, frames_on}
 use Rattle.jade_meaning.specs.Holding.{event_of}
@@ -21,7 +22,7 @@ use Rattle.jade_meaning.specs.Stands.{Stands}
 use Rattle.jade_meaning.specs.Walks.{Walk}
 use Rattle.jade_meaning.specs.declared.frames.Newborn.{Newborn}
 use Rattle.jade_syntax.specs.declared.tree.Item.{Item}
-use Rattle.jade_meaning.specs.Walk.{setting_of, begun_as, First, act_of, carried_of, read_of, Passes, Bears, IsChildOf, enrolls, creates, task_of, upcoming}
+use Rattle.jade_meaning.specs.Walk.{setting_of, begun_as, First, act_of, carried_of, is_answered, goes_with, read_of, Passes, Bears, IsChildOf, enrolls, creates, task_of, upcoming}
 use Rattle.jade_meaning.proofs.Cells.{drop_at}
 use Rattle.jade_meaning.proofs.Hearing.{fed_append}
 
@@ -206,3 +207,73 @@ is_child v nb items given limit env spec child e a b c d f =
       answers = ap (λ (w : Walk). w.answers) same;
       done = ap (λ (w : Walk). w.done) same;
     }
+
+-- the next event is no read that has its answer
+told_unanswered : (w : Task) (e : Told) → is_answered (event_of w e) ≡ false
+told_unanswered w (tells.Enter o a) = refl
+told_unanswered w (tells.Enroll n) = refl
+told_unanswered w (tells.Take o m) = refl
+told_unanswered w (tells.Write o c z) = refl
+told_unanswered w (tells.Give o) = refl
+told_unanswered w (tells.Leave o) = refl
+told_unanswered w (tells.Shift o a) = refl
+told_unanswered w (tells.Resign b n) = refl
+
+pub unanswered_first : (w : Task) (xs : List Told) (stage : Stage) (c : Course) (spec : Specification) (h : Holds) (n : ℕ) → ready xs stage ≡ true → First (map (event_of w) xs ++ later stage c spec h n []) (λ e. is_answered e ≡ false)
+unanswered_first w (x ∷ xs) stage c spec h n g = told_unanswered w x
+unanswered_first w [] Going c spec h n g = absurd (cc)
+unanswered_first w [] (Asking o a) c spec h n g = refl
+unanswered_first w [] Over c spec h n g = absurd (cc)
+
+-- what an event carries says whether a task may go past it
+goes_past : (v : Option ℤ) (e : Event) → is_answered e ≡ false → goes_with (carried_of e) v ≡ true → Passes v e
+goes_past (Some v) (Wants o c) a g = tt
+goes_past (Some v) (TouchRead o c w) a g = absurd (cc)
+goes_past (Some v) (Enter o r) a g = absurd (cc)
+goes_past (Some v) (Enroll t n) a g = absurd (cc)
+goes_past (Some v) (Take o m) a g = absurd (cc)
+goes_past (Some v) (TouchWrite o c w) a g = absurd (cc)
+goes_past (Some v) (Give o) a g = absurd (cc)
+goes_past (Some v) (Leave o) a g = absurd (cc)
+goes_past (Some v) (Shift o r) a g = absurd (cc)
+goes_past (Some v) (Resign b n) a g = absurd (cc)
+goes_past None (Wants o c) a g = absurd (cc)
+goes_past None (TouchRead o c w) a g = tt
+goes_past None (Enter o r) a g = tt
+goes_past None (Enroll t n) a g = tt
+goes_past None (Take o m) a g = tt
+goes_past None (TouchWrite o c w) a g = tt
+goes_past None (Give o) a g = tt
+goes_past None (Leave o) a g = tt
+goes_past None (Shift o r) a g = tt
+goes_past None (Resign b n) a g = absurd (cc)
+
+stays_at : (v : Option ℤ) (e : Event) → is_answered e ≡ false → goes_with (carried_of e) v ≡ false → Passes v e → ⊥
+stays_at (Some v) (Wants o c) a g p = absurd (cc)
+stays_at (Some v) (TouchRead o c w) a g p = p
+stays_at (Some v) (Enter o r) a g p = p
+stays_at (Some v) (Enroll t n) a g p = p
+stays_at (Some v) (Take o m) a g p = p
+stays_at (Some v) (TouchWrite o c w) a g p = p
+stays_at (Some v) (Give o) a g p = p
+stays_at (Some v) (Leave o) a g p = p
+stays_at (Some v) (Shift o r) a g p = p
+stays_at (Some v) (Resign b n) a g p = p
+stays_at None (Wants o c) a g p = p
+stays_at None (TouchRead o c w) a g p = absurd (cc)
+stays_at None (Enter o r) a g p = absurd (cc)
+stays_at None (Enroll t n) a g p = absurd (cc)
+stays_at None (Take o m) a g p = absurd (cc)
+stays_at None (TouchWrite o c w) a g p = absurd (cc)
+stays_at None (Give o) a g p = absurd (cc)
+stays_at None (Leave o) a g p = absurd (cc)
+stays_at None (Shift o r) a g p = absurd (cc)
+stays_at None (Resign b n) a g p = p
+
+pub can_pass : (v : Option ℤ) (es : List Event) (r : Carried) → First es (λ e. carried_of e ≡ r) → First es (λ e. is_answered e ≡ false) → goes_with r v ≡ true → First es (Passes v)
+can_pass v [] r h a g = h
+can_pass v (e ∷ es) r h a g = goes_past v e a (subst (λ c. goes_with c v ≡ true) (sym h) g)
+
+pub cannot_pass : (v : Option ℤ) (es : List Event) (r : Carried) → First es (λ e. carried_of e ≡ r) → First es (λ e. is_answered e ≡ false) → goes_with r v ≡ false → First es (λ e. Passes v e → ⊥)
+cannot_pass v [] r h a g = h
+cannot_pass v (e ∷ es) r h a g = stays_at v e a (subst (λ c. goes_with c v ≡ false) (sym h) g)

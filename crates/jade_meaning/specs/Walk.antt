@@ -1,5 +1,5 @@
 -- A task that tells its events one after another, and what it is seen as.
-use Rattle.std.specs.Prelude.{◌≡◌, ℕ, suc, ◌+◌, Bool, true, false, List, [], ◌∷◌, ◌++◌, map, length, drop, Option, Some, None, ℤ, replicate}
+use Rattle.std.specs.Prelude.{◌≡◌, ℕ, suc, ◌+◌, Bool, true, false, List, [], ◌∷◌, ◌++◌, map, length, drop, Option, Some, None, is_some, is_none, ℤ, replicate}
 use Rattle.jade_base.specs.declared.place.ObjectId.{ObjectId}
 use Rattle.jade_base.specs.declared.report.Blame.{Blame}
 use Rattle.jade_syntax.specs.declared.tree.Item.{Item}
@@ -85,6 +85,29 @@ Passes None (TouchWrite o c w) = Unit {0}
 Passes None (Give o) = Unit {0}
 Passes None (Leave o) = Unit {0}
 Passes None (Shift o a) = Unit {0}
+
+-- whether an event is a read that has its answer, which is never the next one
+abbrev pub is_answered : Event → Bool
+is_answered (TouchRead o c v) = true
+is_answered (Enter o a) = false
+is_answered (Enroll t n) = false
+is_answered (Take o m) = false
+is_answered (TouchWrite o c v) = false
+is_answered (Wants o c) = false
+is_answered (Give o) = false
+is_answered (Leave o) = false
+is_answered (Shift o a) = false
+is_answered (Resign b n) = false
+
+-- whether a task may go past an event that carries this, with this value
+abbrev pub goes_with : Carried → Option ℤ → Bool
+goes_with (carried.Read o c) v = is_some v
+goes_with (carried.Ended b n) v = false
+goes_with carried.Nothing v = is_none v
+goes_with (carried.Rights a) v = is_none v
+goes_with (carried.Mode m) v = is_none v
+goes_with (carried.Write o c z) v = is_none v
+goes_with (carried.Steps n) v = is_none v
 
 -- one event further, with this answer, if there is one
 abbrev pub moved : Option ℤ → Walk → Walk

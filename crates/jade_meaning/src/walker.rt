@@ -1,12 +1,12 @@
 //! One task's talk, event by event.
 
-ghost use Rattle.std.specs.Prelude.{◌≡◌, ◌+◌, ◌≤◌, [], true, None, Some, List, ℤ, drop, length, IfOk, OnOk, OnErr};
+ghost use Rattle.std.specs.Prelude.{◌≡◌, ◌+◌, ◌≤◌, [], true, false, None, Some, List, ℤ, drop, length, IfOk, OnOk, OnErr};
 ghost use Rattle.jade_syntax.specs.Objects.{input_names, sizes};
 ghost use Rattle.jade_meaning.specs.Course.{Setting as SettingOf};
 ghost use Rattle.jade_meaning.specs.Talk.{Task as TaskOf};
 ghost use Rattle.jade_meaning.specs.Holding.{event_of};
 ghost use Rattle.jade_meaning.specs.Standing.{ahead, ready};
-ghost use Rattle.jade_meaning.specs.Walk.{upcoming, First, act_of, carried_of, Passes, moved, Bears, begun_as, root_walk, read_of, creates, enrolls};
+ghost use Rattle.jade_meaning.specs.Walk.{upcoming, First, act_of, carried_of, is_answered, goes_with, Passes, moved, Bears, begun_as, root_walk, read_of, creates, enrolls};
 
 use crate::found::Declared;
 use crate::grants::Grants;
@@ -172,11 +172,20 @@ impl<'c> Walker<'c> {
         next_act(&self.standing, self.told)
     }
 
-    /// What the next event carries beside the object of its act.
+    /// What the next event carries beside the object of its act. A read has no answer yet.
     pub fn carried(&self) -> Carried
-        ensures { First (upcoming self.now) (λ e. carried_of e ≡ result) }
+        ensures told { First (upcoming self.now) (λ e. carried_of e ≡ result) }
+        ensures unanswered { First (upcoming self.now) (λ e. is_answered e ≡ false) }
     {
         next_carried(&self.standing, self.told)
+    }
+
+    /// Whether the task can go past its next event with this value.
+    pub fn can_go_on(&self, value: Option<i64>) -> bool
+        ensures can { result ≡ true → First (upcoming self.now) (Passes value) }
+        ensures cannot { result ≡ false → First (upcoming self.now) (λ e. Passes value e → ⊥) }
+    {
+        goes_with(self.carried(), value)
     }
 
     /// Moves past the next event, with the answer to a read, and answers the child of a creation.
@@ -298,6 +307,17 @@ fn next_carried(at: &Standing, told: usize) -> Carried
         carried_of(at.pending[told])
     } else {
         read_of(at.stage)
+    }
+}
+
+// Whether a task may go past an event that carries this, with this value.
+fn goes_with(carried: Carried, value: Option<i64>) -> bool
+    ensures { result ≡ goes_with carried value }
+{
+    match carried {
+        Carried::Read(..) => value.is_some(),
+        Carried::Ended(..) => false,
+        _ => value.is_none(),
     }
 }
 
