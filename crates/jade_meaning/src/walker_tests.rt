@@ -57,6 +57,20 @@ fn next_number(alloc: Global) -> Result<Expr, Fail> {
     })
 }
 
+// Moves past the next event, which goes with this value.
+fn go<'c>(
+    rt: &impl Abort,
+    alloc: Global,
+    walker: &mut Walker<'c>,
+    value: Option<i64>,
+) -> Result<Option<Walker<'c>>, Memory> {
+    if walker.can_go_on(value) {
+        return walker.go_on(alloc, value);
+    }
+    assert!(rt; false);
+    Err(Memory)
+}
+
 // A step of a walk that is no read and makes no child.
 fn pass<'c>(
     rt: &impl Abort,
@@ -67,7 +81,8 @@ fn pass<'c>(
 ) -> Result<(), Memory> {
     assert_eq!(rt; walker.next(), act);
     assert_eq!(rt; walker.carried(), carried);
-    let child = walker.go_on(alloc, None)?;
+    assert!(rt; !walker.can_go_on(Some(0)));
+    let child = go(rt, alloc, walker, None)?;
     assert!(rt; child.is_none());
     Ok(())
 }
@@ -89,7 +104,7 @@ fn walk_to_child<'c>(
     pass(rt, alloc, walker, Act::Enter(S), Carried::Rights(WRITES))?;
     assert_eq!(rt; walker.next(), Act::Enroll);
     assert_eq!(rt; walker.carried(), Carried::Steps(2));
-    walker.go_on(alloc, None)
+    go(rt, alloc, walker, None)
 }
 
 // A task that writes this number and ends.
@@ -104,6 +119,7 @@ fn walk_write<'c>(
     pass(rt, alloc, walker, Act::Leave(S), Carried::Nothing)?;
     assert_eq!(rt; walker.next(), Act::Resign);
     assert_eq!(rt; walker.carried(), Carried::Ended(None, 1));
+    assert!(rt; !walker.can_go_on(None));
     Ok(())
 }
 
@@ -122,7 +138,8 @@ fn walk_take<'c>(rt: &impl Abort, alloc: Global, walker: &mut Walker<'c>) -> Res
 fn walk_read<'c>(rt: &impl Abort, alloc: Global, walker: &mut Walker<'c>) -> Result<(), Memory> {
     assert_eq!(rt; walker.next(), Act::Touch);
     assert_eq!(rt; walker.carried(), Carried::Read(S, 0));
-    let none = walker.go_on(alloc, Some(5))?;
+    assert!(rt; !walker.can_go_on(None));
+    let none = go(rt, alloc, walker, Some(5))?;
     assert!(rt; none.is_none());
     Ok(())
 }
