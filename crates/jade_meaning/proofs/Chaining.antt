@@ -8,6 +8,8 @@ use Rattle.jade_syntax.specs.declared.tree.Item.{Item}
 use Rattle.jade_syntax.specs.declared.tree.UnaryOp.{UnaryOp}
 use Rattle.jade_syntax.specs.declared.tree.SumOp.{SumOp}
 use Rattle.jade_syntax.specs.declared.tree.ProductOp.{ProductOp}
+use Rattle.jade_meaning.specs.declared.source.Pause.{Pause}
+use Rattle.jade_meaning.specs.declared.source.Pause.TheVariants.{Fault, Awaits as AwaitsOf}
 use Rattle.jade_meaning.specs.declared.values.Value.TheVariants.{IntOf, BoolOf}
 use Rattle.jade_syntax.specs.Abstract.{Or, And, Adds, Multiplies, Expression, Link}
 use Rattle.jade_syntax.specs.Image.{Linked, links, chained, signed}
@@ -16,99 +18,113 @@ use Rattle.jade_meaning.specs.Values.{Given, Gives, Fails, operated, decides}
 use Rattle.jade_meaning.specs.Values as values
 use Rattle.jade_meaning.specs.Specification.{Specification}
 use Rattle.jade_meaning.specs.Course.{Environment}
-use Rattle.jade_meaning.specs.Serial.{Store}
-use Rattle.jade_meaning.specs.Direct.{◌>>=◌, blamed, worth, linked}
+use Rattle.jade_meaning.specs.Direct.{blamed}
+use Rattle.jade_meaning.specs.Heard.{Heard, Got, Awaits, Faults, Source, stopped, kept, ◌>>>◌, told, told_links}
 use Rattle.jade_meaning.proofs.Cells.{drop_at}
 
--- the chain comes to what its links from i on make of this value
-pub record Going (items : List Item) (env : Environment) (spec : Specification) (store : Store) (e : Expression) (A : Type 0) (f : A → Linked) (xs : List A) (i : ℕ) (v : Value) : Type 0 where
-  pub same : worth items env spec store e ≡ linked items env spec store (links (map f (drop i xs))) v
+-- the chain comes to what its links from i on make of this value, where so many answers are used
+pub record Going (items : List Item) (env : Environment) (spec : Specification) (src : Source) (e : Expression) (n : ℕ) (A : Type 0) (f : A → Linked) (xs : List A) (i : ℕ) (v : Value) (k : ℕ) : Type 0 where
+  pub same : told items env spec src e n ≡ told_links items env spec src (links (map f (drop i xs))) v k
 
-bind_ok : (r : Result Value Blame) → r ≡ (r >>= λ v. Ok v)
-bind_ok (Ok v) = refl
-bind_ok (Err b) = refl
+bind_got : (r : Heard Value) → r ≡ (r >>> λ v k. Got v k)
+bind_got (Got v n) = refl
+bind_got (Awaits o c) = refl
+bind_got (Faults b) = refl
 
-module _ (items : List Item) (env : Environment) (spec : Specification) (store : Store) where
-  chain_is : (e : Expression) (ls : List Linked) → worth items env spec store (chained e ls) ≡ (worth items env spec store e >>= λ v. linked items env spec store (links ls) v)
-  chain_is e [] = bind_ok (worth items env spec store e)
-  chain_is e (l ∷ ls) = refl
+-- what stops before another thing stops that too
+pub stops : {A B : Type 0} (p : Pause) (f : A → ℕ → Heard B) → (stopped {A = A} p >>> f) ≡ stopped {A = B} p
+stops (Fault b) f = refl
+stops (AwaitsOf o c) f = refl
 
-  -- its first operand faults
-  pub begins_not : {A : Type 0} (f : A → Linked) (xs : List A) (e first : Expression) (b : Blame) → e ≡ chained first (map f xs) → Err b ≡ worth items env spec store first → Err b ≡ worth items env spec store e
-  begins_not f xs e first b h k =
-      sym (ap (worth items env spec store) h ∙ chain_is first (map f xs) ∙ ap (λ r. r >>= λ v. linked items env spec store (links (map f xs)) v) (sym k))
+module _ (items : List Item) (env : Environment) (spec : Specification) (src : Source) where
+  -- what follows an operator, and what follows an operand
+  abbrev after_operator : {A : Type 0} (f : A → Linked) (xs : List A) (i : ℕ) → Value → ℕ → Heard Value
+  after_operator f xs i u j = told_links items env spec src (links (map f (drop (i + 1) xs))) u j
 
-module _ {items : List Item} {env : Environment} {spec : Specification} {store : Store} where
+  abbrev after_operand : {A : Type 0} (f : A → Linked) (xs : List A) (i : ℕ) (v : Value) (x : A) → Value → ℕ → Heard Value
+  after_operand f xs i v x w j = kept (blamed (operated (f x).operator v w) (f x).at) j >>> after_operator f xs i
+
+  chain_is : (e : Expression) (ls : List Linked) (n : ℕ) → told items env spec src (chained e ls) n ≡ (told items env spec src e n >>> λ v k. told_links items env spec src (links ls) v k)
+  chain_is e [] n = bind_got (told items env spec src e n)
+  chain_is e (l ∷ ls) n = refl
+
+  -- its first operand stops
+  pub begins_not : {A : Type 0} (f : A → Linked) (xs : List A) (e first : Expression) (n : ℕ) (p : Pause) → e ≡ chained first (map f xs) → stopped p ≡ told items env spec src first n → stopped p ≡ told items env spec src e n
+  begins_not f xs e first n p h k =
+      let on : Value → ℕ → Heard Value = λ v j. told_links items env spec src (links (map f xs)) v j in
+      sym (ap (λ x. told items env spec src x n) h ∙ chain_is first (map f xs) n ∙ ap (λ r. r >>> on) (sym k) ∙ stops p on)
+
+module _ {items : List Item} {env : Environment} {spec : Specification} {src : Source} {n : ℕ} where
   -- a chain begins
-  pub begins : {A : Type 0} {f : A → Linked} {xs : List A} (e first : Expression) (v : Value) → e ≡ chained first (map f xs) → Ok v ≡ worth items env spec store first → Going items env spec store e A f xs 0 v
-  begins {f = f} {xs = xs} e first v h k = record {
-    same = ap (worth items env spec store) h ∙ chain_is items env spec store first (map f xs) ∙ ap (λ r. r >>= λ v. linked items env spec store (links (map f xs)) v) (sym k);
+  pub begins : {A : Type 0} {f : A → Linked} {xs : List A} (e first : Expression) (v : Value) (k : ℕ) → e ≡ chained first (map f xs) → Got v k ≡ told items env spec src first n → Going items env spec src e n A f xs 0 v k
+  begins {f = f} {xs = xs} e first v k h g = record {
+    same = ap (λ x. told items env spec src x n) h ∙ chain_is items env spec src first (map f xs) n ∙ ap (λ r. r >>> λ v k. told_links items env spec src (links (map f xs)) v k) (sym g);
   }
 
-  module _ {e : Expression} {A : Type 0} {f : A → Linked} {xs : List A} {i : ℕ} {v : Value} where
-    next_link : (x : A) → slice_get xs i ≡ Some x → Going items env spec store e A f xs i v → worth items env spec store e ≡ linked items env spec store (Link (f x).operator (f x).at (f x).operand (links (map f (drop (i + 1) xs)))) v
-    next_link x h g = g.same ∙ ap (λ ys. linked items env spec store (links (map f ys)) v) (drop_at xs i x h)
+  module _ {e : Expression} {A : Type 0} {f : A → Linked} {xs : List A} {i : ℕ} {v : Value} {k : ℕ} where
+    next_link : (x : A) → slice_get xs i ≡ Some x → Going items env spec src e n A f xs i v k → told items env spec src e n ≡ told_links items env spec src (Link (f x).operator (f x).at (f x).operand (links (map f (drop (i + 1) xs)))) v k
+    next_link x h g = g.same ∙ ap (λ ys. told_links items env spec src (links (map f ys)) v k) (drop_at xs i x h)
 
     -- the value decides the chain
-    pub decided : (x : A) → slice_get xs i ≡ Some x → decides (f x).operator v ≡ true → Going items env spec store e A f xs i v → Ok v ≡ worth items env spec store e
+    pub decided : (x : A) → slice_get xs i ≡ Some x → decides (f x).operator v ≡ true → Going items env spec src e n A f xs i v k → Got v k ≡ told items env spec src e n
     decided x h d g =
-        let rest = worth items env spec store (f x).operand >>= λ w. blamed (operated (f x).operator v w) (f x).at >>= λ u. linked items env spec store (links (map f (drop (i + 1) xs))) u in
-        sym (next_link x h g ∙ ap (λ b. if b then Ok v else rest) d)
+        sym (next_link x h g ∙ ap (λ b. if b then Got v k else (told items env spec src (f x).operand k >>> after_operand items env spec src f xs i v x)) d)
 
-    goes : (x : A) → slice_get xs i ≡ Some x → decides (f x).operator v ≡ false → Going items env spec store e A f xs i v → worth items env spec store e ≡ (worth items env spec store (f x).operand >>= λ w. blamed (operated (f x).operator v w) (f x).at >>= λ u. linked items env spec store (links (map f (drop (i + 1) xs))) u)
+    goes : (x : A) → slice_get xs i ≡ Some x → decides (f x).operator v ≡ false → Going items env spec src e n A f xs i v k → told items env spec src e n ≡ (told items env spec src (f x).operand k >>> after_operand items env spec src f xs i v x)
     goes x h d g =
-        let rest = worth items env spec store (f x).operand >>= λ w. blamed (operated (f x).operator v w) (f x).at >>= λ u. linked items env spec store (links (map f (drop (i + 1) xs))) u in
-        next_link x h g ∙ ap (λ b. if b then Ok v else rest) d
+        next_link x h g ∙ ap (λ b. if b then Got v k else (told items env spec src (f x).operand k >>> after_operand items env spec src f xs i v x)) d
 
     -- one link more
-    pub more : (x : A) (w u : Value) → slice_get xs i ≡ Some x → decides (f x).operator v ≡ false → Ok w ≡ worth items env spec store (f x).operand → Gives u ≡ operated (f x).operator v w → Going items env spec store e A f xs i v → Going items env spec store e A f xs (i + 1) u
-    more x w u h d k o g = record {
+    pub more : (x : A) (w u : Value) (j : ℕ) → slice_get xs i ≡ Some x → decides (f x).operator v ≡ false → Got w j ≡ told items env spec src (f x).operand k → Gives u ≡ operated (f x).operator v w → Going items env spec src e n A f xs i v k → Going items env spec src e n A f xs (i + 1) u j
+    more x w u j h d q o g = record {
       same = goes x h d g
-          ∙ ap (λ r. r >>= λ w. blamed (operated (f x).operator v w) (f x).at >>= λ u. linked items env spec store (links (map f (drop (i + 1) xs))) u) (sym k)
-          ∙ ap (λ y. blamed y (f x).at >>= λ u. linked items env spec store (links (map f (drop (i + 1) xs))) u) (sym o);
+          ∙ ap (λ r. r >>> after_operand items env spec src f xs i v x) (sym q)
+          ∙ ap (λ y. kept (blamed y (f x).at) j >>> after_operator items env spec src f xs i) (sym o);
     }
 
-    -- an operand faults
-    pub more_not : (x : A) (b : Blame) → slice_get xs i ≡ Some x → decides (f x).operator v ≡ false → Err b ≡ worth items env spec store (f x).operand → Going items env spec store e A f xs i v → Err b ≡ worth items env spec store e
-    more_not x b h d k g = sym (goes x h d g ∙ ap (λ r. r >>= λ w. blamed (operated (f x).operator v w) (f x).at >>= λ u. linked items env spec store (links (map f (drop (i + 1) xs))) u) (sym k))
+    -- an operand stops
+    pub more_not : (x : A) (p : Pause) → slice_get xs i ≡ Some x → decides (f x).operator v ≡ false → stopped p ≡ told items env spec src (f x).operand k → Going items env spec src e n A f xs i v k → stopped p ≡ told items env spec src e n
+    more_not x p h d q g = sym (goes x h d g ∙ ap (λ r. r >>> after_operand items env spec src f xs i v x) (sym q) ∙ stops p (after_operand items env spec src f xs i v x))
 
     -- an operator faults
-    pub more_fails : (x : A) (w : Value) (b : Blame) → slice_get xs i ≡ Some x → decides (f x).operator v ≡ false → Ok w ≡ worth items env spec store (f x).operand → Err b ≡ blamed (operated (f x).operator v w) (f x).at → Going items env spec store e A f xs i v → Err b ≡ worth items env spec store e
-    more_fails x w b h d k o g =
+    pub more_fails : (x : A) (w : Value) (b : Blame) (j : ℕ) → slice_get xs i ≡ Some x → decides (f x).operator v ≡ false → Got w j ≡ told items env spec src (f x).operand k → Err b ≡ blamed (operated (f x).operator v w) (f x).at → Going items env spec src e n A f xs i v k → Faults b ≡ told items env spec src e n
+    more_fails x w b j h d q o g =
         sym (goes x h d g
-        ∙ ap (λ r. r >>= λ w. blamed (operated (f x).operator v w) (f x).at >>= λ u. linked items env spec store (links (map f (drop (i + 1) xs))) u) (sym k)
-        ∙ ap (λ r. r >>= λ u. linked items env spec store (links (map f (drop (i + 1) xs))) u) (sym o))
+        ∙ ap (λ r. r >>> after_operand items env spec src f xs i v x) (sym q)
+        ∙ ap (λ r. kept r j >>> after_operator items env spec src f xs i) (sym o))
 
     -- no link is left
-    pub ends : length xs ≤ i → Going items env spec store e A f xs i v → Ok v ≡ worth items env spec store e
-    ends le g = sym (g.same ∙ ap (λ ys. linked items env spec store (links (map f ys)) v) (drop_all i xs le))
+    pub ends : length xs ≤ i → Going items env spec src e n A f xs i v k → Got v k ≡ told items env spec src e n
+    ends le g = sym (g.same ∙ ap (λ ys. told_links items env spec src (links (map f ys)) v k) (drop_all i xs le))
 
 -- the signs from i on give this value
-pub record Signing (items : List Item) (env : Environment) (spec : Specification) (store : Store) (e : Expression) (ss : List (UnaryOp × Pos)) (i : ℕ) (v : Value) : Type 0 where
-  pub same : Ok v ≡ worth items env spec store (signed (drop i ss) e)
+pub record Signing (items : List Item) (env : Environment) (spec : Specification) (src : Source) (e : Expression) (n : ℕ) (ss : List (UnaryOp × Pos)) (i : ℕ) (v : Value) (k : ℕ) : Type 0 where
+  pub same : Got v k ≡ told items env spec src (signed (drop i ss) e) n
 
-module _ (items : List Item) (env : Environment) (spec : Specification) (store : Store) (e : Expression) where
-  -- a fault below a sign is the fault of the whole
-  outward : (n : ℕ) (ys : List (UnaryOp × Pos)) (b : Blame) → Err b ≡ worth items env spec store (signed (drop n ys) e) → Err b ≡ worth items env spec store (signed ys e)
-  outward zero ys b h = h
-  outward (suc n) [] b h = h
-  outward (suc n) (s ∷ ys) b h = ap (λ r. r >>= λ v. blamed (values.signed s.0 v) s.1) (outward n ys b h)
+module _ (items : List Item) (env : Environment) (spec : Specification) (src : Source) (e : Expression) (n : ℕ) where
+  -- what stops below a sign stops the whole
+  outward : (d : ℕ) (ys : List (UnaryOp × Pos)) (p : Pause) → stopped p ≡ told items env spec src (signed (drop d ys) e) n → stopped p ≡ told items env spec src (signed ys e) n
+  outward zero ys p h = h
+  outward (suc d) [] p h = h
+  outward (suc d) (s ∷ ys) p h =
+      let on : Value → ℕ → Heard Value = λ v k. kept (blamed (values.signed s.0 v) s.1) k in
+      sym (stops p on) ∙ ap (λ r. r >>> on) (outward d ys p h)
 
-  pub sign_not : (ss : List (UnaryOp × Pos)) (b : Blame) → Err b ≡ worth items env spec store e → Err b ≡ worth items env spec store (signed ss e)
-  sign_not ss b h = outward (length ss) ss b (h ∙ ap (λ ys. worth items env spec store (signed ys e)) (sym (drop_all (length ss) ss (omega arith))))
+  pub sign_not : (ss : List (UnaryOp × Pos)) (p : Pause) → stopped p ≡ told items env spec src e n → stopped p ≡ told items env spec src (signed ss e) n
+  sign_not ss p h = outward (length ss) ss p (h ∙ ap (λ ys. told items env spec src (signed ys e) n) (sym (drop_all (length ss) ss (omega arith))))
 
-module _ {items : List Item} {env : Environment} {spec : Specification} {store : Store} {e : Expression} {ss : List (UnaryOp × Pos)} where
-  pub sign_begins : (v : Value) → Ok v ≡ worth items env spec store e → Signing items env spec store e ss (length ss) v
-  sign_begins v h = record { same = h ∙ ap (λ ys. worth items env spec store (signed ys e)) (sym (drop_all (length ss) ss (omega arith))) }
+module _ {items : List Item} {env : Environment} {spec : Specification} {src : Source} {e : Expression} {n : ℕ} {ss : List (UnaryOp × Pos)} where
+  pub sign_begins : (v : Value) (k : ℕ) → Got v k ≡ told items env spec src e n → Signing items env spec src e n ss (length ss) v k
+  sign_begins v k h = record { same = h ∙ ap (λ ys. told items env spec src (signed ys e) n) (sym (drop_all (length ss) ss (omega arith))) }
 
-  pub sign_more : {j : ℕ} {v : Value} (i : ℕ) (s : UnaryOp × Pos) (u : Value) → i + 1 ≡ j → slice_get ss i ≡ Some s → Gives u ≡ values.signed s.0 v → Signing items env spec store e ss j v → Signing items env spec store e ss i u
-  sign_more {v = v} i s u n h k g = record {
-    same = ap (λ y. blamed y s.1) k ∙ ap (λ r. r >>= λ v. blamed (values.signed s.0 v) s.1) (g.same ∙ ap (λ t. worth items env spec store (signed (drop t ss) e)) (sym n)) ∙ ap (λ ys. worth items env spec store (signed ys e)) (sym (drop_at ss i s h));
+  pub sign_more : {j : ℕ} {v : Value} {k : ℕ} (i : ℕ) (s : UnaryOp × Pos) (u : Value) → i + 1 ≡ j → slice_get ss i ≡ Some s → Gives u ≡ values.signed s.0 v → Signing items env spec src e n ss j v k → Signing items env spec src e n ss i u k
+  sign_more {v = v} {k = k} i s u m h q g = record {
+    same = ap (λ y. kept (blamed y s.1) k) q ∙ ap (λ r. r >>> λ v k. kept (blamed (values.signed s.0 v) s.1) k) (g.same ∙ ap (λ t. told items env spec src (signed (drop t ss) e) n) (sym m)) ∙ ap (λ ys. told items env spec src (signed ys e) n) (sym (drop_at ss i s h));
   }
 
-  pub sign_fails : {j : ℕ} {v : Value} (i : ℕ) (s : UnaryOp × Pos) (b : Blame) → i + 1 ≡ j → slice_get ss i ≡ Some s → Err b ≡ blamed (values.signed s.0 v) s.1 → Signing items env spec store e ss j v → Err b ≡ worth items env spec store (signed ss e)
-  sign_fails {v = v} i s b n h k g =
-      outward items env spec store e i ss b (k ∙ ap (λ r. r >>= λ v. blamed (values.signed s.0 v) s.1) (g.same ∙ ap (λ t. worth items env spec store (signed (drop t ss) e)) (sym n)) ∙ ap (λ ys. worth items env spec store (signed ys e)) (sym (drop_at ss i s h)))
+  pub sign_fails : {j : ℕ} {v : Value} {k : ℕ} (i : ℕ) (s : UnaryOp × Pos) (b : Blame) → i + 1 ≡ j → slice_get ss i ≡ Some s → Err b ≡ blamed (values.signed s.0 v) s.1 → Signing items env spec src e n ss j v k → Faults b ≡ told items env spec src (signed ss e) n
+  sign_fails {v = v} {k = k} i s b m h q g =
+      outward items env spec src e n i ss (Fault b) (ap (λ r. kept r k) q ∙ ap (λ r. r >>> λ v k. kept (blamed (values.signed s.0 v) s.1) k) (g.same ∙ ap (λ t. told items env spec src (signed (drop t ss) e) n) (sym m)) ∙ ap (λ ys. told items env spec src (signed ys e) n) (sym (drop_at ss i s h)))
 
 pub adds_on : (s : SumOp) (v : Value) → decides (Adds s) v ≡ false
 adds_on s (IntOf x) = refl

@@ -56,7 +56,7 @@ positive (pos zero) h = absurd (omega (arith, ints))
 positive (pos (suc n)) h = let e : pos (suc n) -ℤ pos 1 ≡ pos n = omega (arith, ints) in ap (λ z. suc (magnitude z)) (sym e)
 positive (negsuc n) h = absurd (omega (arith, ints))
 
-turn_less : (i high : ℤ) → i <ℤ high → turn_count i high ≡ suc (turn_count (i +ℤ pos 1) high)
+pub turn_less : (i high : ℤ) → i <ℤ high → turn_count i high ≡ suc (turn_count (i +ℤ pos 1) high)
 turn_less i high h =
     let lt : pos 0 <ℤ (high -ℤ i) = omega (arith, ints) in
     let e : (high -ℤ i) -ℤ pos 1 ≡ high -ℤ (i +ℤ pos 1) = omega (arith, ints) in
@@ -66,6 +66,9 @@ none_left : (z : ℤ) → z ≤ℤ pos 0 → magnitude z ≡ 0
 none_left (pos zero) h = refl
 none_left (pos (suc n)) h = absurd (omega (arith, ints))
 none_left (negsuc n) h = refl
+
+pub no_turn : (i high : ℤ) → high ≤ℤ i → turn_count i high ≡ 0
+no_turn i high le = let none : (high -ℤ i) ≤ℤ pos 0 = omega (arith, ints) in none_left (high -ℤ i) none
 
 -- the turns from the value i on are left
 pub record Turning (limit : ℕ) (high : ℤ) (x : Name) (f : Task → Ledger → Outcome) (low : ℤ) (t0 : Task) (l0 : Ledger) (i : ℤ) (t : Task) (l : Ledger) : Type 0 where

@@ -11,6 +11,12 @@ mod Covering
 mod Ranging
 mod Opening
 mod Chaining
+mod Framing
+mod Standings
+mod Walking
+mod Hearing
+mod Listing
+mod Storing
 mod Performing
 mod Following
 mod Naming

@@ -10,9 +10,16 @@ pub mod Proper
 pub mod Report
 pub mod Carry
 pub mod Direct
+pub mod Heard
 pub mod Links
 pub mod Tallied
 pub mod Perform
+pub mod Frames
+pub mod Holding
+pub mod Standing
+pub mod Stands
+pub mod Walks
+pub mod Walk
 pub mod Scopes
 pub mod Drafts
 pub mod Told

@@ -1,12 +1,12 @@
 //! What the words of a section make.
 
-ghost use Rattle.std.specs.Prelude.{◌≡◌, [], MatchResult, Ok, Err};
+ghost use Rattle.std.specs.Prelude.{◌≡◌, [], MatchResult, IfOk, Ok, Err};
 ghost use Rattle.jade_meaning.specs.Changes.{declared, at_once, amended};
 ghost use Rattle.jade_meaning.specs.Course.{NoDraft, Building, Amending, drafted, working};
 ghost use Rattle.jade_meaning.specs.Direct.{drafted_with};
 
 use crate::grants::Grants;
-use jade_base::{Blame, FaultKind, Pos, Right, Rights};
+use jade_base::{Blame, FaultKind, Memory, Pos, Right, Rights};
 use jade_syntax::tree::DeclareWord;
 use std::alloc::Global;
 use std::marker::Model;
@@ -65,6 +65,17 @@ impl Draft {
             kind: DraftKind::Amending,
             grants,
         }
+    }
+
+    /// The same once more.
+    pub(crate) fn copy(&self, alloc: Global) -> Result<Draft, Memory>
+        ensures { IfOk result (λ copy. copy ≡ self.now) }
+    {
+        let grants = self.grants.copy(alloc)?;
+        Ok(Draft {
+            kind: self.kind,
+            grants,
+        })
     }
 
     /// The child's specification at the end of a section.

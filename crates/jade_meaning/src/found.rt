@@ -74,6 +74,16 @@ impl<'c> Declared<'c> {
         }
     }
 
+    /// The same items.
+    pub(crate) fn copy(&self) -> Declared<'c>
+        ensures { result ≡ self.now }
+    {
+        Declared {
+            items: self.items,
+            objects: self.objects,
+        }
+    }
+
     /// The number of objects.
     pub(crate) fn objects(&self) -> usize
         ensures { result ≡ length (sizes self.now) }

@@ -3,7 +3,9 @@
 
 mod draft;
 mod found;
+mod frames;
 mod grants;
+mod holds;
 pub mod laws;
 mod ledger;
 pub mod ready;
@@ -12,10 +14,16 @@ pub mod serial;
 #[cfg(test)]
 mod serial_tests;
 mod setting;
+mod source;
+mod standing;
 mod statements;
 mod stop;
 mod tally;
 pub mod values;
+pub mod walker;
+#[cfg(test)]
+mod walker_tests;
 
 pub use ready::can_run;
 pub use serial::{serial_program, serial_run};
+pub use walker::{Act, Carried, Walker};

@@ -62,7 +62,11 @@ pub fn serial_program(
 }
 
 // The inputs as variables with these values.
-fn inputs<'c>(alloc: Global, items: &'c Items, numbers: &[i64]) -> Result<Scope<'c>, Memory>
+pub(crate) fn inputs<'c>(
+    alloc: Global,
+    items: &'c Items,
+    numbers: &[i64],
+) -> Result<Scope<'c>, Memory>
     requires { length numbers.now ≡ length (input_names items.now) }
     ensures { IfOk result (λ scope. scope ≡ inputs items.now numbers.now) }
 {

@@ -24,7 +24,7 @@ struct Outcome {
     steps: Vec<u64>,
 }
 
-fn put<T: Drop>(list: &mut Sequence<T>, item: T) -> Result<(), Memory> {
+pub(crate) fn put<T: Drop>(list: &mut Sequence<T>, item: T) -> Result<(), Memory> {
     match list.push(item) {
         Ok(()) => Ok(()),
         Err(_) => Err(Memory),
@@ -35,7 +35,7 @@ fn amount(value: i64) -> Number {
     Number { value, pos: AT }
 }
 
-fn unary(alloc: Global, atom: Atom) -> Unary {
+pub(crate) fn unary(alloc: Global, atom: Atom) -> Unary {
     Unary {
         signs: Sequence::empty(alloc),
         atom,
@@ -68,7 +68,7 @@ fn value(alloc: Global, atom: Atom) -> Expr {
     )
 }
 
-fn number(alloc: Global, number: i64) -> Expr {
+pub(crate) fn number(alloc: Global, number: i64) -> Expr {
     value(alloc, Atom::Whole(amount(number)))
 }
 
@@ -92,7 +92,7 @@ fn quotient(alloc: Global, left: i64, right: i64) -> Result<Expr, Fail> {
     Ok(expr(alloc, product))
 }
 
-fn store(alloc: Global, cell: i64, value: Expr) -> Result<Statement, Fail> {
+pub(crate) fn store(alloc: Global, cell: i64, value: Expr) -> Result<Statement, Fail> {
     Ok(Statement::Store {
         target: CellRef {
             name: Name::of(alloc, b"s")?,
@@ -121,7 +121,11 @@ fn declare(alloc: Global, word: DeclareWord) -> Result<Block, Fail> {
     Ok(section)
 }
 
-fn child(alloc: Global, word: DeclareWord, statement: Statement) -> Result<Statement, Fail> {
+pub(crate) fn child(
+    alloc: Global,
+    word: DeclareWord,
+    statement: Statement,
+) -> Result<Statement, Fail> {
     let mut body = Block::empty(alloc);
     put(&mut body, statement)?;
     Ok(Statement::Withonly {
@@ -151,7 +155,7 @@ fn count(alloc: Global, high: i64) -> Result<Statement, Fail> {
     })
 }
 
-fn program(alloc: Global, main: Block) -> Result<Program, Memory>
+pub(crate) fn program(alloc: Global, main: Block) -> Result<Program, Memory>
     ensures inputs { IfOk result (λ p. input_names p.items ≡ []) }
     ensures objects { IfOk result (λ p. length (sizes p.items) ≤ 4096) }
 {

@@ -3,13 +3,15 @@
 ghost use Rattle.std.specs.Prelude.{◌≡◌, ◌+◌, ◌≤◌};
 ghost use Rattle.jade_syntax.specs.Abstract.{Cell};
 ghost use Rattle.jade_syntax.specs.Image.{expression, and_expression, compare_expression, sum_expression, product_expression, unary_expression, atom_expression, reference, placed, member};
-ghost use Rattle.jade_meaning.specs.Direct.{worth, located, blame_at, member_of, index_in, indexed, read_of};
+ghost use Rattle.jade_meaning.specs.Direct.{worth, located, blame_at, member_of, index_in, indexed};
+ghost use Rattle.jade_meaning.specs.Heard.{heard, source, told, told_place, told_cell};
 
 use crate::draft::Draft;
 use crate::found::{Declared, Found, Range};
 use crate::grants::Grants;
 use crate::ledger::Store;
 use crate::scope::Scope;
+use crate::source::{Cells, Pause};
 use crate::tally::Tally;
 use crate::values::{Value, index_below};
 use jade_base::{Blame, FaultKind, Pos, Right};
@@ -71,127 +73,173 @@ pub(crate) fn cell_of(found: Found, index: i64, at: Pos) -> Result<usize, Blame>
 }
 
 /// What a cell holds, or the fault `right`.
-fn read(grants: &Grants, store: &Store, object: usize, cell: usize, at: Pos) -> Result<Value, Blame>
-    ensures { result ≡ read_of grants.now store.now object cell at }
+fn read(
+    grants: &Grants,
+    cells: &Cells,
+    used: &mut usize,
+    object: usize,
+    cell: usize,
+    at: Pos,
+) -> Result<Value, Pause>
+    ensures { heard result used.new ≡ told_cell grants.now (source cells.now) object cell at used.old }
 {
     match grants.on(object).reads {
-        Right::Immediate => Ok(Value::IntOf(store.read(object, cell))),
-        Right::Absent | Right::Deferred => Err(blame_at(FaultKind::Right, at)),
+        Right::Immediate => match cells.next(object, cell, used) {
+            Some(number) => Ok(Value::IntOf(number)),
+            None => Err(Pause::Awaits(object, cell)),
+        },
+        Right::Absent | Right::Deferred => Err(Pause::Fault(blame_at(FaultKind::Right, at))),
     }
 }
 
 impl<'c> Setting<'c> {
     /// The value of an expression, or its fault.
-    #[cycle(value)]
-    pub(crate) fn value(&self, task: &Task<'c>, store: &Store, e: &Expr) -> Result<Value, Blame>
-        ensures { result ≡ worth self.now.items task.now.scope task.now.grants store.now (expression e.now) }
+    #[cycle(told)]
+    pub(crate) fn told(
+        &self,
+        task: &Task<'c>,
+        cells: &Cells,
+        used: &mut usize,
+        e: &Expr,
+    ) -> Result<Value, Pause>
+        ensures { heard result used.new ≡ told self.now.items task.now.scope task.now.grants (source cells.now) (expression e.now) used.old }
     {
-        let mut value = match self.and_value(task, store, &e.first) {
+        let mut value = match self.and_told(task, cells, used, &e.first) {
             Ok(value) => value,
-            Err(blame) => return Err(blame),
+            Err(pause) => return Err(pause),
         };
         for i in 0..e.rest.len() {
             let (_, operand) = e.rest.at(i);
             if value.decides_or() {
                 return Ok(value);
             }
-            value = match self.and_value(task, store, operand) {
+            value = match self.and_told(task, cells, used, operand) {
                 Ok(value) => value,
-                Err(blame) => return Err(blame),
+                Err(pause) => return Err(pause),
             };
         }
         Ok(value)
     }
 
-    #[cycle(value)]
-    fn and_value(&self, task: &Task<'c>, store: &Store, e: &AndExpr) -> Result<Value, Blame>
-        ensures { result ≡ worth self.now.items task.now.scope task.now.grants store.now (and_expression e.now) }
+    #[cycle(told)]
+    fn and_told(
+        &self,
+        task: &Task<'c>,
+        cells: &Cells,
+        used: &mut usize,
+        e: &AndExpr,
+    ) -> Result<Value, Pause>
+        ensures { heard result used.new ≡ told self.now.items task.now.scope task.now.grants (source cells.now) (and_expression e.now) used.old }
     {
-        let mut value = match self.compare_value(task, store, &e.first) {
+        let mut value = match self.compare_told(task, cells, used, &e.first) {
             Ok(value) => value,
-            Err(blame) => return Err(blame),
+            Err(pause) => return Err(pause),
         };
         for i in 0..e.rest.len() {
             let (_, operand) = e.rest.at(i);
             if value.decides_and() {
                 return Ok(value);
             }
-            value = match self.compare_value(task, store, operand) {
+            value = match self.compare_told(task, cells, used, operand) {
                 Ok(value) => value,
-                Err(blame) => return Err(blame),
+                Err(pause) => return Err(pause),
             };
         }
         Ok(value)
     }
 
-    #[cycle(value)]
-    fn compare_value(&self, task: &Task<'c>, store: &Store, e: &Compare) -> Result<Value, Blame>
-        ensures { result ≡ worth self.now.items task.now.scope task.now.grants store.now (compare_expression e.now) }
+    #[cycle(told)]
+    fn compare_told(
+        &self,
+        task: &Task<'c>,
+        cells: &Cells,
+        used: &mut usize,
+        e: &Compare,
+    ) -> Result<Value, Pause>
+        ensures { heard result used.new ≡ told self.now.items task.now.scope task.now.grants (source cells.now) (compare_expression e.now) used.old }
     {
-        let left = match self.sum_value(task, store, &e.left) {
+        let left = match self.sum_told(task, cells, used, &e.left) {
             Ok(value) => value,
-            Err(blame) => return Err(blame),
+            Err(pause) => return Err(pause),
         };
         match &e.right {
             None => Ok(left),
-            Some((relation, _, right)) => match self.sum_value(task, store, right) {
+            Some((relation, _, right)) => match self.sum_told(task, cells, used, right) {
                 Ok(right) => Ok(left.compared(*relation, right)),
-                Err(blame) => Err(blame),
+                Err(pause) => Err(pause),
             },
         }
     }
 
-    #[cycle(value)]
-    fn sum_value(&self, task: &Task<'c>, store: &Store, e: &Sum) -> Result<Value, Blame>
-        ensures { result ≡ worth self.now.items task.now.scope task.now.grants store.now (sum_expression e.now) }
+    #[cycle(told)]
+    fn sum_told(
+        &self,
+        task: &Task<'c>,
+        cells: &Cells,
+        used: &mut usize,
+        e: &Sum,
+    ) -> Result<Value, Pause>
+        ensures { heard result used.new ≡ told self.now.items task.now.scope task.now.grants (source cells.now) (sum_expression e.now) used.old }
     {
-        let mut value = match self.product_value(task, store, &e.first) {
+        let mut value = match self.product_told(task, cells, used, &e.first) {
             Ok(value) => value,
-            Err(blame) => return Err(blame),
+            Err(pause) => return Err(pause),
         };
         for i in 0..e.rest.len() {
             let (op, at, operand) = e.rest.at(i);
-            let right = match self.product_value(task, store, operand) {
+            let right = match self.product_told(task, cells, used, operand) {
                 Ok(value) => value,
-                Err(blame) => return Err(blame),
+                Err(pause) => return Err(pause),
             };
             value = match value.added(*op, right) {
                 Ok(value) => value,
-                Err(kind) => return Err(blame_at(kind, *at)),
+                Err(kind) => return Err(Pause::Fault(blame_at(kind, *at))),
             };
         }
         Ok(value)
     }
 
-    #[cycle(value)]
-    fn product_value(&self, task: &Task<'c>, store: &Store, e: &Product) -> Result<Value, Blame>
-        ensures { result ≡ worth self.now.items task.now.scope task.now.grants store.now (product_expression e.now) }
+    #[cycle(told)]
+    fn product_told(
+        &self,
+        task: &Task<'c>,
+        cells: &Cells,
+        used: &mut usize,
+        e: &Product,
+    ) -> Result<Value, Pause>
+        ensures { heard result used.new ≡ told self.now.items task.now.scope task.now.grants (source cells.now) (product_expression e.now) used.old }
     {
-        let mut value = match self.unary_value(task, store, &e.first) {
+        let mut value = match self.unary_told(task, cells, used, &e.first) {
             Ok(value) => value,
-            Err(blame) => return Err(blame),
+            Err(pause) => return Err(pause),
         };
         for i in 0..e.rest.len() {
             let (op, at, operand) = e.rest.at(i);
-            let right = match self.unary_value(task, store, operand) {
+            let right = match self.unary_told(task, cells, used, operand) {
                 Ok(value) => value,
-                Err(blame) => return Err(blame),
+                Err(pause) => return Err(pause),
             };
             value = match value.multiplied(*op, right) {
                 Ok(value) => value,
-                Err(kind) => return Err(blame_at(kind, *at)),
+                Err(kind) => return Err(Pause::Fault(blame_at(kind, *at))),
             };
         }
         Ok(value)
     }
 
-    #[cycle(value)]
-    fn unary_value(&self, task: &Task<'c>, store: &Store, e: &Unary) -> Result<Value, Blame>
-        ensures { result ≡ worth self.now.items task.now.scope task.now.grants store.now (unary_expression e.now) }
+    #[cycle(told)]
+    fn unary_told(
+        &self,
+        task: &Task<'c>,
+        cells: &Cells,
+        used: &mut usize,
+        e: &Unary,
+    ) -> Result<Value, Pause>
+        ensures { heard result used.new ≡ told self.now.items task.now.scope task.now.grants (source cells.now) (unary_expression e.now) used.old }
     {
-        let mut value = match self.atom_value(task, store, &e.atom) {
+        let mut value = match self.atom_told(task, cells, used, &e.atom) {
             Ok(value) => value,
-            Err(blame) => return Err(blame),
+            Err(pause) => return Err(pause),
         };
         let mut left = e.signs.len();
         while left > 0 {
@@ -199,45 +247,97 @@ impl<'c> Setting<'c> {
             let (sign, at) = e.signs.at(left);
             value = match value.signed(*sign) {
                 Ok(value) => value,
-                Err(kind) => return Err(blame_at(kind, *at)),
+                Err(kind) => return Err(Pause::Fault(blame_at(kind, *at))),
             };
         }
         Ok(value)
     }
 
-    #[cycle(value)]
-    fn atom_value(&self, task: &Task<'c>, store: &Store, e: &Atom) -> Result<Value, Blame>
-        ensures { result ≡ worth self.now.items task.now.scope task.now.grants store.now (atom_expression e.now) }
+    #[cycle(told)]
+    fn atom_told(
+        &self,
+        task: &Task<'c>,
+        cells: &Cells,
+        used: &mut usize,
+        e: &Atom,
+    ) -> Result<Value, Pause>
+        ensures { heard result used.new ≡ told self.now.items task.now.scope task.now.grants (source cells.now) (atom_expression e.now) used.old }
     {
         match e {
             Atom::Whole(number) => Ok(Value::IntOf(number.value)),
             Atom::Truth(truth, _) => Ok(Value::BoolOf(*truth)),
-            Atom::Group(_, inner) => self.value(task, store, inner),
+            Atom::Group(_, inner) => self.told(task, cells, used, inner),
             Atom::Named(name, _) => Ok(task.scope.value_of(name)),
-            Atom::Cell(cell) => self.cell_value(task, store, cell),
+            Atom::Cell(cell) => self.cell_told(task, cells, used, cell),
         }
     }
 
-    #[cycle(value)]
-    fn cell_value(&self, task: &Task<'c>, store: &Store, e: &CellRef) -> Result<Value, Blame>
-        ensures { result ≡ worth self.now.items task.now.scope task.now.grants store.now (Cell (reference e.now).place (reference e.now).cell) }
+    #[cycle(told)]
+    fn cell_told(
+        &self,
+        task: &Task<'c>,
+        cells: &Cells,
+        used: &mut usize,
+        e: &CellRef,
+    ) -> Result<Value, Pause>
+        ensures { heard result used.new ≡ told self.now.items task.now.scope task.now.grants (source cells.now) (Cell (reference e.now).place (reference e.now).cell) used.old }
     {
-        let found = match self.located(task, store, &e.name, e.pos, &e.family) {
+        let found = match self.told_place(task, cells, used, &e.name, e.pos, &e.family) {
             Ok(found) => found,
-            Err(blame) => return Err(blame),
+            Err(pause) => return Err(pause),
         };
-        let index = match self.value(task, store, &e.cell) {
+        let index = match self.told(task, cells, used, &e.cell) {
             Ok(value) => value.whole(),
-            Err(blame) => return Err(blame),
+            Err(pause) => return Err(pause),
         };
         match cell_of(found, index, e.pos) {
-            Ok(cell) => read(&task.grants, store, found.number, cell, e.pos),
-            Err(blame) => Err(blame),
+            Ok(cell) => read(&task.grants, cells, used, found.number, cell, e.pos),
+            Err(blame) => Err(Pause::Fault(blame)),
         }
     }
 
     /// The object that is meant, or the fault.
-    #[cycle(value)]
+    #[cycle(told)]
+    pub(crate) fn told_place(
+        &self,
+        task: &Task<'c>,
+        cells: &Cells,
+        used: &mut usize,
+        name: &Name,
+        at: Pos,
+        family: &Option<Expr>,
+    ) -> Result<Found, Pause>
+        ensures { heard result used.new ≡ told_place self.now.items task.now.scope task.now.grants (source cells.now) (placed name.now at (member family.now)) used.old }
+    {
+        let range = self.items.range(name);
+        match family {
+            None => Ok(Found {
+                number: range.first,
+                size: range.size,
+            }),
+            Some(family) => match self.told(task, cells, used, family) {
+                Ok(value) => match member_of(range, value.whole(), at) {
+                    Ok(found) => Ok(found),
+                    Err(blame) => Err(Pause::Fault(blame)),
+                },
+                Err(pause) => Err(pause),
+            },
+        }
+    }
+
+    /// The value of an expression, or its fault, where the cells are those of a store.
+    pub(crate) fn value(&self, task: &Task<'c>, store: &Store, e: &Expr) -> Result<Value, Blame>
+        ensures { result ≡ worth self.now.items task.now.scope task.now.grants store.now (expression e.now) }
+    {
+        let mut used = 0;
+        match self.told(task, &Cells::Stored(store), &mut used, e) {
+            Ok(value) => Ok(value),
+            Err(Pause::Fault(blame)) => Err(blame),
+            Err(Pause::Awaits(..)) => unreachable!(),
+        }
+    }
+
+    /// The object that is meant, or the fault, where the cells are those of a store.
     pub(crate) fn located(
         &self,
         task: &Task<'c>,
@@ -248,16 +348,11 @@ impl<'c> Setting<'c> {
     ) -> Result<Found, Blame>
         ensures { result ≡ located self.now.items task.now.scope task.now.grants store.now (placed name.now at (member family.now)) }
     {
-        let range = self.items.range(name);
-        match family {
-            None => Ok(Found {
-                number: range.first,
-                size: range.size,
-            }),
-            Some(family) => match self.value(task, store, family) {
-                Ok(value) => member_of(range, value.whole(), at),
-                Err(blame) => Err(blame),
-            },
+        let mut used = 0;
+        match self.told_place(task, &Cells::Stored(store), &mut used, name, at, family) {
+            Ok(found) => Ok(found),
+            Err(Pause::Fault(blame)) => Err(blame),
+            Err(Pause::Awaits(..)) => unreachable!(),
         }
     }
 }

@@ -134,7 +134,7 @@ impl<'c> Setting<'c> {
     }
 
     // Begins the section of a `withonly`.
-    fn begin_building(&self, task: &mut Task<'c>) -> Result<(), Memory>
+    pub(crate) fn begin_building(&self, task: &mut Task<'c>) -> Result<(), Memory>
         ensures { OnOk result (task.new ≡ record task.old { draft = Building (none_of self.now.items) }) }
     {
         match Grants::none(self.alloc, self.items.objects()) {
@@ -147,7 +147,7 @@ impl<'c> Setting<'c> {
     }
 
     // Begins the section of a `with`.
-    fn begin_amending(&self, task: &mut Task<'c>) -> Result<(), Memory>
+    pub(crate) fn begin_amending(&self, task: &mut Task<'c>) -> Result<(), Memory>
         ensures { OnOk result (task.new ≡ record task.old { draft = Amending task.old.grants }) }
     {
         match task.grants.copy(self.alloc) {
@@ -160,7 +160,7 @@ impl<'c> Setting<'c> {
     }
 
     // Ends the section of a `with`.
-    fn end_amending(&self, task: &mut Task<'c>) -> Result<(), Memory>
+    pub(crate) fn end_amending(&self, task: &mut Task<'c>) -> Result<(), Memory>
         ensures { OnOk result (task.new ≡ changed task.old) }
     {
         let before = match task.grants.copy(self.alloc) {
@@ -179,7 +179,7 @@ impl<'c> Setting<'c> {
     }
 
     // The child's specification at the end of the section of a `withonly`, which ends the section.
-    fn end_building(&self, task: &mut Task<'c>) -> Result<Grants, Memory>
+    pub(crate) fn end_building(&self, task: &mut Task<'c>) -> Result<Grants, Memory>
         ensures child { IfOk result (λ child. child ≡ fitted task.old.grants (drafted task.old.draft)) }
         ensures section { OnOk result (task.new ≡ record task.old { draft = NoDraft }) }
     {
@@ -192,7 +192,7 @@ impl<'c> Setting<'c> {
     }
 
     // The variables of a child: those of the `do` list with their values now, and the inputs.
-    fn copied(&self, names: &'c NameList, task: &Task<'c>) -> Result<Scope<'c>, Memory>
+    pub(crate) fn copied(&self, names: &'c NameList, task: &Task<'c>) -> Result<Scope<'c>, Memory>
         ensures { IfOk result (λ scope. scope ≡ copied (map (λ n. n.name) names.now) task.now.scope ++ self.now.given) }
     {
         let mut scope = match self.given.copy(self.alloc) {

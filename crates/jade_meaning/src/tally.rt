@@ -39,6 +39,17 @@ impl Tally {
         }
     }
 
+    /// The same counts.
+    pub(crate) fn copy(&self) -> Tally
+        ensures { result ≡ self.now }
+    {
+        Tally {
+            taken: self.taken,
+            part: self.part,
+            children: self.children,
+        }
+    }
+
     /// The steps of the present part.
     pub(crate) fn part(&self) -> u32
         ensures { result ≡ self.now.part }

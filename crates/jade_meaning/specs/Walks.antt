@@ -1,0 +1,17 @@
+-- What a task that is walked is seen as.
+use Rattle.std.specs.Prelude.{ℕ, List, ℤ}
+use Rattle.jade_syntax.specs.declared.tree.Item.{Item}
+use Rattle.jade_syntax.specs.declared.tree.Statement.{Statement}
+use Rattle.jade_meaning.specs.Specification.{Specification}
+use Rattle.jade_meaning.specs.Course.{Environment}
+
+-- what every task of the run has, what the task began with, the answers that it was given, and how many of its events are done
+pub record Walk : Type 0 where
+  pub items : List Item
+  pub given : Environment
+  pub limit : ℕ
+  pub env : Environment
+  pub spec : Specification
+  pub body : List Statement
+  pub answers : List ℤ
+  pub done : ℕ

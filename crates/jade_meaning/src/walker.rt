@@ -1,0 +1,405 @@
+//! One task's talk, event by event.
+
+ghost use Rattle.std.specs.Prelude.{◌≡◌, ◌+◌, ◌≤◌, [], true, false, None, Some, List, ℤ, drop, length, IfOk, OnOk, OnErr};
+ghost use Rattle.jade_syntax.specs.Objects.{input_names, sizes};
+ghost use Rattle.jade_meaning.specs.Course.{Setting as SettingOf};
+ghost use Rattle.jade_meaning.specs.Talk.{Task as TaskOf};
+ghost use Rattle.jade_meaning.specs.Holding.{event_of};
+ghost use Rattle.jade_meaning.specs.Standing.{ahead, ready};
+ghost use Rattle.jade_meaning.specs.Walk.{upcoming, First, act_of, carried_of, is_answered, goes_with, Passes, moved, Bears, begun_as, root_walk, read_of, creates, enrolls};
+
+use crate::found::Declared;
+use crate::grants::Grants;
+use crate::holds::Told;
+use crate::scope::Scope;
+use crate::serial::inputs;
+use crate::setting::Setting;
+use crate::standing::{Stage, Standing, begun, is_over, onward};
+use jade_base::{Blame, Memory, Mode, ObjectId, Rights};
+use jade_syntax::Checked;
+use jade_syntax::tree::{Block, Program};
+use std::alloc::Global;
+use std::marker::Model;
+
+/// What the next event of a task is.
+#[derive(Clone, Copy, Debug, PartialEq, Eq)]
+pub enum Act {
+    Enter(ObjectId),
+    Enroll,
+    Take(ObjectId),
+    Touch,
+    Give(ObjectId),
+    Shift(ObjectId),
+    Leave(ObjectId),
+    Resign,
+}
+
+/// What an event carries beside the object of its act.
+#[derive(Clone, Copy, Debug, PartialEq, Eq)]
+pub enum Carried {
+    Nothing,
+    Rights(Rights),
+    Mode(Mode),
+    Read(ObjectId, u32),
+    Write(ObjectId, u32, i64),
+    Steps(u64),
+    Ended(Option<Blame>, u64),
+}
+
+/// A task that tells its events one after another. Contracts see it as what every task of the run
+/// has, what the task began with, the answers that it was given, and how many of its events are
+/// done.
+#[derive(Drop)]
+pub struct Walker<'c> {
+    setting: Setting<'c>,
+    scope: Scope<'c>,
+    grants: Grants,
+    body: &'c Block,
+    answers: Vec<i64>,
+    done: usize,
+    told: usize,
+    standing: Standing<'c>,
+}
+
+impl<'c> Model for Walker<'c> {
+    ghost use Rattle.std.specs.Prelude.{List, ℤ, ℕ, refl};
+    ghost use Rattle.std.specs.Coded.{code_by, coded×, coded_list, coded_ℕ, coded_ℤ};
+    ghost use Rattle.jade_syntax.specs.declared.tree.Item.{Item as ItemOf};
+    ghost use Rattle.jade_syntax.specs.declared.tree.Statement.{Statement as StatementOf};
+    ghost use Rattle.jade_syntax.specs.contracts.tree.Item as item;
+    ghost use Rattle.jade_syntax.specs.contracts.tree.Statement as statement;
+    ghost use Rattle.jade_meaning.specs.contracts.values.Value as value_row;
+    ghost use Rattle.jade_meaning.specs.declared.values.Value.{Value as ValueOf};
+    ghost use Rattle.jade_meaning.specs.contracts.grants.Grants as grants_row;
+    ghost use Rattle.jade_meaning.specs.Course.{Environment};
+    ghost use Rattle.jade_meaning.specs.Specification.{Specification};
+    ghost use Rattle.jade_meaning.specs.Walks.{Walk};
+
+    ghost Value = { Walk };
+
+    ghost coded = { code_by (List ItemOf × (Environment × (ℕ × (Environment × (Specification × (List StatementOf × (List ℤ × ℕ))))))) (coded× (coded_list item.the_row.coded) (coded× (coded_list (code_by (List ℕ × ValueOf) (coded× (coded_list coded_ℕ) value_row.the_row.coded) (λ b. (b.name, b.value)) (λ p. record { name = p.0; value = p.1 }) (λ _. refl))) (coded× coded_ℕ (coded× (coded_list (code_by (List ℕ × ValueOf) (coded× (coded_list coded_ℕ) value_row.the_row.coded) (λ b. (b.name, b.value)) (λ p. record { name = p.0; value = p.1 }) (λ _. refl))) (coded× grants_row.the_row.coded (coded× (coded_list statement.the_row.coded) (coded× (coded_list coded_ℤ) coded_ℕ))))))) (λ w. (w.items, (w.given, (w.limit, (w.env, (w.spec, (w.body, (w.answers, w.done)))))))) (λ p. record { items = p.0; given = p.1.0; limit = p.1.1.0; env = p.1.1.1.0; spec = p.1.1.1.1.0; body = p.1.1.1.1.1.0; answers = p.1.1.1.1.1.1.0; done = p.1.1.1.1.1.1.1 }) (λ _. refl) };
+
+    ghost use Rattle.jade_meaning.specs.Perform.{shown};
+    ghost use Rattle.jade_meaning.specs.Stands.{Stands};
+
+    ghost view = { λ w. record { items = w.setting.items; given = w.setting.given; limit = w.setting.limit; env = w.scope; spec = w.grants; body = w.body.now; answers = w.answers.items; done = w.done } };
+
+    ghost invariant = { λ w. Stands (shown w.setting) w.scope w.grants w.body.now w.answers.items w.done w.told w.standing };
+}
+
+impl<'c> Setting<'c> {
+    // The same once more.
+    fn copy(&self) -> Result<Setting<'c>, Memory>
+        ensures { IfOk result (λ copy. (copy.items ≡ self.now.items) × (copy.given ≡ self.now.given) × (copy.limit ≡ self.now.limit)) }
+    {
+        let given = self.given.copy(self.alloc)?;
+        Ok(Setting {
+            alloc: self.alloc,
+            items: self.items.copy(),
+            given,
+            limit: self.limit,
+        })
+    }
+}
+
+// A task that begins with these.
+fn begin<'c>(
+    setting: Setting<'c>,
+    scope: Scope<'c>,
+    grants: Grants,
+    body: &'c Block,
+) -> Result<Walker<'c>, Memory>
+    ensures { IfOk result (λ w. w ≡ begun_as setting.entry.items setting.entry.given setting.entry.limit scope.entry grants body.now) }
+{
+    let standing = begun(&setting, &scope, &grants, body)?;
+    let answers = Vec::new(setting.alloc);
+    Ok(Walker {
+        setting,
+        scope,
+        grants,
+        body,
+        answers,
+        done: 0,
+        told: 0,
+        standing,
+    })
+}
+
+impl<'c> Walker<'c> {
+    /// The task of `main`, at its first event. The error is want of memory.
+    pub fn root(
+        alloc: Global,
+        checked: &'c Checked,
+        numbers: &'c [i64],
+        limit: u32,
+    ) -> Result<Walker<'c>, Memory>
+        requires given { length numbers.now ≡ length (input_names checked.now.program.items) }
+        requires limit { 1 ≤ limit }
+        ensures { IfOk result (λ w. w ≡ root_walk checked.now.program numbers.now limit) }
+    {
+        Walker::of_program(alloc, checked.program(), numbers, limit)
+    }
+
+    /// The task of a tree's `main`, whether or not its names and kinds are right. It declares at
+    /// most 4,096 objects. The error is want of memory.
+    pub fn of_program(
+        alloc: Global,
+        program: &'c Program,
+        numbers: &'c [i64],
+        limit: u32,
+    ) -> Result<Walker<'c>, Memory>
+        requires given { length numbers.now ≡ length (input_names program.now.items) }
+        requires objects { length (sizes program.now.items) ≤ 4096 }
+        ensures { IfOk result (λ w. w ≡ root_walk program.now numbers.now limit) }
+    {
+        let items = Declared::of(&program.items);
+        let given = inputs(alloc, &program.items, numbers)?;
+        let scope = given.copy(alloc)?;
+        let grants = Grants::all(alloc, items.objects())?;
+        let setting = Setting {
+            alloc,
+            items,
+            given,
+            limit,
+        };
+        begin(setting, scope, grants, &program.main)
+    }
+
+    /// The next event.
+    pub fn next(&self) -> Act
+        ensures { First (upcoming self.now) (λ e. act_of e ≡ result) }
+    {
+        next_act(&self.standing, self.told)
+    }
+
+    /// What the next event carries beside the object of its act. A read has no answer yet.
+    pub fn carried(&self) -> Carried
+        ensures told { First (upcoming self.now) (λ e. carried_of e ≡ result) }
+        ensures unanswered { First (upcoming self.now) (λ e. is_answered e ≡ false) }
+    {
+        next_carried(&self.standing, self.told)
+    }
+
+    /// Whether the task can go past its next event with this value.
+    pub fn can_go_on(&self, value: Option<i64>) -> bool
+        ensures can { result ≡ true → First (upcoming self.now) (Passes value) }
+        ensures cannot { result ≡ false → First (upcoming self.now) (λ e. Passes value e → ⊥) }
+    {
+        goes_with(self.carried(), value)
+    }
+
+    /// Moves past the next event, with the answer to a read, and answers the child of a creation.
+    /// The error, want of memory, changes nothing.
+    pub fn go_on(&mut self, alloc: Global, value: Option<i64>) -> Result<Option<Walker<'c>>, Memory>
+        requires { First (upcoming self.old) (Passes value) }
+        ensures moved { OnOk result (self.new ≡ moved value self.old) }
+        ensures child { IfOk result (λ child. First (upcoming self.old) (Bears self.old child)) }
+        ensures unchanged { OnErr result (self.new ≡ self.old) }
+    {
+        match value {
+            Some(value) => {
+                self.answer(value)?;
+                Ok(None)
+            }
+            None => {
+                let child = self.child(alloc)?;
+                self.pass()?;
+                Ok(child)
+            }
+        }
+    }
+
+    // The child of the next event, where that is a creation.
+    fn child(&self, alloc: Global) -> Result<Option<Walker<'c>>, Memory>
+        ensures { IfOk result (λ child. First (upcoming self.now) (Bears self.now child)) }
+    {
+        if is_creation(&self.standing, self.told) {
+            let newborn = &self.standing.newborn;
+            let setting = self.setting.copy()?;
+            let scope = newborn.scope.copy(alloc)?;
+            let grants = newborn.grants.copy(alloc)?;
+            let child = begin(setting, scope, grants, newborn.body)?;
+            return Ok(Some(child));
+        }
+        Ok(None)
+    }
+
+    // Moves past a read.
+    fn answer(&mut self, value: i64) -> Result<(), Memory>
+        requires { First (upcoming self.old) (Passes (Some value)) }
+        ensures moved { OnOk result (self.new ≡ moved (Some value) self.old) }
+        ensures unchanged { OnErr result (self.new ≡ self.old) }
+    {
+        let done = counted(self.done)?;
+        if self.standing.run.used > self.answers.len() {
+            return Err(Memory);
+        }
+        match self.answers.push(value) {
+            Ok(()) => {}
+            Err(_) => return Err(Memory),
+        }
+        match onward(&self.setting, &self.standing, self.answers.as_slice()) {
+            Ok(standing) => {
+                self.standing = standing;
+                self.told = 0;
+                self.done = done;
+                Ok(())
+            }
+            Err(memory) => {
+                let _ = self.answers.pop();
+                Err(memory)
+            }
+        }
+    }
+
+    // Moves past an event that is no read.
+    fn pass(&mut self) -> Result<(), Memory>
+        requires { First (upcoming self.old) (Passes None) }
+        ensures moved { OnOk result (self.new ≡ moved None self.old) }
+        ensures unchanged { OnErr result (self.new ≡ self.old) }
+    {
+        let done = counted(self.done)?;
+        let told = counted(self.told)?;
+        if is_left(&self.standing, told) {
+            self.told = told;
+            self.done = done;
+            return Ok(());
+        }
+        if is_over(&self.standing) {
+            return Err(Memory);
+        }
+        let standing = onward(&self.setting, &self.standing, self.answers.as_slice())?;
+        self.standing = standing;
+        self.told = 0;
+        self.done = done;
+        Ok(())
+    }
+}
+
+// One more.
+fn counted(number: usize) -> Result<usize, Memory>
+    ensures { IfOk result (λ more. more ≡ number + 1) }
+{
+    match number.checked_add(1) {
+        Some(number) => Ok(number),
+        None => Err(Memory),
+    }
+}
+
+// The next event, where so much of what is pending is told.
+fn next_act(at: &Standing, told: usize) -> Act
+    requires { ready (drop told at.now.pending.items) at.now.stage ≡ true }
+    ensures { (s : SettingOf) (given : List ℤ) → First (ahead s given at.now told []) (λ e. act_of e ≡ result) }
+{
+    if told < at.pending.len() {
+        act_of(at.pending[told])
+    } else {
+        Act::Touch
+    }
+}
+
+// What the next event carries.
+fn next_carried(at: &Standing, told: usize) -> Carried
+    requires { ready (drop told at.now.pending.items) at.now.stage ≡ true }
+    ensures { (s : SettingOf) (given : List ℤ) → First (ahead s given at.now told []) (λ e. carried_of e ≡ result) }
+{
+    if told < at.pending.len() {
+        carried_of(at.pending[told])
+    } else {
+        read_of(at.stage)
+    }
+}
+
+// Whether a task may go past an event that carries this, with this value.
+fn goes_with(carried: Carried, value: Option<i64>) -> bool
+    ensures { result ≡ goes_with carried value }
+{
+    match carried {
+        Carried::Read(..) => value.is_some(),
+        Carried::Ended(..) => false,
+        _ => value.is_none(),
+    }
+}
+
+// The read that is asked for.
+fn read_of(stage: Stage) -> Carried
+    ensures { result ≡ read_of stage }
+{
+    match stage {
+        Stage::Asking(object, cell) => Carried::Read(object, cell),
+        Stage::Going | Stage::Over => Carried::Nothing,
+    }
+}
+
+// Whether something is left to tell.
+fn is_left(at: &Standing, told: usize) -> bool
+    ensures { result ≡ ready (drop told at.now.pending.items) at.now.stage }
+{
+    if told < at.pending.len() {
+        true
+    } else {
+        asks(at.stage)
+    }
+}
+
+// Whether a read is asked for.
+fn asks(stage: Stage) -> bool
+    ensures { result ≡ ready [] stage }
+{
+    match stage {
+        Stage::Asking(..) => true,
+        Stage::Going | Stage::Over => false,
+    }
+}
+
+// Whether the next event is a creation.
+fn is_creation(at: &Standing, told: usize) -> bool
+    ensures { result ≡ creates (drop told at.now.pending.items) }
+{
+    if told < at.pending.len() {
+        enrolls(at.pending[told])
+    } else {
+        false
+    }
+}
+
+// Whether an event is a creation.
+fn enrolls(told: Told) -> bool
+    ensures { result ≡ enrolls told }
+{
+    match told {
+        Told::Enroll(_) => true,
+        _ => false,
+    }
+}
+
+// The act of an event.
+fn act_of(told: Told) -> Act
+    ensures { (t : TaskOf) → act_of (event_of t told) ≡ result }
+{
+    match told {
+        Told::Enter(object, _) => Act::Enter(object),
+        Told::Enroll(_) => Act::Enroll,
+        Told::Take(object, _) => Act::Take(object),
+        Told::Write(..) => Act::Touch,
+        Told::Give(object) => Act::Give(object),
+        Told::Leave(object) => Act::Leave(object),
+        Told::Shift(object, _) => Act::Shift(object),
+        Told::Resign(..) => Act::Resign,
+    }
+}
+
+// What an event carries beside the object of its act.
+fn carried_of(told: Told) -> Carried
+    ensures { (t : TaskOf) → carried_of (event_of t told) ≡ result }
+{
+    match told {
+        Told::Enter(_, rights) => Carried::Rights(rights),
+        Told::Enroll(steps) => Carried::Steps(steps),
+        Told::Take(_, mode) => Carried::Mode(mode),
+        Told::Write(object, cell, value) => Carried::Write(object, cell, value),
+        Told::Give(_) | Told::Leave(_) => Carried::Nothing,
+        Told::Shift(_, rights) => Carried::Rights(rights),
+        Told::Resign(blame, steps) => Carried::Ended(blame, steps),
+    }
+}
