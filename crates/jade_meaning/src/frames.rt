@@ -356,44 +356,34 @@ impl<'c> Setting<'c> {
     ) -> Result<Deed<'c>, Memory>
         ensures { IfOk result (λ deed. Did (shown self.now) answers.now deed (action statement.now) run.old run.new) }
     {
-        match statement {
-            Statement::Local { name, value, .. } => {
-                let deed = self.local_deed(name, value, answers, run)?;
-                Ok(deed)
-            }
-            Statement::Assign { name, value, .. } => Ok(self.assign_deed(
-                name, value, answers, run,
-            )),
-            Statement::Store { target, value } => Ok(self.store_deed(target, value, answers, run)),
+        let deed = match statement {
+            Statement::Local { name, value, .. } => self.local_deed(name, value, answers, run)?,
+            Statement::Assign { name, value, .. } => self.assign_deed(name, value, answers, run),
+            Statement::Store { target, value } => self.store_deed(target, value, answers, run),
             Statement::If {
                 test,
                 then,
                 otherwise,
-            } => self.if_deed(test, then, otherwise, answers, run),
+            } => self.if_deed(test, then, otherwise, answers, run)?,
             Statement::For {
                 name,
                 low,
                 high,
                 body,
                 ..
-            } => self.for_deed(name, (low, high), body, answers, run),
+            } => self.for_deed(name, (low, high), body, answers, run)?,
             Statement::Withonly {
                 pos,
                 section,
                 names,
                 body,
-            } => {
-                let deed = self.withonly_deed(*pos, section, names, body, run)?;
-                Ok(deed)
-            }
-            Statement::With { pos, section } => {
-                let deed = self.with_deed(*pos, section, run)?;
-                Ok(deed)
-            }
+            } => self.withonly_deed(*pos, section, names, body, run)?,
+            Statement::With { pos, section } => self.with_deed(*pos, section, run)?,
             Statement::Declare { word, pos, object } => {
-                Ok(self.declare_deed(*word, *pos, object, answers, run))
+                self.declare_deed(*word, *pos, object, answers, run)
             }
-        }
+        };
+        Ok(deed)
     }
 
     // A statement whose step has begun; where an answer is wanting it stays to be done.
