@@ -21,8 +21,6 @@ mod stop;
 mod tally;
 pub mod values;
 pub mod walker;
-#[cfg(test)]
-mod walker_tests;
 
 pub use ready::can_run;
 pub use serial::{serial_program, serial_run};
