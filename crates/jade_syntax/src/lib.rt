@@ -7,6 +7,7 @@ mod objects;
 pub mod shapes;
 pub mod small;
 pub mod stands;
+pub mod static_fault;
 pub mod tree;
 
 pub use checked::Checked;
@@ -14,3 +15,4 @@ pub use name::{Name, NameError};
 pub use shapes::BadShape;
 pub use small::{SmallError, read_small};
 pub use stands::{Stand, Stands};
+pub use static_fault::{StaticFault, StaticKind};
