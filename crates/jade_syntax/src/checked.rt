@@ -36,7 +36,7 @@ impl Model for Checked {
 
 impl Checked {
     /// A program that nothing is wrong with, and what its names stand for.
-    pub(crate) fn of(program: Program, stands: Stands) -> Checked
+    pub fn of(program: Program, stands: Stands) -> Checked
         requires { IsChecked program stands }
         ensures program { result.program ≡ program }
         ensures stands { result.stands ≡ stands }

@@ -3,14 +3,12 @@
 
 pub mod checked;
 pub mod name;
-mod objects;
+pub mod objects;
 pub mod shapes;
-pub mod small;
 pub mod stands;
 pub mod tree;
 
 pub use checked::Checked;
 pub use name::{Name, NameError};
 pub use shapes::BadShape;
-pub use small::{SmallError, read_small};
 pub use stands::{Stand, Stands};
