@@ -8,7 +8,7 @@ use Rattle.jade_meaning.specs.Specification.{Specification}
 use Rattle.jade_meaning.specs.Serial.{Path}
 use Rattle.jade_syntax.specs.Abstract.{AbstractProgram}
 use Rattle.jade_syntax.specs.Objects.{sizes, input_names}
-use Rattle.jade_syntax.specs.Faultless.{within_limits, is_faultless, is_within, are_distinct, occurs, item_names, all_names_used}
+use Rattle.jade_syntax.specs.Limits.{within_limits, is_within, few_inputs}
 use Rattle.jade_base.specs.Rights.{both_rights}
 use Rattle.jade_meaning.specs.declared.ledger.Ledger.{Ledger}
 use Rattle.jade_meaning.specs.Course.{Setting, Environment, inputs, finish}
@@ -50,14 +50,11 @@ performed_by p ns limit n items given env spec path start last a b c d e f g h =
     ∙ ap (λ x. ended (0 ∷ []) (perform_all (record { items = items; given = x; limit = limit }) (0 ∷ []) p.main (child_task x (replicate (length (sizes items)) both_rights)) first)) b
     ∙ ap (λ x. ended (0 ∷ []) (perform_all (record { items = x; given = inputs p.items ns; limit = limit }) (0 ∷ []) p.main (child_task (inputs p.items ns) (replicate (length (sizes x)) both_rights)) first)) a)
 
--- a program without faults before its run has at most 4,096 objects
-pub few_objects : (p : AbstractProgram) → is_faultless p ≡ true → length (sizes p.items) ≤ 4096
-few_objects p h =
-    let distinct = are_distinct (item_names p.items) in
-    let used = list_all (λ x. occurs x (item_names p.items)) (all_names_used p.main) in
-    let limits : within_limits p.items ≡ true = first_part (within_limits p.items) distinct (first_part (within_limits p.items && distinct) used h) in
-    let inner = list_all is_within p.items && nat_le (length (input_names p.items)) 64 in
-    le_from (length (sizes p.items)) 4096 (second_part inner (nat_le (length (sizes p.items)) 4096) (first_part (inner && nat_le (length (sizes p.items)) 4096) (nat_le (sum (sizes p.items)) 1048576) limits))
+-- a program that keeps the limits has at most 4,096 objects
+pub few_objects : (items : List Item) → within_limits items ≡ true → length (sizes items) ≤ 4096
+few_objects items h =
+    let objects = nat_le (length (sizes items)) 4096 in let cells = nat_le (sum (sizes items)) 1048576 in
+    le_from (length (sizes items)) 4096 (first_part objects cells (second_part (list_all is_within items && few_inputs items) (objects && cells) h))
 
 pub in_ok : {A E : Type 0} {P Q : A → Type 0} (r : Result A E) → ((x : A) → P x → Q x) → IfOk r P → IfOk r Q
 in_ok (Ok x) f h = f x h

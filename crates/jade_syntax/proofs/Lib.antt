@@ -1,16 +1,5 @@
-pub mod Alone
-pub mod BuiltTree
-pub mod Digits
 pub mod Extents
-pub mod Going
+pub mod Faultless
 pub mod Limits
-pub mod Made
 pub mod Measuring
-pub mod Parts
 pub mod Placing
-pub mod Resolve
-pub mod Same
-pub mod Standing
-pub mod Steps
-pub mod Tasks
-pub mod Whole

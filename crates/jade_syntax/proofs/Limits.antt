@@ -9,7 +9,7 @@ use Rattle.jade_syntax.specs.declared.tree.Number.{Number}
 use Rattle.jade_syntax.specs.declared.tree.Item.{Item}
 use Rattle.jade_syntax.specs.declared.tree.Item.TheVariants.{Input, Single, Family}
 use Rattle.jade_syntax.specs.Objects.{input_names, sizes, labels, amount, Label, member_labels, IsPlace}
-use Rattle.jade_syntax.specs.Faultless.{is_within, within_limits}
+use Rattle.jade_syntax.specs.Limits.{is_within, within_limits}
 
 -- the items from a place on are the one there and those after it
 pub drop_item : {A : Type 0} (xs : List A) (i : ℕ) (x : A) → slice_get xs i ≡ Some x → drop i xs ≡ x ∷ drop (i + 1) xs
@@ -31,8 +31,8 @@ both false b h = cc
 
 pub limits : (items : List Item) → within_limits items ≡ true → Limits items
 limits items h =
-    let p = both _ _ h in let q = both _ _ p.0 in let r = both _ _ q.0 in
-    record { each = r.0; inputs = leb-true _ _ r.1; objects = leb-true _ _ q.1; cells = leb-true _ _ p.1 }
+    let p = both _ _ h in let q = both _ _ p.0 in let r = both _ _ p.1 in
+    record { each = q.0; inputs = leb-true _ _ q.1; objects = leb-true _ _ r.0; cells = leb-true _ _ r.1 }
 
 -- an item among others is within its limits
 pub each_within : (items : List Item) (i : ℕ) (x : Item) → list_all is_within items ≡ true → slice_get items i ≡ Some x → is_within x ≡ true

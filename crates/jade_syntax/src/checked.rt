@@ -1,5 +1,6 @@
 ghost use Rattle.std.specs.Prelude.{◌≡◌, ◌<◌, length, true, slice_get, Some};
 ghost use Rattle.jade_syntax.specs.CheckedProgram.{IsChecked};
+ghost use Rattle.jade_syntax.specs.Limits.{within_limits};
 ghost use Rattle.jade_syntax.specs.Objects.{input_names, sizes, labels, Label};
 
 use crate::objects::{count_inputs, count_objects, label_of, size_of};
@@ -36,7 +37,7 @@ impl Model for Checked {
 
 impl Checked {
     /// A program that nothing is wrong with, and what its names stand for.
-    pub(crate) fn of(program: Program, stands: Stands) -> Checked
+    pub fn of(program: Program, stands: Stands) -> Checked
         requires { IsChecked program stands }
         ensures program { result.program ≡ program }
         ensures stands { result.stands ≡ stands }
@@ -48,6 +49,7 @@ impl Checked {
     pub fn program(&self) -> &Program
         ensures program { result.now ≡ self.now.program }
         ensures checked { IsChecked self.now.program self.now.stands }
+        ensures limits { within_limits self.now.program.items ≡ true }
     {
         &self.program
     }

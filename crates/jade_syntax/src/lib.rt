@@ -3,9 +3,8 @@
 
 pub mod checked;
 pub mod name;
-mod objects;
+pub mod objects;
 pub mod shapes;
-pub mod small;
 pub mod stands;
 pub mod static_fault;
 pub mod tree;
@@ -13,6 +12,5 @@ pub mod tree;
 pub use checked::Checked;
 pub use name::{Name, NameError};
 pub use shapes::BadShape;
-pub use small::{SmallError, read_small};
 pub use stands::{Stand, Stands};
 pub use static_fault::{StaticFault, StaticKind};

@@ -2,7 +2,7 @@
 
 ghost use Rattle.std.specs.Prelude.{◌≡◌, ℕ, ◌+◌, ◌<◌, ◌≤◌, true, length, slice_get, Some, [], ◌∷◌};
 ghost use Rattle.jade_syntax.specs.Objects.{amount, input_names, sizes, labels, Label, IsPlace};
-ghost use Rattle.jade_syntax.specs.Faultless.{is_amount, is_within, within_limits};
+ghost use Rattle.jade_syntax.specs.Limits.{is_amount, is_within, within_limits};
 
 use crate::Name;
 use crate::tree::{Item, Items, Number};
@@ -73,8 +73,8 @@ fn label_in(item: &Item, member: u32) -> (&Name, Option<u32>)
     }
 }
 
-/// The number of inputs.
-pub(crate) fn count_inputs(items: &Items) -> u32
+/// The number of inputs of items that keep the limits. It takes no memory.
+pub fn count_inputs(items: &Items) -> u32
     requires { within_limits items.now ≡ true }
     ensures { result ≡ length (input_names items.now) }
 {
@@ -85,8 +85,8 @@ pub(crate) fn count_inputs(items: &Items) -> u32
     count
 }
 
-/// The number of objects.
-pub(crate) fn count_objects(items: &Items) -> u32
+/// The number of objects of items that keep the limits. It takes no memory.
+pub fn count_objects(items: &Items) -> u32
     requires { within_limits items.now ≡ true }
     ensures { result ≡ length (sizes items.now) }
 {
@@ -114,8 +114,9 @@ fn place_of(items: &Items, object: u32) -> (usize, u32)
     (0, 0)
 }
 
-/// The number of cells of an object.
-pub(crate) fn size_of(items: &Items, object: u32) -> u32
+/// The number of cells of an object that is declared, of items that keep the limits. It takes no
+/// memory.
+pub fn size_of(items: &Items, object: u32) -> u32
     requires within { within_limits items.now ≡ true }
     requires declared { object < length (sizes items.now) }
     ensures { slice_get (sizes items.now) object ≡ Some result }
@@ -124,8 +125,9 @@ pub(crate) fn size_of(items: &Items, object: u32) -> u32
     size_in(items.at(i))
 }
 
-/// What an object is called.
-pub(crate) fn label_of(items: &Items, object: u32) -> (&Name, Option<u32>)
+/// What an object is called that is declared, of items that keep the limits: a name, and for a
+/// family's member its index. It takes no memory.
+pub fn label_of(items: &Items, object: u32) -> (&Name, Option<u32>)
     requires within { within_limits items.now ≡ true }
     requires declared { object < length (sizes items.now) }
     ensures { slice_get (labels items.now) object ≡ Some (record { name = result.0.now; member = result.1 }) }

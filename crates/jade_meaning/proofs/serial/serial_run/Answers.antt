@@ -1,6 +1,5 @@
 use Rattle.std.proofs.Common.{◌≤◌, sym, subst, length}
 use Rattle.jade_syntax.specs.declared.tree.Program.{Program}
-use Rattle.jade_syntax.specs.Image.{program}
 use Rattle.jade_syntax.specs.Objects.{sizes}
 use Rattle.jade_meaning.proofs.Reporting.{few_objects}
 use Rattle.jade_meaning.proofs.serial.serial_run.Goals as goal
@@ -8,4 +7,4 @@ use Rattle.jade_meaning.proofs.serial.serial_run.Goals as goal
 pub serial_program-requires-clause-objects : goal.serial_program-requires-clause-objects
 serial_program-requires-clause-objects c =
     let P : Program → Type 0 = λ p. length (sizes p.items) ≤ 4096 in
-    subst P (sym c.program.ensures.program) (few_objects (program c.args.checked.now.program) c.program.ensures.checked.faultless)
+    subst P (sym c.program.ensures.program) (few_objects c.args.checked.now.program.items c.program.ensures.limits)

@@ -1,0 +1,13 @@
+pub mod Alone
+pub mod BuiltTree
+pub mod Digits
+pub mod Going
+pub mod Limits
+pub mod Made
+pub mod Parts
+pub mod Resolve
+pub mod Same
+pub mod Standing
+pub mod Steps
+pub mod Tasks
+pub mod Whole
