@@ -12,7 +12,7 @@ use Rattle.std.specs.Prelude.{Result, Ok, Err, IfOk}
 use Rattle.jade_base.specs.declared.place.Pos.{Pos}
 use Rattle.jade_base.specs.declared.failure.Memory.{Memory as NoMemory}
 use Rattle.jade_syntax.specs.declared.tree.Program.{Program}
-use Rattle.jade_syntax.specs.Small.{IsUnbuilt, first_word}
+use Rattle.jade_small.specs.Small.{IsUnbuilt, first_word}
 use denote.Bor.{Bor}
 use Rattle.jade_run.specs.declared.answer.Answer.{Answer as AnswerOf}
 use Rattle.jade_run.specs.declared.answer.ReadError.{ReadError}

@@ -4,9 +4,9 @@ use Rattle.std.specs.Prelude.{codes}
 use Rattle.std.specs.Fmt.{decimal}
 use Rattle.std.proofs.lemmas.Fmt.{decimal_injective}
 use Rattle.jade_syntax.specs.declared.tree.Program.{Program}
-use Rattle.jade_syntax.specs.Faultless.{is_faultless}
+use Rattle.jade_small.specs.Faultless.{is_faultless}
 use Rattle.jade_syntax.specs.Image.{program}
-use Rattle.jade_syntax.specs.Small.{SmallProgram, Reads, IsRead, IsUnbuilt, tree_of}
+use Rattle.jade_small.specs.Small.{SmallProgram, Reads, IsRead, IsUnbuilt, tree_of}
 use Rattle.jade_meaning.specs.Answer.{answer}
 use Rattle.jade_run.specs.declared.status.Status.{Status}
 use Rattle.jade_run.specs.declared.status.Status.TheVariants.{Good, Fault, Refused, Words, Numbers, Reading, Writing, Memory}

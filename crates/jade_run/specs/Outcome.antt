@@ -11,10 +11,10 @@ use Rattle.jade_layout.specs.Layout.{layout}
 use Rattle.jade_parser.specs.Grammar.{IsReading, IsRefusedAt, IsTooLongAt}
 use Rattle.jade_syntax.specs.declared.tree.Program.{Program}
 use Rattle.jade_syntax.specs.Abstract.{AbstractProgram}
-use Rattle.jade_syntax.specs.Faultless.{is_faultless}
+use Rattle.jade_small.specs.Faultless.{is_faultless}
 use Rattle.jade_syntax.specs.Image.{program}
 use Rattle.jade_syntax.specs.Objects.{labels}
-use Rattle.jade_syntax.specs.Small.{IsRead, IsUnbuilt, first_word}
+use Rattle.jade_small.specs.Small.{IsRead, IsUnbuilt, first_word}
 use Rattle.jade_meaning.specs.Answer.{Answer, Faulted, Cells, answer}
 use Rattle.jade_run.specs.declared.status.Status.{Status}
 use Rattle.jade_run.specs.declared.status.Status.TheVariants.{Good, Fault, Refused, Words}

@@ -2,14 +2,14 @@
 
 ghost use Rattle.std.specs.Prelude.{◌≡◌, ◌≤◌, [], length, map, IfErr, IfOk, MatchOption};
 ghost use Rattle.std.specs.Option.{option_copied};
-ghost use Rattle.jade_syntax.specs.CheckedProgram.{IsChecked};
+ghost use Rattle.jade_small.specs.CheckedProgram.{IsChecked};
 ghost use Rattle.jade_syntax.specs.Image.{program};
 ghost use Rattle.jade_meaning.specs.Answer.{answer, Faulted, Cells};
 ghost use Rattle.jade_meaning.specs.Report.{report, Ascends};
 ghost use Rattle.jade_meaning.specs.Told.{told_answer, first_note, step_over};
 ghost use Rattle.jade_run.specs.Outcome.{fault_key};
 ghost use Rattle.jade_lexer.specs.Reading.{reading, Whole};
-ghost use Rattle.jade_syntax.specs.Small.{IsUnbuilt, first_word};
+ghost use Rattle.jade_small.specs.Small.{IsUnbuilt, first_word};
 ghost use Rattle.jade_run.specs.Outcome.{IsAnswered, IsNotRead, IsShown, OnRefused, ReadsAs, RefusedAs, Shows};
 ghost use Rattle.jade_run.specs.Texts.{refused_text};
 
@@ -21,10 +21,10 @@ use jade_base::{
 use jade_layout::print_program;
 use jade_lexer::{LexError, Tokens, tokens};
 use jade_meaning::laws::{report_ascends, report_tells};
-use jade_meaning::serial_run;
+use jade_meaning::serial_program;
 use jade_parser::{ParseError, parse};
-use jade_syntax::Checked;
-use jade_syntax::small::{SmallError, read_small};
+use jade_small::Checked;
+use jade_small::small::{SmallError, read_small};
 use jade_syntax::tree::Program;
 use std::alloc::Global;
 
@@ -109,7 +109,7 @@ fn run_checked(alloc: Global, checked: &Checked, limit: u32) -> Result<Answer, M
 {
     report_ascends();
     report_tells();
-    let report = serial_run(alloc, checked, &[], limit)?;
+    let report = serial_program(alloc, checked.program(), &[], limit)?;
     let answer = answer_of(alloc, checked, &report, limit)?;
     Ok(answer)
 }

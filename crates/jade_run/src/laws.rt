@@ -5,7 +5,7 @@ ghost use Rattle.jade_run.specs.declared.status.Status.{Status};
 ghost use Rattle.jade_run.specs.Outcome.{IsOutcome, SameOutcome};
 
 use jade_parser::laws::{one_reading, spelled_alike};
-use jade_syntax::small::at_most_one;
+use jade_small::small::at_most_one;
 
 /// Words and a text come to one text and one status.
 pub fn one_outcome()

@@ -7,7 +7,8 @@ ghost use Rattle.jade_syntax.specs.Objects.{labels};
 
 use itoa::Buffer;
 use jade_base::{Blame, CellLists, FaultKind, Numbers, ObjectId, Path, Pos};
-use jade_syntax::{Checked, Name};
+use jade_small::Checked;
+use jade_syntax::Name;
 use std::alloc::{AllocError, Global};
 
 /// Puts a number last, in decimal.
