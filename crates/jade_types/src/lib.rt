@@ -1,0 +1,6 @@
+//! What is wrong with a program before it runs, and what its names stand for.
+#![tactic(auto)]
+
+pub mod checker;
+
+pub use checker::{TypeError, check};
