@@ -1,25 +1,27 @@
 -- What the parts of a call come to, each in one step.
 use Rattle.std.proofs.Common.{◌≡◌, ℕ, zero, suc, ◌<◌, ◌≤◌, List, [], ◌∷◌, length, drop, Option, Some, None, refl, ap, sym, ◌∙◌, subst, arith}
-use Rattle.std.specs.Prelude.{codes}
+use Rattle.std.specs.Prelude.{codes, ℤ}
 use Rattle.std.proofs.lemmas.List.{drop_all}
 use Rattle.jade_base.specs.Bytes.{WholeText, CutText, left_after, taken_with}
 use Rattle.jade_run.specs.declared.status.Status.{Status}
 use Rattle.jade_run.specs.declared.status.Status.TheVariants.{Good, Fault, Refused, Words, Numbers, Reading, Writing, Memory}
 use Rattle.jade_run.specs.Headline.{Answers, Headline, Moment, most_read}
 use Rattle.jade_run.specs.declared.words.Command.{Command}
-use Rattle.jade_run.specs.declared.words.Command.TheVariants.{Run, Show}
+use Rattle.jade_run.specs.declared.words.Command.TheVariants.{Run, Serial, Check, Show}
+use Rattle.jade_run.specs.declared.words.Execution.{Execution}
+use Rattle.jade_run.specs.declared.words.WordsError.{WordsError}
+use Rattle.jade_run.specs.declared.words.WordsError.TheVariants.{Usage}
 use Rattle.std.specs.Prelude.{Result, Ok, Err, IfOk}
 use Rattle.jade_base.specs.declared.place.Pos.{Pos}
 use Rattle.jade_base.specs.declared.failure.Memory.{Memory as NoMemory}
 use Rattle.jade_syntax.specs.declared.tree.Program.{Program}
-use Rattle.jade_small.specs.Small.{IsUnbuilt, first_word}
 use denote.Bor.{Bor}
 use Rattle.jade_run.specs.declared.answer.Answer.{Answer as AnswerOf}
 use Rattle.jade_run.specs.declared.answer.ReadError.{ReadError}
 use Rattle.jade_run.specs.declared.answer.ReadError.TheVariants.{Refused as NotRead, Memory as Unread}
-use Rattle.jade_run.specs.Outcome.{IsOutcome, IsAnswered, IsShown, IsCommanded, IsNotRead, OnRefused, ReadsAs, RefusedAs, HasSteps, usage, too_long, run, show, unbuilt, refused, answered, shown, not_shown, first_place, answer_status}
-use Rattle.jade_run.specs.Texts.{usage_text, refused_text}
-use Rattle.jade_run.specs.Words.{RunWords, AcceptsWords, RefusesWords, Asks, to_run, to_show}
+use Rattle.jade_run.specs.Outcome.{IsOutcome, IsAnswered, IsGood, IsShown, IsTested, IsCommanded, IsNotRead, OnRefused, ReadsAs, RefusedAs, RefusedFor, IsAllowed, IsLimited, usage, too_long, run, serial, check, show, refused, answered, miscounted, good, not_good, shown, not_shown, first_place, answer_status, input_count}
+use Rattle.jade_run.specs.Texts.{usage_text, refused_text, numbers_text, ok_text}
+use Rattle.jade_run.specs.Words.{RunWords, SerialWords, SpellsExecution, AcceptsWords, RefusesWords, Asks, IsUsage, to_run, to_serial, to_check, to_show}
 use Rattle.jade_meaning.specs.Answer.{Answer, Faulted, Cells}
 
 -- the bytes that are told, or none
@@ -64,29 +66,44 @@ read_most : (a : Answer) → most_read (answer_status a) ≡ 1048577
 read_most (Faulted p b) = refl
 read_most (Cells store) = refl
 
-answered_read : {bytes : List ℕ} {limit : ℕ} {text : List ℕ} {status : Status} → IsAnswered bytes limit text status → most_read status ≡ 1048577
-answered_read (answered tree reads good shows) = ap most_read shows.ended ∙ read_most _
-answered_read (refused place why never as_one t s) = ap most_read s
-answered_read (unbuilt tree never reads t s) = ap most_read s
+answered_read : {bytes : List ℕ} {numbers : List ℤ} {limit : ℕ} {text : List ℕ} {status : Status} → IsAnswered bytes numbers limit text status → most_read status ≡ 1048577
+answered_read (answered tree is_good n shows) = ap most_read shows.ended ∙ read_most _
+answered_read (miscounted tree is_good n t s) = ap most_read s
+answered_read (refused place why for t s) = ap most_read s
+
+tested_read : {bytes text : List ℕ} {status : Status} → IsTested bytes text status → most_read status ≡ 1048577
+tested_read (good tree is_good t s) = ap most_read s
+tested_read (not_good place why for t s) = ap most_read s
 
 shown_read : {bytes text : List ℕ} {status : Status} → IsShown bytes text status → most_read status ≡ 1048577
 shown_read (shown tree reads t s) = ap most_read s
 shown_read (not_shown place why as_one t s) = ap most_read s
 
 pub asks_accepted : (words : List (List ℕ)) (c : Command) → Asks words c → AcceptsWords words
-asks_accepted words (Run c) h = to_run c.workers c.limit h
+asks_accepted words (Run w e) h = to_run w e.limit e.numbers h
+asks_accepted words (Serial e) h = to_serial e.limit e.numbers h
+asks_accepted words Check h = to_check h
 asks_accepted words Show h = to_show h
 
-pub asks_steps : (words : List (List ℕ)) (c : Command) → Asks words c → HasSteps c
-asks_steps words (Run c) h = h.some_limit
-asks_steps words Show h = tt
+executed : (words : List (List ℕ)) (e : Execution) → SpellsExecution words e.limit e.numbers → IsLimited e
+executed words e h = (h.steps.some, h.given.few)
+
+pub asks_allowed : (words : List (List ℕ)) (c : Command) → Asks words c → IsAllowed c
+asks_allowed words (Run w e) h = executed h.run.more e h.run.execution
+asks_allowed words (Serial e) h = executed h.more e h.execution
+asks_allowed words Check h = tt
+asks_allowed words Show h = tt
 
 commanded_read : (c : Command) (bytes text : List ℕ) (status : Status) → IsCommanded c bytes text status → most_read status ≡ 1048577
-commanded_read (Run c) bytes text status h = answered_read h
+commanded_read (Run w e) bytes text status h = answered_read h
+commanded_read (Serial e) bytes text status h = answered_read h
+commanded_read Check bytes text status h = tested_read h
 commanded_read Show bytes text status h = shown_read h
 
 commanded : (words : List (List ℕ)) (c : Command) (bytes text : List ℕ) (status : Status) → Asks words c → length bytes ≤ 1048576 → IsCommanded c bytes text status → IsOutcome words bytes text status
-commanded words (Run c) bytes text status asked within h = run c.workers c.limit asked within h
+commanded words (Run w e) bytes text status asked within h = run w e.limit e.numbers asked within h
+commanded words (Serial e) bytes text status asked within h = serial e.limit e.numbers asked within h
+commanded words Check bytes text status asked within h = check asked within h
 commanded words Show bytes text status asked within h = show asked within h
 
 pub command_answers : (words : List (List ℕ)) (before after : Option (List ℕ)) (c : Command) (bytes read text : List ℕ) (status : Status) → Asks words c → WholeText before after bytes → read ≡ bytes → IsCommanded c read text status → Answers words before after text status
@@ -114,11 +131,16 @@ unfolding Written
 answer_written (Faulted p b) = tt
 answer_written (Cells store) = tt
 
-answered_written : (bytes : List ℕ) (limit : ℕ) (text : List ℕ) (status : Status) → IsAnswered bytes limit text status → Written status
+answered_written : (bytes : List ℕ) (numbers : List ℤ) (limit : ℕ) (text : List ℕ) (status : Status) → IsAnswered bytes numbers limit text status → Written status
 unfolding Written
-answered_written bytes limit text status (answered tree reads good shows) = subst Written (sym shows.ended) (answer_written _)
-answered_written bytes limit text status (refused place why never as_one t s) = subst Written (sym s) tt
-answered_written bytes limit text status (unbuilt tree never reads t s) = subst Written (sym s) tt
+answered_written bytes numbers limit text status (answered tree is_good n shows) = subst Written (sym shows.ended) (answer_written _)
+answered_written bytes numbers limit text status (miscounted tree is_good n t s) = subst Written (sym s) tt
+answered_written bytes numbers limit text status (refused place why for t s) = subst Written (sym s) tt
+
+tested_written : (bytes text : List ℕ) (status : Status) → IsTested bytes text status → Written status
+unfolding Written
+tested_written bytes text status (good tree is_good t s) = subst Written (sym s) tt
+tested_written bytes text status (not_good place why for t s) = subst Written (sym s) tt
 
 shown_written : (bytes text : List ℕ) (status : Status) → IsShown bytes text status → Written status
 unfolding Written
@@ -129,7 +151,9 @@ outcome_written : (words : List (List ℕ)) (bytes text : List ℕ) (status : St
 unfolding Written
 outcome_written words bytes text status (usage never t s) = subst Written (sym s) tt
 outcome_written words bytes text status (too_long named more t s) = subst Written (sym s) tt
-outcome_written words bytes text status (run w l named within h) = answered_written _ _ _ _ h
+outcome_written words bytes text status (run w l ns named within h) = answered_written _ _ _ _ _ h
+outcome_written words bytes text status (serial l ns named within h) = answered_written _ _ _ _ _ h
+outcome_written words bytes text status (check named within h) = tested_written _ _ _ h
 outcome_written words bytes text status (show named within h) = shown_written _ _ _ h
 
 written_headline : (words : List (List ℕ)) (status : Status) (before after : Moment) (text : List ℕ) → Written status → Answers words before.left after.left text status → after.taken ≡ taken_with before.taken text → Headline words status before after
@@ -162,14 +186,20 @@ refused_shown bytes (NotRead place why) (Ok a) n h = not_shown place why.now h n
 refused_shown bytes Unread (Ok a) n h = absurd n
 refused_shown bytes e (Err m) n h = tt
 
-pub refused_answered : (bytes : List ℕ) (limit : ℕ) (e : ReadError) (r : Result AnswerOf NoMemory) → IfOk r (λ a. IsNotRead e a.text.items a.status) → IsUnbuilt bytes → OnRefused e (RefusedAs bytes) → IfOk r (λ a. IsAnswered bytes limit a.text.items a.status)
-refused_answered bytes limit (NotRead place why) (Ok a) n never h = refused place why.now never h n.0 n.1
-refused_answered bytes limit Unread (Ok a) n never h = absurd n
-refused_answered bytes limit e (Err m) n never h = tt
+pub refused_answered : (bytes : List ℕ) (numbers : List ℤ) (limit : ℕ) (e : ReadError) (r : Result AnswerOf NoMemory) → IfOk r (λ a. IsNotRead e a.text.items a.status) → OnRefused e (RefusedFor bytes) → IfOk r (λ a. IsAnswered bytes numbers limit a.text.items a.status)
+refused_answered bytes numbers limit (NotRead place why) (Ok a) n h = refused place why.now h n.0 n.1
+refused_answered bytes numbers limit Unread (Ok a) n h = absurd n
+refused_answered bytes numbers limit e (Err m) n h = tt
 
-pub unbuilt_answered : (bytes : List ℕ) (limit : ℕ) (place : Pos) (tree : Program) (r : Result AnswerOf NoMemory) → IfOk r (λ a. a.text.items ≡ refused_text place (codes "unbuilt")) → IfOk r (λ a. a.status ≡ Refused) → place ≡ first_word bytes → IsUnbuilt bytes → ReadsAs bytes tree → IfOk r (λ a. IsAnswered bytes limit a.text.items a.status)
-unbuilt_answered bytes limit place tree (Ok a) t s e never h = unbuilt tree never h (t ∙ ap (λ p. refused_text p (codes "unbuilt")) e) s
-unbuilt_answered bytes limit place tree (Err m) t s e never h = tt
+pub refused_tested : (bytes : List ℕ) (e : ReadError) (r : Result AnswerOf NoMemory) → IfOk r (λ a. IsNotRead e a.text.items a.status) → OnRefused e (RefusedFor bytes) → IfOk r (λ a. IsTested bytes a.text.items a.status)
+refused_tested bytes (NotRead place why) (Ok a) n h = not_good place why.now h n.0 n.1
+refused_tested bytes Unread (Ok a) n h = absurd n
+refused_tested bytes e (Err m) n h = tt
+
+pub miscounted_answered : (bytes : List ℕ) (numbers : List ℤ) (limit wanted got : ℕ) (tree : Program) (r : Result AnswerOf NoMemory) → IfOk r (λ a. a.text.items ≡ numbers_text wanted got) → IfOk r (λ a. a.status ≡ Numbers) → IsGood bytes tree → wanted ≡ input_count tree → got ≡ length numbers → (got ≡ wanted → ⊥) → IfOk r (λ a. IsAnswered bytes numbers limit a.text.items a.status)
+miscounted_answered bytes numbers limit wanted got tree (Ok a) t s g w n differ =
+    miscounted tree g (λ e. differ (n ∙ e ∙ sym w)) (t ∙ ap (λ k. numbers_text k got) w ∙ ap (numbers_text (input_count tree)) n) s
+miscounted_answered bytes numbers limit wanted got tree (Err m) t s g w n differ = tt
 
 -- the answer of a refusal
 pub not_read_is : (place : Pos) (why : Bor (List ℕ)) (r : Result AnswerOf NoMemory) → IfOk r (λ a. a.text.items ≡ refused_text place why.now) → IfOk r (λ a. a.status ≡ Refused) → IfOk r (λ a. IsNotRead (NotRead place why) a.text.items a.status)

@@ -1,6 +1,6 @@
+pub mod Calls
+pub mod Deciding
 pub mod Joins
 pub mod Lines
-pub mod Inputs
-pub mod Deciding
-pub mod Calls
-pub mod Once
+pub mod Naming
+pub mod Signed

@@ -1,4 +1,3 @@
-pub mod Complete
 pub mod Headline
 pub mod Numbers
 pub mod Outcome

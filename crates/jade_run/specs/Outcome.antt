@@ -1,5 +1,5 @@
 -- What a list of words and a text come to: a text to write, and a status.
-use Rattle.std.specs.Prelude.{◌≡◌, ℕ, ◌<◌, ◌≤◌, true, List, [], length, codes}
+use Rattle.std.specs.Prelude.{◌≡◌, ℕ, ◌<◌, ◌≤◌, List, [], length, codes, Some, ℤ}
 use Rattle.jade_base.specs.Places.{key}
 use Rattle.jade_base.specs.declared.place.Pos.{Pos}
 use Rattle.jade_base.specs.declared.report.FaultNote.{FaultNote}
@@ -11,19 +11,21 @@ use Rattle.jade_layout.specs.Layout.{layout}
 use Rattle.jade_parser.specs.Grammar.{IsReading, IsRefusedAt, IsTooLongAt}
 use Rattle.jade_syntax.specs.declared.tree.Program.{Program}
 use Rattle.jade_syntax.specs.Abstract.{AbstractProgram}
-use Rattle.jade_small.specs.Faultless.{is_faultless}
 use Rattle.jade_syntax.specs.Image.{program}
-use Rattle.jade_syntax.specs.Objects.{labels}
-use Rattle.jade_small.specs.Small.{IsRead, IsUnbuilt, first_word}
+use Rattle.jade_syntax.specs.Objects.{input_names, labels}
+use Rattle.jade_syntax.specs.PlacedImage.{placed_program}
+use Rattle.jade_syntax.specs.StaticFaults.{static_faults, first_fault}
+use Rattle.jade_syntax.specs.declared.static_fault.StaticKind.{StaticKind}
 use Rattle.jade_meaning.specs.Answer.{Answer, Faulted, Cells, answer}
 use Rattle.jade_run.specs.declared.status.Status.{Status}
-use Rattle.jade_run.specs.declared.status.Status.TheVariants.{Good, Fault, Refused, Words}
+use Rattle.jade_run.specs.declared.status.Status.TheVariants.{Good, Fault, Refused, Words, Numbers}
 use Rattle.jade_run.specs.declared.words.Command.{Command}
-use Rattle.jade_run.specs.declared.words.Command.TheVariants.{Run, Show}
+use Rattle.jade_run.specs.declared.words.Execution.{Execution}
+use Rattle.jade_run.specs.declared.words.Command.TheVariants.{Run, Serial, Check, Show}
 use Rattle.jade_run.specs.declared.answer.ReadError.{ReadError}
 use Rattle.jade_run.specs.declared.answer.ReadError.TheVariants.{Refused as NotRead, Memory}
-use Rattle.jade_run.specs.Texts.{usage_text, refused_text, fault_text, objects_text}
-use Rattle.jade_run.specs.Words.{AcceptsWords, RefusesWords, RunWords, ShowWords}
+use Rattle.jade_run.specs.Texts.{usage_text, refused_text, fault_text, objects_text, numbers_text, ok_text, static_word}
+use Rattle.jade_run.specs.Words.{AcceptsWords, RefusesWords, RunWords, SerialWords, CheckWords, ShowWords}
 
 -- the key of a fault note
 abbrev pub fault_key : FaultNote → List ℕ
@@ -66,37 +68,73 @@ abbrev pub OnRefused : ReadError → (Pos → List ℕ → Type 0) → Type 0
 OnRefused (NotRead place why) P = P place why.now
 OnRefused Memory P = Unit {0}
 
--- what is written of a text that was not read
+-- what is written of a text that is no good program
 abbrev pub IsNotRead : ReadError → List ℕ → Status → Type 0
 IsNotRead (NotRead place why) text status = (text ≡ refused_text place why.now) × (status ≡ Refused)
 IsNotRead Memory text status = ⊥
 
--- what a text of at most 1,048,576 bytes comes to, run with a limit: it can be run, it is refused, or it is a program that can't be run yet
-pub data IsAnswered (bytes : List ℕ) (limit : ℕ) (text : List ℕ) (status : Status) : Type 0 where
-  answered : (tree : Program) → IsRead bytes tree → is_faultless (program tree) ≡ true → Shows (program tree) (answer (program tree) [] limit) text status → IsAnswered bytes limit text status
-  refused : (place : Pos) (why : List ℕ) → IsUnbuilt bytes → RefusedAs bytes place why → text ≡ refused_text place why → status ≡ Refused → IsAnswered bytes limit text status
-  unbuilt : (tree : Program) → IsUnbuilt bytes → ReadsAs bytes tree → text ≡ refused_text (first_word bytes) (codes "unbuilt") → status ≡ Refused → IsAnswered bytes limit text status
+-- a text is read as a program with which nothing is wrong before it runs
+pub record IsGood (bytes : List ℕ) (tree : Program) : Type 0 where
+  pub reads : ReadsAs bytes tree
+  pub faultless : static_faults (placed_program tree) ≡ []
+
+-- a text is read as a program, of whose static faults this is the first
+pub record IsWrong (bytes : List ℕ) (place : Pos) (why : List ℕ) : Type 0 where
+  pub tree : Program
+  pub reads : ReadsAs bytes tree
+  pub kind : StaticKind
+  pub first : first_fault (static_faults (placed_program tree)) ≡ Some (record { pos = place; kind = kind })
+  pub named : why ≡ static_word kind
+
+-- the place at which a text is no good program, and why: it can't be read, or something is wrong with its program
+pub data RefusedFor (bytes : List ℕ) (place : Pos) (why : List ℕ) : Type 0 where
+  unread : RefusedAs bytes place why → RefusedFor bytes place why
+  wrong : IsWrong bytes place why → RefusedFor bytes place why
+
+-- the number of a program's inputs
+abbrev pub input_count : Program → ℕ
+input_count tree = length (input_names tree.items)
+
+-- what a text of at most 1,048,576 bytes comes to, run with these numbers and a limit: the answer of its program, a word on the count of numbers, or a refusal
+pub data IsAnswered (bytes : List ℕ) (numbers : List ℤ) (limit : ℕ) (text : List ℕ) (status : Status) : Type 0 where
+  answered : (tree : Program) → IsGood bytes tree → length numbers ≡ input_count tree → Shows (program tree) (answer (program tree) numbers limit) text status → IsAnswered bytes numbers limit text status
+  miscounted : (tree : Program) → IsGood bytes tree → (length numbers ≡ input_count tree → ⊥) → text ≡ numbers_text (input_count tree) (length numbers) → status ≡ Numbers → IsAnswered bytes numbers limit text status
+  refused : (place : Pos) (why : List ℕ) → RefusedFor bytes place why → text ≡ refused_text place why → status ≡ Refused → IsAnswered bytes numbers limit text status
+
+-- what a text of at most 1,048,576 bytes comes to where it is checked: `ok`, or a refusal
+pub data IsTested (bytes : List ℕ) (text : List ℕ) (status : Status) : Type 0 where
+  good : (tree : Program) → IsGood bytes tree → text ≡ ok_text → status ≡ Good → IsTested bytes text status
+  not_good : (place : Pos) (why : List ℕ) → RefusedFor bytes place why → text ≡ refused_text place why → status ≡ Refused → IsTested bytes text status
 
 -- what a text of at most 1,048,576 bytes comes to where it is shown: the layout of its program, or it is refused
 pub data IsShown (bytes : List ℕ) (text : List ℕ) (status : Status) : Type 0 where
   shown : (tree : Program) → ReadsAs bytes tree → text ≡ layout (spelling tree) → status ≡ Good → IsShown bytes text status
   not_shown : (place : Pos) (why : List ℕ) → RefusedAs bytes place why → text ≡ refused_text place why → status ≡ Refused → IsShown bytes text status
 
--- a run has a limit of one step or more
-abbrev pub HasSteps : Command → Type 0
-HasSteps (Run c) = 1 ≤ c.limit
-HasSteps Show = Unit {0}
+-- an execution has a limit of one step or more, and at most 64 numbers
+abbrev pub IsLimited : Execution → Type 0
+IsLimited e = (1 ≤ e.limit) × (length e.numbers ≤ 64)
+
+abbrev pub IsAllowed : Command → Type 0
+IsAllowed (Run workers e) = IsLimited e
+IsAllowed (Serial e) = IsLimited e
+IsAllowed Check = Unit {0}
+IsAllowed Show = Unit {0}
 
 -- what a command comes to on a text of at most 1,048,576 bytes
 abbrev pub IsCommanded : Command → (bytes : List ℕ) → (text : List ℕ) → Status → Type 0
-IsCommanded (Run c) bytes text status = IsAnswered bytes c.limit text status
+IsCommanded (Run workers e) bytes text status = IsAnswered bytes e.numbers e.limit text status
+IsCommanded (Serial e) bytes text status = IsAnswered bytes e.numbers e.limit text status
+IsCommanded Check bytes text status = IsTested bytes text status
 IsCommanded Show bytes text status = IsShown bytes text status
 
 -- what words and a text come to; the words are tested first, then the length of the text, then the text
 pub data IsOutcome (words : List (List ℕ)) (bytes : List ℕ) (text : List ℕ) (status : Status) : Type 0 where
   usage : RefusesWords words → text ≡ usage_text → status ≡ Words → IsOutcome words bytes text status
   too_long : AcceptsWords words → 1048576 < length bytes → text ≡ refused_text first_place (codes "text") → status ≡ Refused → IsOutcome words bytes text status
-  run : (workers limit : ℕ) → RunWords words workers limit → length bytes ≤ 1048576 → IsAnswered bytes limit text status → IsOutcome words bytes text status
+  run : (workers limit : ℕ) (numbers : List ℤ) → RunWords words workers limit numbers → length bytes ≤ 1048576 → IsAnswered bytes numbers limit text status → IsOutcome words bytes text status
+  serial : (limit : ℕ) (numbers : List ℤ) → SerialWords words limit numbers → length bytes ≤ 1048576 → IsAnswered bytes numbers limit text status → IsOutcome words bytes text status
+  check : CheckWords words → length bytes ≤ 1048576 → IsTested bytes text status → IsOutcome words bytes text status
   show : ShowWords words → length bytes ≤ 1048576 → IsShown bytes text status → IsOutcome words bytes text status
 
 -- two outcomes are the same

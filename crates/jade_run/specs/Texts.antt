@@ -7,6 +7,8 @@ use Rattle.jade_base.specs.declared.report.Blame.{Blame}
 use Rattle.jade_base.specs.declared.report.FaultKind.{FaultKind}
 use Rattle.jade_base.specs.declared.report.FaultKind.TheVariants.{Overflow, Zero, Index, Object, Right, Cover, Change, Limit}
 use Rattle.jade_syntax.specs.Objects.{Label}
+use Rattle.jade_syntax.specs.declared.static_fault.StaticKind.{StaticKind}
+use Rattle.jade_syntax.specs.declared.static_fault.StaticKind.TheVariants as static
 
 abbrev pub line_of : List ℕ → List ℕ
 line_of text = text ++ 10 ∷ []
@@ -51,6 +53,21 @@ refused_text p why = line_of (codes "refused " ++ place_text p ++ codes " " ++ w
 
 abbrev pub usage_text : List ℕ
 usage_text = line_of (codes "usage")
+
+abbrev pub ok_text : List ℕ
+ok_text = line_of (codes "ok")
+
+-- numbers: want W, got G
+abbrev pub numbers_text : (wanted got : ℕ) → List ℕ
+numbers_text wanted got = line_of (codes "numbers: want " ++ decimal wanted ++ codes ", got " ++ decimal got)
+
+-- the word of a static fault
+abbrev pub static_word : StaticKind → List ℕ
+static_word static.Name = codes "name"
+static_word static.Twice = codes "twice"
+static_word static.Kind = codes "kind"
+static_word static.Assign = codes "assign"
+static_word static.Size = codes "size"
 
 -- the index of a family's member in brackets
 abbrev pub member_text : Option ℕ → List ℕ

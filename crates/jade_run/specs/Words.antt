@@ -1,8 +1,11 @@
 -- The words of a command. A number is spelled in decimal, without a needless zero.
-use Rattle.std.specs.Prelude.{◌≡◌, ℕ, ◌≤◌, List, [], ◌∷◌, codes}
-use Rattle.std.specs.Fmt.{decimal}
+use Rattle.std.specs.Prelude.{◌≡◌, ℕ, ◌≤◌, Bool, true, List, [], ◌∷◌, length, map, codes, ℤ, pos, negsuc, nat_le}
+use Rattle.std.specs.List.{list_all}
+use Rattle.std.specs.Fmt.{decimal, signed_decimal}
 use Rattle.jade_run.specs.declared.words.Command.{Command}
-use Rattle.jade_run.specs.declared.words.Command.TheVariants.{Run, Show}
+use Rattle.jade_run.specs.declared.words.Command.TheVariants.{Run, Serial, Check, Show}
+use Rattle.jade_run.specs.declared.words.WordsError.{WordsError}
+use Rattle.jade_run.specs.declared.words.WordsError.TheVariants.{Usage, Memory}
 
 -- a word spells a number from 1 to the most allowed
 pub record SpellsAmount (word : List ℕ) (most n : ℕ) : Type 0 where
@@ -10,13 +13,48 @@ pub record SpellsAmount (word : List ℕ) (most n : ℕ) : Type 0 where
   pub some : 1 ≤ n
   pub within : n ≤ most
 
--- `run WORKERS LIMIT`, with 1 to 64 workers and a limit of 1 to 4,294,967,295 steps
-pub record RunWords (words : List (List ℕ)) (workers limit : ℕ) : Type 0 where
-  pub spelled : words ≡ codes "run" ∷ decimal workers ∷ decimal limit ∷ []
-  pub some_worker : 1 ≤ workers
-  pub most_workers : workers ≤ 64
-  pub some_limit : 1 ≤ limit
-  pub most_limit : limit ≤ 4294967295
+-- from -9,223,372,036,854,775,808 to 9,223,372,036,854,775,807
+abbrev pub is_number : ℤ → Bool
+is_number (pos n) = nat_le n 9223372036854775807
+is_number (negsuc n) = nat_le n 9223372036854775807
+
+-- words spell these numbers, of which there are at most 64, each of 64 bits with its sign
+pub record SpellsNumbers (words : List (List ℕ)) (numbers : List ℤ) : Type 0 where
+  pub spelled : words ≡ map signed_decimal numbers
+  pub fit : list_all is_number numbers ≡ true
+  pub few : length numbers ≤ 64
+
+-- words spell a limit of 1 to 4,294,967,295 steps, and then the numbers for the inputs
+pub record SpellsExecution (words : List (List ℕ)) (limit : ℕ) (numbers : List ℤ) : Type 0 where
+  pub first : List ℕ
+  pub more : List (List ℕ)
+  pub two : words ≡ first ∷ more
+  pub steps : SpellsAmount first 4294967295 limit
+  pub given : SpellsNumbers more numbers
+
+-- words spell 1 to 64 workers, and then a limit and numbers
+pub record SpellsRun (words : List (List ℕ)) (workers limit : ℕ) (numbers : List ℤ) : Type 0 where
+  pub first : List ℕ
+  pub more : List (List ℕ)
+  pub two : words ≡ first ∷ more
+  pub crew : SpellsAmount first 64 workers
+  pub execution : SpellsExecution more limit numbers
+
+-- `run WORKERS LIMIT NUMBER*`
+pub record RunWords (words : List (List ℕ)) (workers limit : ℕ) (numbers : List ℤ) : Type 0 where
+  pub more : List (List ℕ)
+  pub two : words ≡ codes "run" ∷ more
+  pub run : SpellsRun more workers limit numbers
+
+-- `serial LIMIT NUMBER*`
+pub record SerialWords (words : List (List ℕ)) (limit : ℕ) (numbers : List ℤ) : Type 0 where
+  pub more : List (List ℕ)
+  pub two : words ≡ codes "serial" ∷ more
+  pub execution : SpellsExecution more limit numbers
+
+-- `check`
+pub record CheckWords (words : List (List ℕ)) : Type 0 where
+  pub spelled : words ≡ codes "check" ∷ []
 
 -- `show`
 pub record ShowWords (words : List (List ℕ)) : Type 0 where
@@ -24,7 +62,9 @@ pub record ShowWords (words : List (List ℕ)) : Type 0 where
 
 -- the words are those of a command
 pub data AcceptsWords (words : List (List ℕ)) : Type 0 where
-  to_run : (workers limit : ℕ) → RunWords words workers limit → AcceptsWords words
+  to_run : (workers limit : ℕ) (numbers : List ℤ) → RunWords words workers limit numbers → AcceptsWords words
+  to_serial : (limit : ℕ) (numbers : List ℤ) → SerialWords words limit numbers → AcceptsWords words
+  to_check : CheckWords words → AcceptsWords words
   to_show : ShowWords words → AcceptsWords words
 
 -- the words are those of no command
@@ -33,5 +73,25 @@ RefusesWords words = AcceptsWords words → ⊥
 
 -- the words ask for this command
 abbrev pub Asks : List (List ℕ) → Command → Type 0
-Asks words (Run c) = RunWords words c.workers c.limit
+Asks words (Run workers e) = RunWords words workers e.limit e.numbers
+Asks words (Serial e) = SerialWords words e.limit e.numbers
+Asks words Check = CheckWords words
 Asks words Show = ShowWords words
+
+-- words are refused that are those of no command; want of memory says nothing of them
+abbrev pub IsUsage : List (List ℕ) → WordsError → Type 0
+IsUsage words Usage = RefusesWords words
+IsUsage words Memory = Unit {0}
+
+-- the same of words that should spell numbers, a limit and numbers, or workers, a limit and numbers
+abbrev pub NoNumbers : List (List ℕ) → WordsError → Type 0
+NoNumbers words Usage = (numbers : List ℤ) → SpellsNumbers words numbers → ⊥
+NoNumbers words Memory = Unit {0}
+
+abbrev pub NoExecution : List (List ℕ) → WordsError → Type 0
+NoExecution words Usage = (limit : ℕ) (numbers : List ℤ) → SpellsExecution words limit numbers → ⊥
+NoExecution words Memory = Unit {0}
+
+abbrev pub NoRun : List (List ℕ) → WordsError → Type 0
+NoRun words Usage = (workers limit : ℕ) (numbers : List ℤ) → SpellsRun words workers limit numbers → ⊥
+NoRun words Memory = Unit {0}

@@ -1,18 +1,18 @@
 //! What a text comes to.
 
-ghost use Rattle.std.specs.Prelude.{◌≡◌, ◌≤◌, [], length, map, IfErr, IfOk, MatchOption};
+ghost use Rattle.std.specs.Prelude.{◌≡◌, ◌≤◌, length, map, IfErr, IfOk, MatchOption};
 ghost use Rattle.std.specs.Option.{option_copied};
-ghost use Rattle.jade_small.specs.CheckedProgram.{IsChecked};
 ghost use Rattle.jade_syntax.specs.Image.{program};
+ghost use Rattle.jade_syntax.specs.Objects.{input_names};
 ghost use Rattle.jade_meaning.specs.Answer.{answer, Faulted, Cells};
 ghost use Rattle.jade_meaning.specs.Report.{report, Ascends};
 ghost use Rattle.jade_meaning.specs.Told.{told_answer, first_note, step_over};
 ghost use Rattle.jade_run.specs.Outcome.{fault_key};
 ghost use Rattle.jade_lexer.specs.Reading.{reading, Whole};
-ghost use Rattle.jade_small.specs.Small.{IsUnbuilt, first_word};
-ghost use Rattle.jade_run.specs.Outcome.{IsAnswered, IsNotRead, IsShown, OnRefused, ReadsAs, RefusedAs, Shows};
-ghost use Rattle.jade_run.specs.Texts.{refused_text};
+ghost use Rattle.jade_run.specs.Outcome.{IsAnswered, IsGood, IsNotRead, IsShown, IsTested, OnRefused, ReadsAs, RefusedAs, RefusedFor, Shows};
+ghost use Rattle.jade_run.specs.Texts.{numbers_text, refused_text};
 
+use crate::texts::static_word;
 use crate::{Status, texts};
 use fault_order::{first, key_is_before, limit_place};
 use jade_base::{
@@ -21,11 +21,11 @@ use jade_base::{
 use jade_layout::print_program;
 use jade_lexer::{LexError, Tokens, tokens};
 use jade_meaning::laws::{report_ascends, report_tells};
-use jade_meaning::serial_program;
+use jade_meaning::serial_run;
 use jade_parser::{ParseError, parse};
-use jade_small::Checked;
-use jade_small::small::{SmallError, read_small};
+use jade_syntax::Checked;
 use jade_syntax::tree::Program;
+use jade_types::{TypeError, check};
 use std::alloc::Global;
 
 /// The blame of a task whose part passes the limit.
@@ -101,20 +101,25 @@ fn answer_of(
     }
 }
 
-/// What a program comes to.
-fn run_checked(alloc: Global, checked: &Checked, limit: u32) -> Result<Answer, Memory>
+/// What a program comes to with these numbers.
+fn run_checked(
+    alloc: Global,
+    checked: &Checked,
+    numbers: &[i64],
+    limit: u32,
+) -> Result<Answer, Memory>
+    requires given { length numbers.now ≡ length (input_names checked.now.program.items) }
     requires some { 1 ≤ limit }
-    requires checked { IsChecked checked.now.program checked.now.stands }
-    ensures { IfOk result (λ a. Shows (program checked.now.program) (answer (program checked.now.program) [] limit) a.text.items a.status) }
+    ensures { IfOk result (λ a. Shows (program checked.now.program) (answer (program checked.now.program) numbers.now limit) a.text.items a.status) }
 {
     report_ascends();
     report_tells();
-    let report = serial_program(alloc, checked.program(), &[], limit)?;
+    let report = serial_run(alloc, checked, numbers, limit)?;
     let answer = answer_of(alloc, checked, &report, limit)?;
     Ok(answer)
 }
 
-/// Why a text is no program: its place and the word for it, or want of memory, which says nothing
+/// Why a text is no good program: its place and the word for it, or want of memory, which says nothing
 /// of the text.
 #[derive(Clone, Copy, Debug)]
 pub enum ReadError {
@@ -166,7 +171,7 @@ fn refused(alloc: Global, pos: Pos, why: &[u8]) -> Result<Answer, Memory>
     })
 }
 
-/// What a text that was not read is answered with.
+/// What a text that is no good program is answered with.
 fn not_read(alloc: Global, error: ReadError) -> Result<Answer, Memory>
     ensures { IfOk result (λ a. IsNotRead error a.text.items a.status) }
 {
@@ -176,31 +181,69 @@ fn not_read(alloc: Global, error: ReadError) -> Result<Answer, Memory>
     }
 }
 
-/// What a text comes to that is none of the programs that can be run, whose first word is at this
-/// place.
-fn not_run(alloc: Global, text: &[u8], first: Pos, limit: u32) -> Result<Answer, Memory>
-    requires within { length text.now ≤ 1048576 }
-    requires place { first ≡ first_word text.now }
-    requires unbuilt { IsUnbuilt text.now }
-    ensures { IfOk result (λ a. IsAnswered text.now limit a.text.items a.status) }
+/// The program of a text with which nothing is wrong before it runs.
+fn checked_of(alloc: Global, text: &[u8]) -> Result<Checked, ReadError>
+    requires { length text.now ≤ 1048576 }
+    ensures good { IfOk result (λ c. IsGood text.now c.program) }
+    ensures refused { IfErr result (λ e. OnRefused e (RefusedFor text.now)) }
 {
-    let _program = match program_of(alloc, text) {
+    let program = match program_of(alloc, text) {
         Ok(program) => program,
-        Err(error) => return not_read(alloc, error),
+        Err(error) => return Err(error),
     };
-    refused(alloc, first, b"unbuilt")
+    match check(alloc, program) {
+        Ok(checked) => Ok(checked),
+        Err(TypeError::Refused(pos, kind)) => Err(ReadError::Refused(pos, static_word(kind))),
+        Err(TypeError::Memory) => Err(ReadError::Memory),
+    }
 }
 
-/// What a text of at most 1,048,576 bytes comes to, run with a limit.
-pub fn run_text(alloc: Global, text: &[u8], limit: u32) -> Result<Answer, Memory>
+/// What a program is answered with that has so many inputs and was given so many numbers.
+fn miscounted(alloc: Global, wanted: u32, got: u32) -> Result<Answer, Memory>
+    ensures text { IfOk result (λ a. a.text.items ≡ numbers_text wanted got) }
+    ensures status { IfOk result (λ a. a.status ≡ Status.Numbers) }
+{
+    Ok(Answer {
+        text: texts::numbers(alloc, wanted, got)?,
+        status: Status::Numbers,
+    })
+}
+
+/// What a text of at most 1,048,576 bytes comes to, run with these numbers and a limit.
+pub fn run_text(
+    alloc: Global,
+    text: &[u8],
+    numbers: &[i64],
+    limit: u32,
+) -> Result<Answer, Memory>
     requires some { 1 ≤ limit }
     requires within { length text.now ≤ 1048576 }
-    ensures { IfOk result (λ a. IsAnswered text.now limit a.text.items a.status) }
+    requires few { length numbers.now ≤ 64 }
+    ensures { IfOk result (λ a. IsAnswered text.now numbers.now limit a.text.items a.status) }
 {
-    match read_small(alloc, text) {
-        Ok(checked) => Ok(run_checked(alloc, &checked, limit)?),
-        Err(SmallError::Unbuilt(pos)) => not_run(alloc, text, pos, limit),
-        Err(SmallError::Memory) => Err(Memory),
+    let checked = match checked_of(alloc, text) {
+        Ok(checked) => checked,
+        Err(error) => return not_read(alloc, error),
+    };
+    let wanted = checked.inputs();
+    let got = numbers.len() as u32;
+    if got != wanted {
+        return miscounted(alloc, wanted, got);
+    }
+    run_checked(alloc, &checked, numbers, limit)
+}
+
+/// What a text of at most 1,048,576 bytes comes to where it is checked.
+pub fn check_text(alloc: Global, text: &[u8]) -> Result<Answer, Memory>
+    requires { length text.now ≤ 1048576 }
+    ensures { IfOk result (λ a. IsTested text.now a.text.items a.status) }
+{
+    match checked_of(alloc, text) {
+        Ok(_) => Ok(Answer {
+            text: Vec::from_slice(alloc, b"ok\n")?,
+            status: Status::Good,
+        }),
+        Err(error) => not_read(alloc, error),
     }
 }
 

@@ -2,15 +2,15 @@
 
 ghost use Rattle.std.specs.Prelude.{◌≡◌, ◌≤◌, length, IfOk, IfErr, MatchResult, codes};
 ghost use Rattle.jade_run.specs.Headline.{Answers, Headline, Stops};
-ghost use Rattle.jade_run.specs.Outcome.{first_place, HasSteps, IsCommanded};
+ghost use Rattle.jade_run.specs.Outcome.{first_place, IsAllowed, IsCommanded};
 ghost use Rattle.jade_run.specs.Words.{RefusesWords};
 ghost use Rattle.jade_run.specs.Texts.{refused_text, usage_text};
 
-use crate::answer::{Answer, run_text, show_text};
+use crate::answer::{Answer, check_text, run_text, show_text};
 use crate::gate::Gate;
 use crate::status::Status;
 use crate::texts;
-use crate::words::{Command, command_of};
+use crate::words::{Command, WordsError, command_of};
 use jade_base::{Memory, Pos, Sink, Source, TextError, Word, read_text, write_text};
 use std::alloc::Global;
 
@@ -50,14 +50,12 @@ fn answer<S: Source>(alloc: Global, words: &[Word], source: &mut S) -> Result<An
     ensures unread { RefusesWords words.now → (source.new ≡ source.old) × IfErr result (λ s. s ≡ Status.Memory) }
     ensures answer { MatchResult result (λ a. Answers words.now (S.left source.old) (S.left source.new) a.text.items a.status) (λ s. Stops s (S.faults source.old) (S.faults source.new)) }
 {
-    let Some(command) = command_of(words) else {
-        return match usage(alloc) {
-            Ok(answer) => Ok(answer),
-            Err(Memory) => Err(Status::Memory),
-        };
+    let command = match command_of(alloc, words) {
+        Ok(command) => command,
+        Err(error) => return not_a_command(alloc, error),
     };
     match read_text(alloc, source) {
-        Ok(text) => match of_text(alloc, command, &text) {
+        Ok(text) => match of_text(alloc, &command, &text) {
             Ok(answer) => Ok(answer),
             Err(Memory) => Err(Status::Memory),
         },
@@ -71,14 +69,31 @@ fn answer<S: Source>(alloc: Global, words: &[Word], source: &mut S) -> Result<An
 }
 
 /// What a command comes to on a text of at most 1,048,576 bytes.
-fn of_text(alloc: Global, command: Command, text: &[u8]) -> Result<Answer, Memory>
+fn of_text(alloc: Global, command: &Command, text: &[u8]) -> Result<Answer, Memory>
     requires within { length text.now ≤ 1048576 }
-    requires limit { HasSteps command }
-    ensures { IfOk result (λ a. IsCommanded command text.now a.text.items a.status) }
+    requires allowed { IsAllowed command.now }
+    ensures { IfOk result (λ a. IsCommanded command.now text.now a.text.items a.status) }
 {
     match command {
-        Command::Run(run) => run_text(alloc, text, run.limit),
+        Command::Run(_, execution) | Command::Serial(execution) => {
+            run_text(alloc, text, execution.numbers.as_slice(), execution.limit)
+        }
+        Command::Check => check_text(alloc, text),
         Command::Show => show_text(alloc, text),
+    }
+}
+
+/// What words are answered with that are no command's.
+fn not_a_command(alloc: Global, error: WordsError) -> Result<Answer, Status>
+    ensures usage { IfOk result (λ a. (error ≡ WordsError.Usage) × (a.text.items ≡ usage_text) × (a.status ≡ Status.Words)) }
+    ensures memory { IfErr result (λ s. s ≡ Status.Memory) }
+{
+    match error {
+        WordsError::Usage => match usage(alloc) {
+            Ok(answer) => Ok(answer),
+            Err(Memory) => Err(Status::Memory),
+        },
+        WordsError::Memory => Err(Status::Memory),
     }
 }
 

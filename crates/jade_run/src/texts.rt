@@ -2,13 +2,12 @@
 
 ghost use Rattle.std.specs.Prelude.{◌≡◌, ◌++◌, ◌∷◌, [], codes, IfOk, OnOk, ◌<◌, length, slice_get, Some};
 ghost use Rattle.std.specs.Fmt.{decimal, signed_decimal};
-ghost use Rattle.jade_run.specs.Texts.{place_text, path_text, fault_word, fault_text, place_before, refused_text, line_of, cells_text, member_text, object_text, objects_text, between};
+ghost use Rattle.jade_run.specs.Texts.{place_text, path_text, fault_word, fault_text, place_before, refused_text, line_of, cells_text, member_text, object_text, objects_text, between, numbers_text, static_word};
 ghost use Rattle.jade_syntax.specs.Objects.{labels};
 
 use itoa::Buffer;
 use jade_base::{Blame, CellLists, FaultKind, Numbers, ObjectId, Path, Pos};
-use jade_small::Checked;
-use jade_syntax::Name;
+use jade_syntax::{Checked, Name, StaticKind};
 use std::alloc::{AllocError, Global};
 
 /// Puts a number last, in decimal.
@@ -50,6 +49,31 @@ fn fault_word(kind: FaultKind) -> &'static [u8]
         FaultKind::Change => b"change",
         FaultKind::Limit => b"limit",
     }
+}
+
+/// The word of a static fault.
+pub fn static_word(kind: StaticKind) -> &'static [u8]
+    ensures { result.now ≡ static_word kind }
+{
+    match kind {
+        StaticKind::Name => b"name",
+        StaticKind::Twice => b"twice",
+        StaticKind::Kind => b"kind",
+        StaticKind::Assign => b"assign",
+        StaticKind::Size => b"size",
+    }
+}
+
+/// What a run is answered with that was given another count of numbers than its text has inputs.
+pub fn numbers(alloc: Global, wanted: u32, got: u32) -> Result<Vec<u8>, AllocError>
+    ensures { IfOk result (λ text. text.items ≡ numbers_text wanted got) }
+{
+    let mut text = Vec::from_slice(alloc, b"numbers: want ")?;
+    push_decimal(&mut text, wanted)?;
+    text.extend_from_slice(b", got ")?;
+    push_decimal(&mut text, got)?;
+    text.push(b'\n')?;
+    Ok(text)
 }
 
 /// Puts the byte between two items last, before the item of a number.

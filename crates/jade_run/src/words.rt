@@ -1,15 +1,19 @@
 //! What the words of a command ask for.
 
-ghost use Rattle.std.specs.Prelude.{◌≡◌, ◌≢◌, ℕ, ◌<◌, ◌≤◌, ◌^◌, ◌↔◌, Some, IfSome, IfNone, IsTrue, MatchOption};
-ghost use Rattle.std.specs.Fmt.{decimal};
-ghost use Rattle.jade_run.specs.Words.{Asks, RefusesWords, RunWords, SpellsAmount};
+ghost use Rattle.std.specs.Prelude.{◌≡◌, ◌≢◌, ℕ, ◌<◌, ◌≤◌, ◌^◌, ◌↔◌, ◌∷◌, true, ℤ, Some, IfSome, IfNone, IsTrue, MatchOption, MatchResult};
+ghost use Rattle.std.specs.Fmt.{decimal, signed_decimal};
+ghost use Rattle.jade_run.specs.Words.{Asks, IsUsage, NoExecution, NoNumbers, NoRun, SpellsAmount, SpellsExecution, SpellsNumbers, SpellsRun, is_number};
 
 use itoa::Buffer;
-use jade_base::Word;
+use jade_base::{Numbers, Word};
+use std::alloc::Global;
 use std::str;
 
 /// The most workers of a run.
 const MOST_WORKERS: u32 = 64;
+
+/// The most numbers of a run.
+const MOST_NUMBERS: usize = 64;
 
 /// The number that a text spells, leading zeros and a plus allowed.
 fn parsed(text: &str) -> Option<u32>
@@ -43,6 +47,39 @@ fn number_of(word: &[u8]) -> Option<u32>
     }
 }
 
+/// The number with its sign that a text spells, leading zeros and a plus allowed.
+fn parsed_signed(text: &str) -> Option<i64>
+    ensures { (z : ℤ) → is_number z ≡ true → text.now ≡ signed_decimal z → result ≡ Some z }
+{
+    match text.parse::<i64>() {
+        Ok(number) => Some(number),
+        Err(_) => None,
+    }
+}
+
+/// Whether a word is the decimal spelling of a number with its sign.
+fn spells_signed(word: &[u8], number: i64) -> bool
+    ensures { IsTrue result ↔ (word.now ≡ signed_decimal number) }
+{
+    let mut buffer = Buffer::new();
+    buffer.format(number).as_bytes() == word
+}
+
+/// The number with its sign that a word spells in decimal, without a needless zero.
+fn signed_of(word: &[u8]) -> Option<i64>
+    ensures some { IfSome result (λ z. word.now ≡ signed_decimal z) }
+    ensures fits { IfSome result (λ z. is_number z ≡ true) }
+    ensures exact { (z : ℤ) → is_number z ≡ true → word.now ≡ signed_decimal z → result ≡ Some z }
+{
+    match str::from_utf8(word) {
+        Ok(text) => match parsed_signed(text) {
+            Some(number) if spells_signed(word, number) => Some(number),
+            _ => None,
+        },
+        Err(_) => None,
+    }
+}
+
 /// Whether a word is a text.
 fn is_text(word: &[u8], text: &[u8]) -> bool
     ensures { IsTrue result ↔ (word.now ≡ text.now) }
@@ -60,46 +97,118 @@ fn amount_of(word: &[u8], most: u32) -> Option<u32>
     }
 }
 
-/// What `run WORKERS LIMIT` asks for: the number of workers, and the most steps.
-#[derive(Clone, Copy, Debug, PartialEq, Eq)]
-pub struct RunCommand {
-    pub workers: u32,
+/// What a program is executed with: the most steps, and the numbers for its inputs.
+#[derive(Debug, Drop)]
+pub struct Execution {
     pub limit: u32,
+    pub numbers: Numbers,
 }
 
-/// What is asked for: that a text be run, or that the layout of its program be shown.
-#[derive(Clone, Copy, Debug, PartialEq, Eq)]
+/// What is asked for: that a text be run with so many workers, or serially, that it be checked, or
+/// that the layout of its program be shown.
+#[derive(Debug, Drop)]
 pub enum Command {
-    Run(RunCommand),
+    Run(u32, Execution),
+    Serial(Execution),
+    Check,
     Show,
 }
 
-/// What `run` asks for with these numbers of workers and steps.
-fn run_command(workers: &[u8], limit: &[u8]) -> Option<RunCommand>
-    ensures { MatchOption result ((w l : ℕ) → SpellsAmount workers.now 64 w → SpellsAmount limit.now 4294967295 l → ⊥) (λ c. SpellsAmount workers.now 64 c.workers × SpellsAmount limit.now 4294967295 c.limit) }
-{
-    let Some(workers) = amount_of(workers, MOST_WORKERS) else {
-        return None;
-    };
-    let Some(limit) = amount_of(limit, u32::MAX) else {
-        return None;
-    };
-    Some(RunCommand { workers, limit })
+/// Why there is no command: the words are those of none, or there was no memory, which says
+/// nothing of the words.
+#[derive(Clone, Copy, Debug, PartialEq, Eq)]
+pub enum WordsError {
+    Usage,
+    Memory,
 }
 
-/// The command that the words spell; `None` exactly where they are neither `show` nor
-/// `run WORKERS LIMIT` with 1 to 64 workers and a limit of 1 to 4,294,967,295. It takes no memory.
-pub fn command_of(words: &[Word]) -> Option<Command>
-    ensures { MatchOption result (RefusesWords words.now) (Asks words.now) }
+/// The numbers that words spell, at most 64.
+fn numbers_of(alloc: Global, words: &[Word]) -> Result<Numbers, WordsError>
+    ensures { MatchResult result (SpellsNumbers words.now) (NoNumbers words.now) }
 {
-    match words {
-        [run, workers, limit] if is_text(run.bytes(), b"run") => {
-            match run_command(workers.bytes(), limit.bytes()) {
-                Some(command) => Some(Command::Run(command)),
-                None => None,
-            }
+    if words.len() > MOST_NUMBERS {
+        return Err(WordsError::Usage);
+    }
+    let mut numbers = Numbers::empty(alloc);
+    for i in 0..words.len() {
+        let Some(number) = signed_of(words[i].bytes()) else {
+            return Err(WordsError::Usage);
+        };
+        if numbers.push(number).is_err() {
+            return Err(WordsError::Memory);
         }
-        [show] if is_text(show.bytes(), b"show") => Some(Command::Show),
-        _ => None,
+    }
+    Ok(numbers)
+}
+
+/// The limit and the numbers that words spell.
+fn execution_of(alloc: Global, words: &[Word]) -> Result<Execution, WordsError>
+    ensures { MatchResult result (λ e. SpellsExecution words.now e.limit e.numbers) (NoExecution words.now) }
+{
+    let Some((limit, rest)) = words.split_first() else {
+        return Err(WordsError::Usage);
+    };
+    let Some(limit) = amount_of(limit.bytes(), u32::MAX) else {
+        return Err(WordsError::Usage);
+    };
+    match numbers_of(alloc, rest) {
+        Ok(numbers) => Ok(Execution { limit, numbers }),
+        Err(error) => Err(error),
+    }
+}
+
+/// The workers, the limit and the numbers that words spell.
+fn run_of(alloc: Global, words: &[Word]) -> Result<(u32, Execution), WordsError>
+    ensures { MatchResult result (λ c. SpellsRun words.now c.0 c.1.limit c.1.numbers) (NoRun words.now) }
+{
+    let Some((workers, rest)) = words.split_first() else {
+        return Err(WordsError::Usage);
+    };
+    let Some(workers) = amount_of(workers.bytes(), MOST_WORKERS) else {
+        return Err(WordsError::Usage);
+    };
+    match execution_of(alloc, rest) {
+        Ok(execution) => Ok((workers, execution)),
+        Err(error) => Err(error),
+    }
+}
+
+/// The command of a name and the words after it.
+fn named(alloc: Global, name: &[u8], rest: &[Word]) -> Result<Command, WordsError>
+    ensures { MatchResult result (Asks (name.now ∷ rest.now)) (IsUsage (name.now ∷ rest.now)) }
+{
+    if is_text(name, b"run") {
+        return match run_of(alloc, rest) {
+            Ok((workers, execution)) => Ok(Command::Run(workers, execution)),
+            Err(error) => Err(error),
+        };
+    }
+    if is_text(name, b"serial") {
+        return match execution_of(alloc, rest) {
+            Ok(execution) => Ok(Command::Serial(execution)),
+            Err(error) => Err(error),
+        };
+    }
+    if !rest.is_empty() {
+        return Err(WordsError::Usage);
+    }
+    if is_text(name, b"check") {
+        return Ok(Command::Check);
+    }
+    if is_text(name, b"show") {
+        return Ok(Command::Show);
+    }
+    Err(WordsError::Usage)
+}
+
+/// The command that the words spell: `run WORKERS LIMIT NUMBER*`, `serial LIMIT NUMBER*`, `check`
+/// or `show`, with 1 to 64 workers, a limit of 1 to 4,294,967,295 steps, and at most 64 numbers of
+/// 64 bits with their signs. The error is `Usage` exactly where they are none of these.
+pub fn command_of(alloc: Global, words: &[Word]) -> Result<Command, WordsError>
+    ensures { MatchResult result (Asks words.now) (IsUsage words.now) }
+{
+    match words.split_first() {
+        Some((name, rest)) => named(alloc, name.bytes(), rest),
+        None => Err(WordsError::Usage),
     }
 }

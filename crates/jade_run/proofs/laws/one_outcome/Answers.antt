@@ -1,5 +1,0 @@
-use Rattle.jade_run.proofs.Once.{same_outcomes}
-use Rattle.jade_run.proofs.laws.one_outcome.Goals as goal
-
-pub returns : goal.returns
-returns c = same_outcomes c.at_most_one.ensures (record { one_spelling = c.one_reading.ensures.spelling; refusal = c.one_reading.ensures.refusal; apart = c.one_reading.ensures.apart; alike = c.spelled_alike.ensures })
