@@ -1,35 +1,15 @@
 use crate::print_program;
 use jade_base::{Memory, Pos};
 use jade_list::sequence::Sequence;
+use jade_syntax::Name;
 use jade_syntax::tree::{
     AndExpr, Atom, Block, Compare, Expr, Number, Product, Program, Relation, Statement, Sum, Unary,
     UnaryOp, ValueKind,
 };
-use jade_syntax::{Name, read_small};
 use std::alloc::Global;
 use std::test::Fail;
 
 const AT: Pos = Pos { line: 1, column: 1 };
-
-#[test]
-fn prints_read_programs(rt: HostRuntime) -> Result<(), Fail> {
-    for (text, want) in [
-        (
-            b"object s : 1; main { withonly { wr ( s ) ; } do ( ) { s[0] = 7; } }".as_slice(),
-            b"object s : 1;\nmain {\n    withonly {\n        wr(s);\n    } do () {\n        s[0] = 7;\n    }\n}\n".as_slice(),
-        ),
-        (b"main{}".as_slice(), b"main { }\n".as_slice()),
-    ] {
-        match read_small(rt.alloc(), text) {
-            Ok(checked) => match print_program(rt.alloc(), checked.program()) {
-                Ok(printed) => assert_eq!(rt; printed.as_slice(), want),
-                Err(_) => panic!(rt; "no memory"),
-            },
-            Err(_) => panic!(rt; "refused a program"),
-        }
-    }
-    Ok(())
-}
 
 /// A number with signs `-` before it.
 fn signed(alloc: Global, negative: bool, value: i64) -> Result<Sum, Memory> {
