@@ -1,0 +1,2 @@
+pub mod ErasedTerms
+pub mod ErasedStatements
