@@ -1,0 +1,9 @@
+pub mod ErasedTerms
+pub mod ErasedStatements
+pub mod Likeness
+pub mod OneChain
+pub mod Shown
+pub mod OneLevel
+pub mod OneTerm
+pub mod OneStatement
+pub mod OneTree
