@@ -3,8 +3,6 @@
 
 mod expressions;
 pub mod laws;
-#[cfg(test)]
-mod layout_tests;
 mod printer;
 mod statements;
 mod tokens;

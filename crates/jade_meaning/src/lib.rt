@@ -11,8 +11,6 @@ mod ledger;
 pub mod ready;
 mod scope;
 pub mod serial;
-#[cfg(test)]
-mod serial_tests;
 mod setting;
 mod source;
 mod standing;

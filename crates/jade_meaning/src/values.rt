@@ -164,26 +164,3 @@ pub(crate) fn index_below(number: i64, count: usize) -> Option<usize>
         None
     }
 }
-
-#[cfg(test)]
-mod tests {
-    use super::*;
-    use std::test::Fail;
-
-    #[test]
-    fn multiplies_and_divides(rt: HostRuntime) -> Result<(), Fail> {
-        let cases = [
-            (-7, ProductOp::Over, 2, Ok(Value::IntOf(-3))),
-            (-7, ProductOp::Remainder, 2, Ok(Value::IntOf(-1))),
-            (7, ProductOp::Remainder, -2, Ok(Value::IntOf(1))),
-            (7, ProductOp::Over, 0, Err(FaultKind::Zero)),
-            (i64::MIN, ProductOp::Over, -1, Err(FaultKind::Overflow)),
-            (i64::MAX, ProductOp::Times, 2, Err(FaultKind::Overflow)),
-        ];
-        for (left, op, right, expected) in &cases {
-            let given = Value::IntOf(*left).multiplied(*op, Value::IntOf(*right));
-            assert_eq!(rt; given, *expected);
-        }
-        Ok(())
-    }
-}

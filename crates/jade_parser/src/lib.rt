@@ -12,8 +12,6 @@ mod leaves;
 mod lexicon;
 mod names;
 mod outer;
-#[cfg(test)]
-mod parser_tests;
 mod pieces;
 mod program;
 mod simple;
