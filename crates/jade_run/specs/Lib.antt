@@ -1,3 +1,4 @@
+pub mod Complete
 pub mod Headline
 pub mod Numbers
 pub mod Outcome

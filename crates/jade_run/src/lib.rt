@@ -4,11 +4,14 @@
 pub mod answer;
 pub mod call;
 pub mod gate;
+pub mod laws;
 pub mod status;
+pub mod sure;
 pub mod texts;
 pub mod words;
 
 pub use call::jade_main;
 pub use gate::{EmptyGate, Gate};
 pub use status::Status;
+pub use sure::run_in_memory;
 

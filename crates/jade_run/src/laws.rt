@@ -1,0 +1,18 @@
+//! What is proved of the outcome of words and a text, for whoever stands on it.
+
+ghost use Rattle.std.specs.Prelude.{ℕ, List};
+ghost use Rattle.jade_run.specs.declared.status.Status.{Status};
+ghost use Rattle.jade_run.specs.Outcome.{IsOutcome, SameOutcome};
+
+use jade_parser::laws::{one_reading, spelled_alike};
+use jade_reading::laws::{erased_is_program, one_tree};
+
+/// Words and a text come to one text and one status.
+pub fn one_outcome()
+    ensures { (words : List (List ℕ)) (bytes t u : List ℕ) (s r : Status) → IsOutcome words bytes t s → IsOutcome words bytes u r → SameOutcome t s u r }
+{
+    one_tree();
+    erased_is_program();
+    one_reading();
+    spelled_alike();
+}

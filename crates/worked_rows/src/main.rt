@@ -1,0 +1,130 @@
+//! Runs each case of standard input as a whole call of `jade_main`, and prints what it writes and
+//! its status. A case begins with a line `> WORDS`; the lines up to the next one are its text, with
+//! a line feed between two lines and none at the end. A line `* N PIECE` stands for N times the
+//! piece, with no line feed before or after it.
+#![tactic(auto)]
+
+use jade_base::{Memory, StdSource, SureSink, SureSource, Word, read_text};
+use jade_run::{EmptyGate, run_in_memory};
+use std::alloc::Global;
+use std::process::ExitCode;
+use std::str;
+
+/// The most bytes that a case writes.
+const ROOM: usize = 65_536;
+
+/// Why the cases could not be run to their end.
+#[derive(Clone, Copy, Debug, PartialEq, Eq)]
+enum Stop {
+    /// A line is no line of a case.
+    Line,
+    /// Memory was wanting, or a line could not be written.
+    Failed,
+}
+
+/// A case: the words of its call, and its text so far.
+#[derive(Drop)]
+struct Case {
+    words: Vec<Word>,
+    text: Vec<u8>,
+    is_joined: bool,
+}
+
+impl Case {
+    /// The case of a line of words.
+    fn of(alloc: Global, line: &str) -> Result<Case, Memory> {
+        let mut words = Vec::new(alloc);
+        for piece in line.split(' ') {
+            if !piece.is_empty() {
+                words.push(Word::of(alloc, piece.as_bytes())?)?;
+            }
+        }
+        Ok(Case {
+            words,
+            text: Vec::new(alloc),
+            is_joined: true,
+        })
+    }
+
+    /// Puts a line of its text last.
+    fn put(&mut self, line: &str) -> Result<(), Stop> {
+        match line.strip_prefix("* ") {
+            Some(rest) => self.repeat(rest),
+            None => {
+                if !self.is_joined {
+                    self.text.push(b'\n').map_err(|_| Stop::Failed)?;
+                }
+                self.is_joined = false;
+                self.text
+                    .extend_from_slice(line.as_bytes())
+                    .map_err(|_| Stop::Failed)
+            }
+        }
+    }
+
+    /// Puts so many times a piece last.
+    fn repeat(&mut self, rest: &str) -> Result<(), Stop> {
+        let Some((count, piece)) = rest.split_once(' ') else {
+            return Err(Stop::Line);
+        };
+        let count = count.parse::<u32>().map_err(|_| Stop::Line)?;
+        for _ in 0..count {
+            self.text
+                .extend_from_slice(piece.as_bytes())
+                .map_err(|_| Stop::Failed)?;
+        }
+        self.is_joined = true;
+        Ok(())
+    }
+
+    /// Runs the case, and prints what it writes and its status.
+    fn run(self, rt: &HostRuntime, alloc: Global) -> Result<(), Stop> {
+        let mut source = SureSource::new(self.text);
+        let mut sink = SureSink::new(alloc, ROOM).map_err(|_| Stop::Failed)?;
+        let status = run_in_memory(rt, alloc, &self.words, &mut source, &mut sink, &EmptyGate);
+        let written = str::from_utf8(sink.taken()).map_err(|_| Stop::Line)?;
+        println!(rt; "{}status {}", written, status.number()).map_err(|_| Stop::Failed)
+    }
+}
+
+/// Runs the cases of a text.
+fn run_cases(rt: &HostRuntime, alloc: Global, text: &str) -> Result<(), Stop> {
+    let mut open = None;
+    for line in text.lines() {
+        match line.strip_prefix("> ") {
+            Some(words) => {
+                finish(rt, alloc, open)?;
+                println!(rt; "> {words}").map_err(|_| Stop::Failed)?;
+                open = Some(Case::of(alloc, words).map_err(|_| Stop::Failed)?);
+            }
+            None => match &mut open {
+                Some(case) => case.put(line)?,
+                None => return Err(Stop::Line),
+            },
+        }
+    }
+    finish(rt, alloc, open)
+}
+
+/// Runs a case that is complete, if there is one.
+fn finish(rt: &HostRuntime, alloc: Global, case: Option<Case>) -> Result<(), Stop> {
+    match case {
+        Some(case) => case.run(rt, alloc),
+        None => Ok(()),
+    }
+}
+
+fn main(rt: HostRuntime) -> ExitCode {
+    let alloc = rt.alloc();
+    let mut source = StdSource::new(rt.stdin());
+    let Ok(bytes) = read_text(alloc, &mut source) else {
+        return ExitCode::from(2);
+    };
+    let Ok(text) = str::from_utf8(&bytes) else {
+        return ExitCode::from(2);
+    };
+    match run_cases(&rt, alloc, text) {
+        Ok(()) => ExitCode::SUCCESS,
+        Err(_) => ExitCode::from(1),
+    }
+}
