@@ -19,7 +19,7 @@ use denote.Bor.{Bor}
 use Rattle.jade_run.specs.declared.answer.Answer.{Answer as AnswerOf}
 use Rattle.jade_run.specs.declared.answer.ReadError.{ReadError}
 use Rattle.jade_run.specs.declared.answer.ReadError.TheVariants.{Refused as NotRead, Memory as Unread}
-use Rattle.jade_run.specs.Outcome.{IsOutcome, IsAnswered, IsGood, IsShown, IsTested, IsCommanded, IsNotRead, OnRefused, ReadsAs, RefusedAs, RefusedFor, IsAllowed, IsLimited, usage, too_long, run, serial, check, show, refused, answered, miscounted, good, not_good, shown, not_shown, first_place, answer_status, input_count}
+use Rattle.jade_run.specs.Outcome.{IsOutcome, IsAnswered, IsGood, IsShown, IsTested, IsCommanded, IsNotRead, OnRefused, ReadsAs, RefusedAs, RefusedFor, IsAllowed, IsLimited, usage, too_long, run, serial, check, show, refused, answered, miscounted, good, not_good, shown, not_shown, unread, first_place, answer_status, input_count}
 use Rattle.jade_run.specs.Texts.{usage_text, refused_text, numbers_text, ok_text}
 use Rattle.jade_run.specs.Words.{RunWords, SerialWords, SpellsExecution, AcceptsWords, RefusesWords, Asks, IsUsage, to_run, to_serial, to_check, to_show}
 use Rattle.jade_meaning.specs.Answer.{Answer, Faulted, Cells}
@@ -200,6 +200,13 @@ pub miscounted_answered : (bytes : List ℕ) (numbers : List ℤ) (limit wanted 
 miscounted_answered bytes numbers limit wanted got tree (Ok a) t s g w n differ =
     miscounted tree g (λ e. differ (n ∙ e ∙ sym w)) (t ∙ ap (λ k. numbers_text k got) w ∙ ap (numbers_text (input_count tree)) n) s
 miscounted_answered bytes numbers limit wanted got tree (Err m) t s g w n differ = tt
+
+pub unread_for : (bytes : List ℕ) (e : ReadError) → OnRefused e (RefusedAs bytes) → OnRefused e (RefusedFor bytes)
+unread_for bytes (NotRead place why) h = unread h
+unread_for bytes Unread h = tt
+
+pub good_tested : (bytes : List ℕ) (tree : Program) (text : List ℕ) → IsGood bytes tree → text ≡ ok_text → IsTested bytes text Good
+good_tested bytes tree text g t = good tree g t refl
 
 -- the answer of a refusal
 pub not_read_is : (place : Pos) (why : Bor (List ℕ)) (r : Result AnswerOf NoMemory) → IfOk r (λ a. a.text.items ≡ refused_text place why.now) → IfOk r (λ a. a.status ≡ Refused) → IfOk r (λ a. IsNotRead (NotRead place why) a.text.items a.status)

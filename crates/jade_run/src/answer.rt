@@ -238,13 +238,14 @@ pub fn check_text(alloc: Global, text: &[u8]) -> Result<Answer, Memory>
     requires { length text.now ≤ 1048576 }
     ensures { IfOk result (λ a. IsTested text.now a.text.items a.status) }
 {
-    match checked_of(alloc, text) {
-        Ok(_) => Ok(Answer {
-            text: Vec::from_slice(alloc, b"ok\n")?,
-            status: Status::Good,
-        }),
-        Err(error) => not_read(alloc, error),
-    }
+    let _checked = match checked_of(alloc, text) {
+        Ok(checked) => checked,
+        Err(error) => return not_read(alloc, error),
+    };
+    Ok(Answer {
+        text: Vec::from_slice(alloc, b"ok\n")?,
+        status: Status::Good,
+    })
 }
 
 /// What a text of at most 1,048,576 bytes comes to where it is shown.

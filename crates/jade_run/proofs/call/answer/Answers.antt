@@ -1,31 +1,28 @@
-use Rattle.jade_run.proofs.Calls.{usage_answers, too_long_answers, command_answers, asks_accepted, asks_steps}
+use Rattle.jade_run.proofs.Calls.{too_long_answers, command_answers, asks_accepted, asks_allowed}
 use Rattle.jade_run.proofs.call.answer.Goals as goal
 
-pub returns-in-Ok-clause-answer : goal.returns-in-Ok-clause-answer
-returns-in-Ok-clause-answer g c = usage_answers _ _ _ _ c.in_default.ensures c.in-Ok.ensures.text c.in-Ok.ensures.status
-
-pub of_text-requires-clause-limit : goal.of_text-requires-clause-limit
-of_text-requires-clause-limit g c = asks_steps _ c.in-Some.command c.in-Some.ensures
+pub of_text-requires-clause-allowed : goal.of_text-requires-clause-allowed
+of_text-requires-clause-allowed g c = asks_allowed _ c.in-Ok.command c.in-Ok.ensures
 
 pub returns-in-Ok-of_text-clause-answer : goal.returns-in-Ok-of_text-clause-answer
 returns-in-Ok-of_text-clause-answer g c =
-    command_answers _ _ _ c.in-Some.command _ _ _ _ c.in-Some.ensures c.in-Ok-read_text.ensures.ok c.deref.ensures.value c.in-Ok-of_text.ensures
+    command_answers _ _ _ c.in-Ok.command _ _ _ _ c.in-Ok.ensures c.in-Ok-read_text.ensures.ok c.deref.ensures.value c.in-Ok-of_text.ensures
 
 pub returns-in-Ok-too_long-clause-answer : goal.returns-in-Ok-too_long-clause-answer
 returns-in-Ok-too_long-clause-answer g c =
-    too_long_answers _ _ _ _ _ (asks_accepted _ c.in-Some.command c.in-Some.ensures) (rw c.in-Err-TooLong.field-0-is at c.in-Err-TooLong.ensures.too_long) c.in-Ok-too_long.ensures.text c.in-Ok-too_long.ensures.status
+    too_long_answers _ _ _ _ _ (asks_accepted _ c.in-Ok.command c.in-Ok.ensures) (rw c.in-Err-TooLong.field-0-is at c.in-Err-TooLong.ensures.too_long) c.in-Ok-too_long.ensures.text c.in-Ok-too_long.ensures.status
 
 pub returns-in-Ok-of_text-clause-unread : goal.returns-in-Ok-of_text-clause-unread
-returns-in-Ok-of_text-clause-unread g c h = absurd (h (asks_accepted _ c.in-Some.command c.in-Some.ensures))
+returns-in-Ok-of_text-clause-unread g c h = absurd (h (asks_accepted _ c.in-Ok.command c.in-Ok.ensures))
 
 pub returns-in-Ok-read_text-clause-unread : goal.returns-in-Ok-read_text-clause-unread
-returns-in-Ok-read_text-clause-unread g c h = absurd (h (asks_accepted _ c.in-Some.command c.in-Some.ensures))
+returns-in-Ok-read_text-clause-unread g c h = absurd (h (asks_accepted _ c.in-Ok.command c.in-Ok.ensures))
 
 pub returns-in-Ok-too_long-clause-unread : goal.returns-in-Ok-too_long-clause-unread
-returns-in-Ok-too_long-clause-unread g c h = absurd (h (asks_accepted _ c.in-Some.command c.in-Some.ensures))
+returns-in-Ok-too_long-clause-unread g c h = absurd (h (asks_accepted _ c.in-Ok.command c.in-Ok.ensures))
 
 pub returns-in-Err-TooLong-clause-unread : goal.returns-in-Err-TooLong-clause-unread
-returns-in-Err-TooLong-clause-unread g c h = absurd (h (asks_accepted _ c.in-Some.command c.in-Some.ensures))
+returns-in-Err-TooLong-clause-unread g c h = absurd (h (asks_accepted _ c.in-Ok.command c.in-Ok.ensures))
 
 pub returns-in-Err-Failed-clause-unread : goal.returns-in-Err-Failed-clause-unread
-returns-in-Err-Failed-clause-unread g c h = absurd (h (asks_accepted _ c.in-Some.command c.in-Some.ensures))
+returns-in-Err-Failed-clause-unread g c h = absurd (h (asks_accepted _ c.in-Ok.command c.in-Ok.ensures))
