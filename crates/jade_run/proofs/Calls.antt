@@ -5,13 +5,13 @@ use Rattle.std.proofs.lemmas.List.{drop_all}
 use Rattle.jade_base.specs.Bytes.{WholeText, CutText, left_after, taken_with}
 use Rattle.jade_run.specs.declared.status.Status.{Status}
 use Rattle.jade_run.specs.declared.status.Status.TheVariants.{Good, Fault, Refused, Words, Numbers, Reading, Writing, Memory}
-use Rattle.jade_run.specs.Headline.{Answers, Headline, Moment, most_read}
+use Rattle.jade_run.specs.Headline.{Answers, Headline, Moment, Stops, most_read}
 use Rattle.jade_run.specs.declared.words.Command.{Command}
 use Rattle.jade_run.specs.declared.words.Command.TheVariants.{Run, Serial, Check, Show}
 use Rattle.jade_run.specs.declared.words.Execution.{Execution}
 use Rattle.jade_run.specs.declared.words.WordsError.{WordsError}
 use Rattle.jade_run.specs.declared.words.WordsError.TheVariants.{Usage}
-use Rattle.std.specs.Prelude.{Result, Ok, Err, IfOk}
+use Rattle.std.specs.Prelude.{Result, Ok, Err, IfOk, IfErr, MatchResult}
 use Rattle.jade_base.specs.declared.place.Pos.{Pos}
 use Rattle.jade_base.specs.declared.failure.Memory.{Memory as NoMemory}
 use Rattle.jade_syntax.specs.declared.tree.Program.{Program}
@@ -19,10 +19,11 @@ use denote.Bor.{Bor}
 use Rattle.jade_run.specs.declared.answer.Answer.{Answer as AnswerOf}
 use Rattle.jade_run.specs.declared.answer.ReadError.{ReadError}
 use Rattle.jade_run.specs.declared.answer.ReadError.TheVariants.{Refused as NotRead, Memory as Unread}
-use Rattle.jade_run.specs.Outcome.{IsOutcome, IsAnswered, IsGood, IsShown, IsTested, IsCommanded, IsNotRead, OnRefused, ReadsAs, RefusedAs, RefusedFor, IsAllowed, IsLimited, usage, too_long, run, serial, check, show, refused, answered, miscounted, good, not_good, shown, not_shown, unread, first_place, answer_status, input_count}
+use Rattle.jade_run.specs.Outcome.{IsOutcome, IsAnswered, IsGood, Shows, IsShown, IsTested, IsCommanded, IsNotRead, OnRefused, ReadsAs, RefusedAs, RefusedFor, IsAllowed, IsLimited, usage, too_long, run, serial, check, show, refused, answered, miscounted, good, not_good, shown, not_shown, unread, first_place, answer_status, input_count}
 use Rattle.jade_run.specs.Texts.{usage_text, refused_text, numbers_text, ok_text}
 use Rattle.jade_run.specs.Words.{RunWords, SerialWords, SpellsExecution, AcceptsWords, RefusesWords, Asks, IsUsage, to_run, to_serial, to_check, to_show}
-use Rattle.jade_meaning.specs.Answer.{Answer, Faulted, Cells}
+use Rattle.jade_meaning.specs.Answer.{Answer, Faulted, Cells, answer}
+use Rattle.jade_syntax.specs.Image.{program}
 
 -- the bytes that are told, or none
 bytes_of : Option (List ℕ) → List ℕ
@@ -207,6 +208,15 @@ unread_for bytes Unread h = tt
 
 pub good_tested : (bytes : List ℕ) (tree : Program) (text : List ℕ) → IsGood bytes tree → text ≡ ok_text → IsTested bytes text Good
 good_tested bytes tree text g t = good tree g t refl
+
+pub answered_in : (bytes : List ℕ) (numbers : List ℤ) (limit : ℕ) (tree : Program) (r : Result AnswerOf NoMemory) → IsGood bytes tree → length numbers ≡ input_count tree → IfOk r (λ a. Shows (program tree) (answer (program tree) numbers limit) a.text.items a.status) → IfOk r (λ a. IsAnswered bytes numbers limit a.text.items a.status)
+answered_in bytes numbers limit tree (Ok a) g n h = answered tree g n h
+answered_in bytes numbers limit tree (Err m) g n h = tt
+
+-- what words are answered with that are no command's, and what stops the call where there is no memory
+pub no_command : (words : List (List ℕ)) (left : Option (List ℕ)) (before after : ℕ) (e : WordsError) (r : Result AnswerOf Status) → IsUsage words e → IfOk r (λ a. (e ≡ Usage) × (a.text.items ≡ usage_text) × (a.status ≡ Words)) → IfErr r (λ s. s ≡ Memory) → MatchResult r (λ a. Answers words left left a.text.items a.status) (λ s. Stops s before after)
+no_command words left before after e (Ok a) h k m = usage_answers words left a.text.items a.status (subst (IsUsage words) k.0 h) k.1 k.2
+no_command words left before after e (Err s) h k m = subst (λ z. Stops z before after) (sym m) tt
 
 -- the answer of a refusal
 pub not_read_is : (place : Pos) (why : Bor (List ℕ)) (r : Result AnswerOf NoMemory) → IfOk r (λ a. a.text.items ≡ refused_text place why.now) → IfOk r (λ a. a.status ≡ Refused) → IfOk r (λ a. IsNotRead (NotRead place why) a.text.items a.status)

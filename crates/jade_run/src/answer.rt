@@ -209,6 +209,14 @@ fn miscounted(alloc: Global, wanted: u32, got: u32) -> Result<Answer, Memory>
     })
 }
 
+/// How many numbers were given.
+fn count_of(numbers: &[i64]) -> u32
+    requires { length numbers.now ≤ 64 }
+    ensures { result ≡ length numbers.now }
+{
+    numbers.len() as u32
+}
+
 /// What a text of at most 1,048,576 bytes comes to, run with these numbers and a limit.
 pub fn run_text(
     alloc: Global,
@@ -226,7 +234,7 @@ pub fn run_text(
         Err(error) => return not_read(alloc, error),
     };
     let wanted = checked.inputs();
-    let got = numbers.len() as u32;
+    let got = count_of(numbers);
     if got != wanted {
         return miscounted(alloc, wanted, got);
     }

@@ -1,5 +1,8 @@
-use Rattle.jade_run.proofs.Calls.{too_long_answers, command_answers, asks_accepted, asks_allowed}
+use Rattle.jade_run.proofs.Calls.{too_long_answers, command_answers, asks_accepted, asks_allowed, no_command}
 use Rattle.jade_run.proofs.call.answer.Goals as goal
+
+pub returns-in-Err-clause-answer : goal.returns-in-Err-clause-answer
+returns-in-Err-clause-answer g c = no_command _ _ _ _ c.in-Err.error c.not_a_command.result c.in-Err.ensures c.not_a_command.ensures.usage c.not_a_command.ensures.memory
 
 pub of_text-requires-clause-allowed : goal.of_text-requires-clause-allowed
 of_text-requires-clause-allowed g c = asks_allowed _ c.in-Ok.command c.in-Ok.ensures

@@ -1,0 +1,8 @@
+use Rattle.jade_run.proofs.Calls.{refused_tested, good_tested}
+use Rattle.jade_run.proofs.answer.check_text.Goals as goal
+
+pub returns-in-Err : goal.returns-in-Err
+returns-in-Err c = refused_tested c.args.text.now c.in-Err.error c.not_read.result c.not_read.ensures c.in-Err.ensures.refused
+
+pub returns : goal.returns
+returns c = good_tested c.args.text.now c.in-Ok.checked.program c.in_ok-from_slice.field-0.items c.in-Ok.ensures.good c.in_ok-from_slice.ensures.items
