@@ -2,5 +2,6 @@
 #![tactic(auto)]
 
 pub mod checker;
+mod item_map;
 
 pub use checker::{TypeError, check};
