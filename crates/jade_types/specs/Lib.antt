@@ -1,2 +1,5 @@
+pub mod Bodies
 pub mod Check
+pub mod Counted
 pub mod ItemMap
+pub mod Variables

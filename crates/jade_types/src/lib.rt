@@ -3,5 +3,6 @@
 
 pub mod checker;
 mod item_map;
+mod numbers;
 
 pub use checker::{TypeError, check};
