@@ -14,8 +14,13 @@ use Rattle.jade_syntax.specs.declared.tree.Sum.{Sum, out-Sum, fold_out-Sum}
 use Rattle.jade_syntax.specs.declared.tree.SumOp.{SumOp}
 use Rattle.jade_syntax.specs.declared.tree.Unary.{Unary, fold_out-Unary}
 use Rattle.jade_syntax.specs.declared.tree.UnaryOp.{UnaryOp}
-use Rattle.jade_syntax.specs.Abstract.{Name, Expression, Or, And, Adds, Multiplies}
-use Rattle.jade_syntax.specs.Image.{Linked, Reference, chained, links, signed, placed, expression, and_expression, compare_expression, sum_expression, product_expression, unary_expression, atom_expression, at_atom, at_and, at_cell, at_compare, at_expr, at_product, at_sum, at_unary}
+use Rattle.jade_syntax.specs.declared.tree.Named.{Named}
+use Rattle.jade_syntax.specs.declared.tree.Statement.{Statement, fold_out-Statement, map-Statement}
+use Rattle.jade_syntax.specs.declared.tree.Statement.TheOpen.{Statement-F}
+use Rattle.jade_syntax.specs.declared.tree.Statement.TheVariants.{Withonly, outs-Withonly}
+use Rattle.jade_syntax.specs.Abstract as abstract
+use Rattle.jade_syntax.specs.Abstract.{Action, Name, Expression, Or, And, Adds, Multiplies}
+use Rattle.jade_syntax.specs.Image.{action, block, at_statement, Linked, Reference, chained, links, signed, placed, expression, and_expression, compare_expression, sum_expression, product_expression, unary_expression, atom_expression, at_atom, at_and, at_cell, at_compare, at_expr, at_product, at_sum, at_unary}
 use Rattle.jade_syntax.specs.Numbering.{Scope, stand_of, expression_stands, link_stands, place_stands}
 use Rattle.jade_types.specs.Bodies.{member_stands}
 
@@ -76,3 +81,9 @@ unary_opens scope e =
 pub place_opens : (scope : Scope) (x : Name) (at : Pos) (m : Option Expression) → place_stands scope (placed x at m) ≡ stand_of x scope ∷ member_stands scope m
 place_opens scope x at None = refl
 place_opens scope x at (Some e) = refl
+
+abbrev statement_layer : Statement-F Statement → Action
+statement_layer f = at_statement (map-Statement Statement Action action f)
+
+pub withonly_is : (at : Pos) (section : List Statement) (names : List Named) (body : List Statement) → action (Withonly at section names body) ≡ abstract.Withonly at (block section) (map (λ n. n.name) names) (block body)
+withonly_is at section names body = fold_out-Statement Action at_statement (Withonly at section names body) ∙ ap statement_layer (outs-Withonly at section names body)

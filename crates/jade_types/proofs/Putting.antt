@@ -1,10 +1,12 @@
 -- Stands that are put last, one part after another.
-use Rattle.std.proofs.Common.{◌≡◌, ℕ, ◌+◌, ◌≤◌, List, [], ◌∷◌, ◌++◌, Some, ap, sym, ◌∙◌, take, length, append_assoc, append-nil}
+use Rattle.std.proofs.Common.{◌≡◌, ℕ, ◌+◌, ◌≤◌, List, [], ◌∷◌, ◌++◌, map, Some, refl, ap, sym, ◌∙◌, take, length, append_assoc, append-nil}
 use Rattle.std.specs.List.{flat_map, slice_get}
 use Rattle.std.proofs.lemmas.List.{take_all, take_more}
 use Rattle.std.proofs.lemmas.List.Concat.{flat_map-append}
 use Rattle.std.proofs.lemmas.Option.{slice_get_within, get_or_from_slice_get}
 use Rattle.jade_syntax.specs.declared.stands.Stand.{Stand}
+use Rattle.jade_syntax.specs.declared.tree.Named.{Named}
+use Rattle.jade_syntax.specs.Numbering.{Scope, stand_of, name_stands}
 use Rattle.jade_types.specs.Bodies.{Puts}
 
 pub nothing : (o : List Stand) → Puts o o []
@@ -28,3 +30,11 @@ more f xs i x e p q = told (sym (flat_more f xs i x e)) (after p q)
 
 pub all : {A : Type 0} {o0 o1 : List Stand} (f : A → List Stand) (xs : List A) (n : ℕ) → length xs ≤ n → Puts o0 o1 (flat_map f (take n xs)) → Puts o0 o1 (flat_map f xs)
 all f xs n le p = told (ap (flat_map f) (take_all n xs le)) p
+
+-- the names of a `do` list
+abbrev pub mentioned : Scope → Named → List Stand
+mentioned scope n = stand_of n.name scope ∷ []
+
+pub names_open : (scope : Scope) (names : List Named) → name_stands scope (map (λ n. n.name) names) ≡ flat_map (mentioned scope) names
+names_open scope [] = refl
+names_open scope (n ∷ names) = ap (λ s. stand_of n.name scope ∷ s) (names_open scope names)

@@ -1,7 +1,7 @@
 //! What the names of statements stand for.
 
 ghost use Rattle.std.specs.Prelude.{◌≡◌, map, OnOk};
-ghost use Rattle.jade_syntax.specs.Image.{action, block, object};
+ghost use Rattle.jade_syntax.specs.Image.{action, block as actions_of, object as place_of};
 ghost use Rattle.jade_syntax.specs.Numbering.{name_stands, place_stands};
 ghost use Rattle.jade_types.specs.Bodies.{Puts, Goes, GoesAll, names_in};
 
@@ -12,7 +12,7 @@ use jade_syntax::Stands;
 use jade_syntax::tree::{Block, NameList, ObjectRef, Statement};
 
 fn number_object(body: &Body, stands: &mut Stands, object: &ObjectRef) -> Result<(), Memory>
-    ensures { OnOk result (Puts stands.old stands.new (place_stands (names_in body.now) (object object.now))) }
+    ensures { OnOk result (Puts stands.old stands.new (place_stands (names_in body.now) (place_of object.now))) }
 {
     number_name(body, stands, &object.name)?;
     number_member(body, stands, &object.member)
@@ -112,7 +112,7 @@ pub(crate) fn number_block<'p>(
     stands: &mut Stands,
     block: &'p Block,
 ) -> Result<(), Memory>
-    ensures { OnOk result (GoesAll body.old body.new stands.old stands.new (block block.now)) }
+    ensures { OnOk result (GoesAll body.old body.new stands.old stands.new (actions_of block.now)) }
 {
     let outer = body.len();
     for i in 0..block.len() {
