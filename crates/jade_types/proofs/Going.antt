@@ -1,60 +1,15 @@
 -- Going through the statements of a body.
-use Rattle.std.proofs.Common.{◌≡◌, ℕ, zero, suc, ◌+◌, ◌-◌, ◌≤◌, List, [], ◌∷◌, ◌++◌, Some, refl, ap, sym, ◌∙◌, subst, drop, length, arith, add-one, drop-cons, length-append, append_assoc, append-nil}
+use Rattle.std.proofs.Common.{◌≡◌, ℕ, suc, ◌+◌, List, [], ◌∷◌, ◌++◌, Some, refl, ap, sym, ◌∙◌, subst, drop, length, add-one, drop-cons, append_assoc}
 use Rattle.std.specs.List.{slice_get}
-use Rattle.std.proofs.lemmas.List.{drop_all}
 use Rattle.std.proofs.lemmas.Option.{slice_get_within, get_or_from_slice_get}
-use Rattle.std.proofs.Math.Seq.{drop-append_seam}
 use Rattle.jade_base.specs.declared.place.Pos.{Pos}
 use Rattle.jade_syntax.specs.declared.stands.Stand.{Stand}
-use Rattle.jade_syntax.specs.declared.stands.Stand.TheVariants.{Slot}
-use Rattle.jade_syntax.specs.declared.tree.DeclareWord.{DeclareWord}
 use Rattle.jade_syntax.specs.declared.tree.Statement.{Statement}
-use Rattle.jade_syntax.specs.declared.tree.ValueKind.{ValueKind}
-use Rattle.jade_syntax.specs.Abstract.{Name, Expression, Place, Action, Actions, Local, Assign, Store, If, IfElse, For, Withonly, With, Declare, Done, Then}
-use Rattle.jade_syntax.specs.Image.{Reference, action, actions, block}
-use Rattle.jade_syntax.specs.Numbering.{Scope, slotted, stand_of, parameters, name_stands, expression_stands, place_stands, numbered_all}
-use Rattle.jade_types.specs.Bodies.{InBody, Puts, Goes, GoesAll, names_in, with_variable, created_in, cell_stands, numbered_in, all_in, variables_after}
+use Rattle.jade_syntax.specs.Abstract.{Name, Action, Actions, Local, Assign, Store, If, IfElse, For, Withonly, With, Declare, Then}
+use Rattle.jade_syntax.specs.Image.{action, block}
+use Rattle.jade_syntax.specs.Numbering.{Scope, slotted, parameters, name_stands, numbered_all}
+use Rattle.jade_types.specs.Bodies.{InBody, Puts, Goes, GoesAll, names_in, created_in, numbered_in, all_in, variables_after}
 use Rattle.jade_types.proofs.Putting.{after, told}
-
--- a body with the same names and more slots taken
-abbrev with_slots : InBody → ℕ → InBody
-with_slots b n = record { variables = b.variables; items = b.items; slots = n }
-
--- without the newest variable
-abbrev pub left_at : InBody → ℕ → InBody
-left_at b len = record { variables = drop (length b.variables - len) b.variables; items = b.items; slots = b.slots }
-
-seam : (xs ys : Scope) (n : ℕ) → n ≡ length ys → drop (length (xs ++ ys) - n) (xs ++ ys) ≡ ys
-seam xs ys n e =
-    let k : length (xs ++ ys) - n ≡ length xs = omega (arith, length-append xs ys, e) in
-    ap (λ j. drop j (xs ++ ys)) k ∙ drop-append_seam xs ys
-
-pub local_goes : {old new : InBody} {s0 s1 s2 : List Stand} (kind : ValueKind) (x : Name) (e : Expression) → Puts s0 s1 (Slot old.slots ∷ []) → Puts s1 s2 (expression_stands (names_in old) e) → new ≡ with_variable x 1 old → Goes old new s0 s2 (Local kind x e)
-local_goes {old} kind x e p q b = record { stands = after p q; body = b ∙ ap (λ n. record { variables = slotted x old.slots old.variables; items = old.items; slots = n }) (add-one old.slots) }
-
--- a statement that leaves the body as it was
-pub stays : {old : InBody} {s0 s1 : List Stand} (a : Action) → variables_after old a ≡ old.variables → (numbered_in old a).slots ≡ old.slots → Puts s0 s1 (numbered_in old a).stands → Goes old old s0 s1 a
-stays {old} a v n p = record { stands = p; body = λ i. record { variables = sym v i; items = old.items; slots = sym n i } }
-
-pub if_goes : {old new : InBody} {s0 s1 s2 : List Stand} (e : Expression) (first : Actions) → Puts s0 s1 (expression_stands (names_in old) e) → GoesAll old new s1 s2 first → Goes old new s0 s2 (If e first)
-if_goes e first p q = record { stands = after p q.stands; body = q.body }
-
-pub if_else_goes : {old mid new : InBody} {s0 s1 s2 s3 : List Stand} (e : Expression) (first other : Actions) → Puts s0 s1 (expression_stands (names_in old) e) → GoesAll old mid s1 s2 first → GoesAll mid new s2 s3 other → Goes old new s0 s3 (IfElse e first other)
-if_else_goes {old} {mid} {new} {s0} {s1} {s2} {s3} e first other p q r =
-    let P : InBody → Type 0 = λ m. GoesAll m new s2 s3 other in
-    let t : GoesAll (with_slots old (all_in old first).slots) new s2 s3 other = subst P q.body r in
-    record { stands = after (after p q.stands) t.stands; body = t.body }
-
-pub for_goes : {old mid end new : InBody} {s0 s1 s2 s3 s4 : List Stand} (x : Name) (low high : Expression) (body : Actions) (len : ℕ) → len ≡ length old.variables
-    → Puts s0 s1 (Slot old.slots ∷ []) → Puts s1 s2 (expression_stands (names_in old) low) → Puts s2 s3 (expression_stands (names_in old) high)
-    → mid ≡ with_variable x 2 old → GoesAll mid end s3 s4 body → new ≡ left_at end len → Goes old new s0 s4 (For x low high body)
-for_goes {old} {mid} {end} {new} {s0} {s1} {s2} {s3} {s4} x low high body len n p q r m g l =
-    let P : InBody → Type 0 = λ b. GoesAll b end s3 s4 body in
-    let t : GoesAll (with_variable x 2 old) end s3 s4 body = subst P m g in
-    record {
-      stands = after p (after (after q r) t.stands);
-      body = l ∙ ap (λ b. left_at b len) t.body ∙ ap (λ vs. record { variables = vs; items = old.items; slots = (all_in (with_variable x 2 old) body).slots }) (seam (record { name = x; stand = Slot old.slots } ∷ []) old.variables len n);
-    }
 
 pub created_names : (xs : List Name) (n : ℕ) (above items : Scope) → parameters n xs above ++ items ≡ parameters n xs (above ++ items)
 created_names [] n above items = refl
@@ -69,9 +24,6 @@ withonly_goes {old} {mid} {task} {end} {s0} {s1} {s2} {s3} at section names body
     let t : GoesAll (created_in old names) end s2 s3 body = subst Q (e ∙ ap (λ b. created_in b names) p.body) g in
     let all = ap (λ scope. (numbered_all old.items scope (length names) body).stands) (created_names names 0 [] old.items) in
     record { stands = after (after p.stands named) (told all t.stands); body = p.body }
-
-pub with_goes : {old new : InBody} {s0 s1 : List Stand} (at : Pos) (section : Actions) → GoesAll old new s0 s1 section → Goes old new s0 s1 (With at section)
-with_goes at section p = record { stands = p.stands; body = p.body }
 
 -- the arm of one kind of statement
 pub arm : {old new : InBody} {s0 s1 : List Stand} (s t : Statement) (a : Action) → s ≡ t → action t ≡ a → Goes old new s0 s1 a → Goes old new s0 s1 (action s)
@@ -121,9 +73,6 @@ pub record Going (old now : InBody) (before so_far : List Stand) (whole rest : A
   pub newer : Scope
   pub variables : now.variables ≡ newer ++ old.variables
 
-pub begins : (old : InBody) (before : List Stand) (whole : Actions) → Going old old before before whole whole
-begins old before whole = record { stands = refl; slots = refl; items = refl; newer = []; variables = refl }
-
 pub goes_on : {old now next : InBody} {before so_far more : List Stand} {whole rest : Actions} (a : Action) → Going old now before so_far whole (Then a rest) → Goes now next so_far more a → Going old next before more whole rest
 goes_on {old} {now} {next} {before} {so_far} {more} {whole} {rest} a g s =
     let b = numbered_in now a in
@@ -137,12 +86,6 @@ goes_on {old} {now} {next} {before} {so_far} {more} {whole} {rest} a g s =
       variables = ap (λ n. n.variables) s.body ∙ above_is now a ∙ ap (λ vs. above now a ++ vs) g.variables ∙ sym (append_assoc (above now a) g.newer old.variables);
     }
 
-pub ends : {old now new : InBody} {before so_far : List Stand} {whole : Actions} (len : ℕ) → len ≡ length old.variables → Going old now before so_far whole Done → new ≡ left_at now len → GoesAll old new before so_far whole
-ends {old} {now} {new} {before} {so_far} {whole} len n g l = record {
-  stands = record { by = sym (append-nil so_far) ∙ g.stands };
-  body = l ∙ (λ i. record { variables = (ap (λ vs. drop (length vs - len) vs) g.variables ∙ seam g.newer old.variables len n) i; items = g.items i; slots = g.slots i });
-}
-
 pub next_of : {A : Type 0} (xs : List A) (i : ℕ) (x : A) → slice_get xs i ≡ Some x → drop i xs ≡ x ∷ drop (i + 1) xs
 next_of xs i x h =
     let lt = slice_get_within xs i x h in
@@ -154,9 +97,3 @@ pub one_more : {old now next : InBody} {before so_far more : List Stand} {whole 
 one_more {old} {now} {next} {before} {so_far} {more} {whole} ss i s e g h =
     let P : List Statement → Type 0 = λ xs. Going old now before so_far whole (block xs) in
     goes_on (action s) (let t : P (s ∷ drop (i + 1) ss) = subst P (next_of ss i s e) g in t) h
-
-pub all_done : {old now new : InBody} {before so_far : List Stand} {whole : Actions} (ss : List Statement) (i len : ℕ) → length ss ≤ i → len ≡ length old.variables
-    → Going old now before so_far whole (block (drop i ss)) → new ≡ left_at now len → GoesAll old new before so_far whole
-all_done {old} {now} {new} {before} {so_far} {whole} ss i len le n g l =
-    let P : List Statement → Type 0 = λ xs. Going old now before so_far whole (block xs) in
-    ends len n (let t : P [] = subst P (drop_all i ss le) g in t) l

@@ -1,4 +1,4 @@
-use Rattle.std.proofs.Common.{◌≡◌, ap, ◌∙◌, drop, length, ◌-◌}
+use Rattle.std.proofs.Common.{ap, ◌∙◌, drop, length, ◌-◌}
 use Rattle.jade_syntax.specs.Numbering.{Scope}
 use Rattle.jade_types.specs.Bodies.{InBody, as_scope}
 use Rattle.jade_types.specs.Variables.{in_scope}
