@@ -1,7 +1,7 @@
 //! What the names of a program stand for.
 
 ghost use Rattle.std.specs.Prelude.{◌≡◌, IfOk};
-ghost use Rattle.jade_syntax.specs.Image.{program};
+ghost use Rattle.jade_syntax.specs.Image.{program as program_of};
 ghost use Rattle.jade_syntax.specs.Numbering.{numbering};
 
 mod body;
@@ -20,7 +20,7 @@ use std::alloc::Global;
 /// What the names of a program stand for, one for each name in text order, declarations included.
 /// The error is want of memory, or more items, objects or slots than a `u32` counts.
 pub(crate) fn numbering(alloc: Global, program: &Program) -> Result<Stands, Memory>
-    ensures { IfOk result (λ stands. stands ≡ numbering (program program.now)) }
+    ensures { IfOk result (λ stands. stands ≡ numbering (program_of program.now)) }
 {
     let mut stands = Stands::empty(alloc);
     let items = number_items(alloc, &program.items, &mut stands)?;

@@ -24,13 +24,13 @@ struct Variable<'p> {
 /// A body: its variables in scope, of which the newest of a name counts, behind them the items, and
 /// how many of its slots are taken. Contracts see the variables with the newest first.
 #[derive(Drop)]
-pub(crate) struct Body<'p> {
+pub(crate) struct Body<'m, 'p> {
     variables: Vec<Variable<'p>>,
-    items: &'p ItemMap<'p, Stand>,
+    items: &'m ItemMap<'p, Stand>,
     slots: u32,
 }
 
-impl<'p> Model for Body<'p> {
+impl<'m, 'p> Model for Body<'m, 'p> {
     ghost use Rattle.jade_types.specs.Bodies.{InBody, as_scope};
     ghost use Rattle.jade_types.specs.Variables.{in_scope};
 
@@ -39,9 +39,9 @@ impl<'p> Model for Body<'p> {
     ghost view = { λ b. record { variables = in_scope b.variables.items; items = as_scope b.items.now; slots = b.slots } };
 }
 
-impl<'p> Body<'p> {
+impl<'m, 'p> Body<'m, 'p> {
     /// A body with no variables and no slots taken. It takes no memory.
-    pub(crate) fn of(alloc: Global, items: &'p ItemMap<'p, Stand>) -> Body<'p>
+    pub(crate) fn of(alloc: Global, items: &'m ItemMap<'p, Stand>) -> Body<'m, 'p>
         ensures { result ≡ record { variables = []; items = as_scope items.now; slots = 0 } }
     {
         Body {
@@ -99,7 +99,7 @@ impl<'p> Body<'p> {
     }
 
     /// The body of a task that is created here: these names are its variables.
-    pub(crate) fn created(&self, names: &'p NameList) -> Result<Body<'p>, Memory>
+    pub(crate) fn created(&self, names: &'p NameList) -> Result<Body<'m, 'p>, Memory>
         ensures { IfOk result (λ body. body ≡ created_in self.now (map (λ n. n.name) names.now)) }
     {
         let mut body = Body::of(*self.variables.allocator(), self.items);

@@ -29,7 +29,7 @@ fn number_names(body: &Body, stands: &mut Stands, names: &NameList) -> Result<()
 
 #[cycle(statement)]
 fn number_statement<'p>(
-    body: &mut Body<'p>,
+    body: &mut Body<'_, 'p>,
     stands: &mut Stands,
     statement: &'p Statement,
 ) -> Result<(), Memory>
@@ -108,7 +108,7 @@ fn number_statement<'p>(
 
 #[cycle(statement)]
 pub(crate) fn number_block<'p>(
-    body: &mut Body<'p>,
+    body: &mut Body<'_, 'p>,
     stands: &mut Stands,
     block: &'p Block,
 ) -> Result<(), Memory>
