@@ -2,6 +2,7 @@
 #![tactic(auto)]
 
 pub mod checker;
+mod faults_stub;
 mod item_map;
 mod numbers;
 
