@@ -4,8 +4,8 @@ ghost use Rattle.std.specs.Prelude.{◌≡◌, List, ◌∷◌, IfOk, OnOk};
 ghost use Rattle.jade_syntax.specs.declared.tree.Item.{Item};
 ghost use Rattle.jade_syntax.specs.Numbering.{items_from, declared, stands_alone};
 ghost use Rattle.jade_syntax.specs.Objects.{amount};
+ghost use Rattle.jade_syntax.specs.StaticFaults.{item_known};
 ghost use Rattle.jade_types.specs.Bodies.{Puts, as_scope};
-ghost use Rattle.jade_types.specs.Counted.{name_of};
 
 use crate::item_map::ItemMap;
 use crate::numbers::expressions::put;
@@ -22,7 +22,7 @@ struct Counts {
 }
 
 fn name_of(item: &Item) -> &Name
-    ensures { result.now ≡ name_of item.now }
+    ensures { result.now ≡ (item_known item.now).name }
 {
     match item {
         Item::Input { name, .. } => name,
@@ -41,7 +41,7 @@ fn members_of(count: &Number) -> Result<u32, Memory>
 impl Counts {
     /// What an item stands for, which is counted.
     fn count(&mut self, item: &Item) -> Result<Stand, Memory>
-        ensures { IfOk result (λ s. (more : List Item) → items_from self.old.inputs self.old.objects (item.now ∷ more) ≡ record { name = name_of item.now; stand = s } ∷ items_from self.new.inputs self.new.objects more) }
+        ensures { IfOk result (λ s. (more : List Item) → items_from self.old.inputs self.old.objects (item.now ∷ more) ≡ record { name = (item_known item.now).name; stand = s } ∷ items_from self.new.inputs self.new.objects more) }
     {
         let input = self.inputs;
         let object = ObjectId(self.objects);

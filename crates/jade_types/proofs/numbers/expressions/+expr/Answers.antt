@@ -5,7 +5,7 @@ use Rattle.jade_syntax.specs.declared.tree.AndExpr.{out-AndExpr}
 use Rattle.jade_syntax.specs.declared.tree.Sum.{out-Sum}
 use Rattle.jade_syntax.specs.declared.tree.Product.{out-Product}
 use Rattle.jade_types.specs.Bodies.{names_in}
-use Rattle.jade_types.proofs.Opened.{or_part, and_part, sum_part, product_part, expr_opens, and_opens, sum_opens, product_opens, unary_opens}
+use Rattle.jade_types.proofs.StandsOpened.{or_part, and_part, sum_part, product_part, expr_opens, and_opens, sum_opens, product_opens, unary_opens}
 use Rattle.jade_types.proofs.Putting.{after, told, more, all}
 use Rattle.jade_types.proofs.numbers.expressions.+expr.Goals as goal
 

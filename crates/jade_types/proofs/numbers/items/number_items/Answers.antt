@@ -1,5 +1,5 @@
 use Rattle.std.proofs.Common.{◌∙◌}
-use Rattle.jade_types.proofs.Counting.{counted}
+use Rattle.jade_types.proofs.ItemNumbers.{counted}
 use Rattle.jade_types.proofs.numbers.items.number_items.Goals as goal
 
 pub loop-i-preserved : goal.loop-i-preserved

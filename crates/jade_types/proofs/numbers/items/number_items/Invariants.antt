@@ -1,5 +1,5 @@
 use Rattle.std.proofs.Common.{drop}
-use Rattle.jade_types.proofs.Counting.{Counting}
+use Rattle.jade_types.proofs.ItemNumbers.{Counting}
 use Rattle.jade_types.proofs.numbers.items.number_items.Given as goal
 
 abbrev pub invariant-loop-i : goal.invariant-loop-i

@@ -1,6 +1,6 @@
 use Rattle.std.proofs.lemmas.Result.{on_ok_weaker}
 use Rattle.jade_types.proofs.Going.{one_more, arm, withonly_goes}
-use Rattle.jade_types.proofs.Opened.{withonly_is}
+use Rattle.jade_types.proofs.StandsOpened.{withonly_is}
 use Rattle.jade_types.proofs.numbers.statements.+statement.Goals as goal
 
 pub number_block-loop-i-preserved : goal.number_block-loop-i-preserved

@@ -4,9 +4,9 @@ use Rattle.std.specs.List.{slice_get}
 use Rattle.jade_syntax.specs.declared.stands.Stand.{Stand}
 use Rattle.jade_syntax.specs.declared.tree.Item.{Item}
 use Rattle.jade_syntax.specs.Numbering.{Scope, items_from, declared, stands_alone}
+use Rattle.jade_syntax.specs.StaticFaults.{item_known}
 use Rattle.jade_types.specs.declared.numbers.items.Counts.{Counts}
 use Rattle.jade_types.specs.Bodies.{Puts, as_scope}
-use Rattle.jade_types.specs.Counted.{name_of}
 use Rattle.jade_types.specs.ItemMap.{named}
 use Rattle.jade_types.proofs.Going.{next_of}
 
@@ -26,12 +26,12 @@ scope_more (q ∷ pairs) p = ap (λ s. record { name = q.0.now; stand = q.1 } �
 -- one item more
 pub counted : {items : List Item} {before so_far more : List Stand} {pairs next : List (Bor (List ℕ) × Stand)} {old new : Counts} (i : ℕ) (item : Item) (key : Bor (List ℕ)) (s : Stand)
     → slice_get items i ≡ Some item
-    → ((rest : List Item) → items_from old.inputs old.objects (item ∷ rest) ≡ record { name = name_of item; stand = s } ∷ items_from new.inputs new.objects rest)
-    → Puts so_far more (s ∷ []) → key.now ≡ name_of item → next ≡ pairs ++ (key, s) ∷ []
+    → ((rest : List Item) → items_from old.inputs old.objects (item ∷ rest) ≡ record { name = (item_known item).name; stand = s } ∷ items_from new.inputs new.objects rest)
+    → Puts so_far more (s ∷ []) → key.now ≡ (item_known item).name → next ≡ pairs ++ (key, s) ∷ []
     → Counting items before so_far pairs old (drop i items) → Counting items before more next new (drop (i + 1) items)
 counted {items} {before} {so_far} {more} {pairs} {next} {old} {new} i item key s e count put k n g =
     let rest = items_from new.inputs new.objects (drop (i + 1) items) in
-    let opens : items_from old.inputs old.objects (drop i items) ≡ record { name = name_of item; stand = s } ∷ rest =
+    let opens : items_from old.inputs old.objects (drop i items) ≡ record { name = (item_known item).name; stand = s } ∷ rest =
         ap (items_from old.inputs old.objects) (next_of items i item e) ∙ count (drop (i + 1) items) in
     record {
       stands = ap (λ o. o ++ stands_alone rest) put.by ∙ append_assoc so_far (s ∷ []) (stands_alone rest) ∙ ap (λ l. so_far ++ stands_alone l) (sym opens) ∙ g.stands;
