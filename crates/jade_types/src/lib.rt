@@ -1,0 +1,2 @@
+//! What is wrong with a program before it runs.
+#![tactic(auto)]
