@@ -1,4 +1,5 @@
 //! What is wrong with a program before it runs.
 
+mod expressions;
 mod names;
 mod notes;

@@ -1,6 +1,4 @@
-use Rattle.std.proofs.Common.{arith, ap, sym, ◌∙◌, not, true, false, refl, is_some, nat_eq, subst, ◌≡◌, Bool}
-use Rattle.std.specs.Cmp.Lexicographic.{pointwise}
-use Rattle.std.specs.Map.{lookup}
+use Rattle.std.proofs.Common.{arith, ◌∙◌}
 use Rattle.jade_syntax.specs.StaticFaults.{item_known}
 use Rattle.jade_types.proofs.Naming.{tells_more, tells_still}
 use Rattle.jade_types.proofs.faults.names.ItemNames.declare.Goals as goal

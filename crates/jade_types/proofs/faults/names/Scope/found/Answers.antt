@@ -1,4 +1,4 @@
-use Rattle.std.proofs.Common.{◌≡◌, ap, sym, ◌∙◌, Some, None, subst}
+use Rattle.std.proofs.Common.{ap, sym, ◌∙◌, Some, None, subst}
 use Rattle.jade_syntax.specs.StaticFaults.{Names}
 use Rattle.jade_types.specs.Meanings.{meant}
 use Rattle.jade_types.specs.Scoped.{Scoped, Tells}
