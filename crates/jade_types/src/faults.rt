@@ -3,3 +3,4 @@
 mod expressions;
 mod names;
 mod notes;
+mod statements;
