@@ -7,9 +7,12 @@ use Rattle.std.proofs.Math.Seq.{drop-append_seam}
 use Rattle.jade_syntax.specs.declared.tree.Named.{Named}
 use Rattle.jade_syntax.specs.declared.tree.Statement.{Statement}
 use Rattle.jade_syntax.specs.declared.tree.ValueKind.{ValueKind}
-use Rattle.jade_syntax.specs.Placed.{Phrase, Phrases, Local, Assign, Store, If, IfElse, For, Withonly, With, Declare}
+use Rattle.jade_syntax.specs.declared.tree.ValueKind.TheVariants as value
+use Rattle.jade_base.specs.declared.place.Pos.{Pos}
+use Rattle.jade_syntax.specs.Abstract.{Name}
+use Rattle.jade_syntax.specs.Placed.{Term, Phrase, Phrases, Local, Assign, Store, If, IfElse, For, Withonly, With, Declare}
 use Rattle.jade_syntax.specs.PlacedImage.{phrase, phrases, mentioned}
-use Rattle.jade_syntax.specs.StaticFaults.{Site, Uses, Handed, Declares, Meaning, Holds, Names, known, found, is_known, kind_of_name, parameter, parameters, mention_sites, names_after, sites, block_sites}
+use Rattle.jade_syntax.specs.StaticFaults.{Site, Uses, Handed, Declares, Meaning, Holds, Turns, Names, known, found, is_known, kind_of_name, parameter, parameters, mention_sites, names_after, needed, sites, block_sites}
 use Rattle.jade_syntax.proofs.Limits.{drop_item}
 use Rattle.jade_types.specs.declared.faults.names.Meaning.{Meaning as MeaningOf}
 use Rattle.jade_types.specs.declared.faults.notes.Notes.{Notes}
@@ -17,7 +20,7 @@ use Rattle.jade_types.specs.Meanings.{meant}
 use Rattle.jade_types.specs.Noted.{Noted}
 use Rattle.jade_types.specs.Passed.{scope_after, Passed, PassedBlock}
 use Rattle.jade_types.specs.Scoped.{Scoped, in_scope}
-use Rattle.jade_types.proofs.Noting.{Left, begins, goes_on, ends}
+use Rattle.jade_types.proofs.Noting.{Left, begins, goes_on, ends, after}
 
 -- a name is found or it is not
 pub known_by : (r : Option MeaningOf) (o : Option Meaning) → option_map meant r ≡ o → is_some r ≡ is_known o
@@ -120,3 +123,35 @@ pub blocks_end : {n0 n1 : Notes} {s t u : Scoped} (all : List Statement) (i n : 
 blocks_end {n0} {n1} {s} {t} {u} all i n le e h left =
     let P : List Statement → Type 0 = λ xs. Blocking n0 n1 s t all xs in
     record { noted = ends (subst P (drop_all i all le) h).noted; scope = left_keeps s t u n e h.keeps left }
+
+-- the arm of one kind of statement
+pub arm : {n0 n1 : Notes} {s t : Scoped} (x y : Statement) (p : Phrase) → x ≡ y → phrase y ≡ p → Passed n0 n1 s t p → Passed n0 n1 s t (phrase x)
+arm {n0} {n1} {s} {t} x y p e is passed = let P : Phrase → Type 0 = λ q. Passed n0 n1 s t q in subst P (sym (ap phrase e ∙ is)) passed
+
+-- a block in a scope that is the same as another
+block_in : {n0 n1 : Notes} {s t u : Scoped} {ps : Phrases} → t ≡ s → PassedBlock n0 n1 t u ps → PassedBlock n0 n1 s u ps
+block_in {n0} {n1} {s} {t} {u} {ps} e passed = let P : Scoped → Type 0 = λ v. PassedBlock n0 n1 v u ps in subst P e passed
+
+pub if_passed : {n0 n1 n2 : Notes} {s t : Scoped} {e : Term} {ps : Phrases} → Noted n0 n1 (needed value.Bool (in_scope s) e) → PassedBlock n1 n2 s t ps → Passed n0 n2 s t (If e ps)
+if_passed test first = record { noted = after test first.noted; scope = first.scope }
+
+pub else_passed : {n0 n1 n2 n3 : Notes} {s t u : Scoped} {e : Term} {ps qs : Phrases} → Noted n0 n1 (needed value.Bool (in_scope s) e) → PassedBlock n1 n2 s t ps → PassedBlock n2 n3 t u qs → Passed n0 n3 s u (IfElse e ps qs)
+else_passed test first other = let b = block_in first.scope other in record { noted = after (after test first.noted) b.noted; scope = b.scope }
+
+pub loop_passed : {n0 n1 n2 n3 n4 : Notes} {s t u v : Scoped} {low high : Term} {ps : Phrases} (x : Name) (at : Pos) (n : ℕ) → Noted n0 n1 (Declares x at (in_scope s) ∷ []) → Noted n1 n2 (needed value.Int (in_scope s) low) → Noted n2 n3 (needed value.Int (in_scope s) high) →
+    n ≡ length s.locals → t ≡ record { locals = known x Turns ∷ s.locals; items = s.items } → PassedBlock n3 n4 t u ps → v ≡ record { locals = drop (length u.locals - n) u.locals; items = u.items } → Passed n0 n4 s v (For x at low high ps)
+loop_passed {n0} {n1} {n2} {n3} {n4} {s} {t} {u} {v} {low} {high} {ps} x at n declared from to len bound body left =
+    let inner : Scoped = record { locals = known x Turns ∷ s.locals; items = s.items } in
+    let b : PassedBlock n3 n4 inner u ps = block_in bound body in
+    let keeps : Keeps s inner = record { newer = known x Turns ∷ []; locals = refl; items = refl } in
+    record {
+      noted = after declared (after (after from to) b.noted);
+      scope = left_keeps s inner v n len keeps (left ∙ ap (λ (w : Scoped). record { locals = drop (length w.locals - n) w.locals; items = w.items }) b.scope);
+    }
+
+pub task_passed : {n0 n1 n2 n3 : Notes} {s t u v : Scoped} {at : Pos} {ps qs : Phrases} (names : List Named) → PassedBlock n0 n1 s t ps → Noted n1 n2 (mention_sites (in_scope t) [] (map mentioned names)) →
+    u ≡ record { locals = parameters (in_scope t) [] (map mentioned names); items = t.items } → PassedBlock n2 n3 u v qs → Passed n0 n3 s t (Withonly at ps (map mentioned names) qs)
+task_passed {n0} {n1} {n2} {n3} {s} {t} {u} {v} {at} {ps} {qs} names section handed bound body =
+    let P : Scoped → Type 0 = λ w. Noted n1 n2 (mention_sites (in_scope w) [] (map mentioned names)) in
+    let b = block_in (bound ∙ ap (λ (w : Scoped). record { locals = parameters (in_scope w) [] (map mentioned names); items = w.items }) section.scope) body in
+    record { noted = after (after section.noted (subst P section.scope handed)) b.noted; scope = section.scope }

@@ -1,5 +1,5 @@
 -- The abstract syntax of a tree, opened one level.
-use Rattle.std.proofs.Common.{◌≡◌, map, Option, Some, None, refl, ◌∙◌}
+use Rattle.std.proofs.Common.{◌≡◌, List, map, Option, Some, None, refl, ap, ◌∙◌}
 use Rattle.std.proofs.lemmas.Simd.{map-map}
 use Rattle.jade_base.specs.declared.place.Pos.{Pos}
 use Rattle.jade_syntax.specs.declared.tree.Atom.TheOpen.{Atom-F, CellRef-F, Compare-F}
@@ -11,12 +11,17 @@ use Rattle.jade_syntax.specs.declared.tree.Compare.{Compare, out-Compare, fold_o
 use Rattle.jade_syntax.specs.declared.tree.Expr.{Expr, out-Expr, fold_out-Expr}
 use Rattle.jade_syntax.specs.declared.tree.Product.{Product, out-Product, fold_out-Product}
 use Rattle.jade_syntax.specs.declared.tree.ProductOp.{ProductOp}
+use Rattle.jade_syntax.specs.declared.tree.Named.{Named}
+use Rattle.jade_syntax.specs.declared.tree.Statement.{Statement, out-Statement, fold_out-Statement, map-Statement}
+use Rattle.jade_syntax.specs.declared.tree.Statement.TheOpen.{Statement-F}
+use Rattle.jade_syntax.specs.declared.tree.Statement.TheVariants.{If, For, Withonly, outs-If, outs-For, outs-Withonly}
 use Rattle.jade_syntax.specs.declared.tree.Sum.{Sum, out-Sum, fold_out-Sum}
 use Rattle.jade_syntax.specs.declared.tree.SumOp.{SumOp}
 use Rattle.jade_syntax.specs.declared.tree.Unary.{Unary, fold_out-Unary}
 use Rattle.jade_syntax.specs.Abstract.{Name, Or, And, Relates, Adds, Multiplies}
-use Rattle.jade_syntax.specs.Placed.{Term, Chain, Link, Last}
-use Rattle.jade_syntax.specs.PlacedImage.{Linked, chained, Reference, named_object, signed, at_atom, at_and, at_cell, at_compare, at_expr, at_product, at_sum, at_unary, term, reference, and_term, compare_term, sum_term, product_term, unary_term, atom_term, member}
+use Rattle.jade_syntax.specs.Placed as placed
+use Rattle.jade_syntax.specs.Placed.{Term, Chain, Link, Last, Phrase}
+use Rattle.jade_syntax.specs.PlacedImage.{Linked, chained, Reference, named_object, signed, at_atom, at_and, at_cell, at_compare, at_expr, at_product, at_sum, at_unary, term, reference, and_term, compare_term, sum_term, product_term, unary_term, atom_term, member, object, mentioned, phrase, block, at_statement}
 
 abbrev pub or_link : Pos × AndExpr → Linked
 or_link l = record { operator = Or; at = l.0; operand = and_term l.1 }
@@ -81,3 +86,41 @@ cell_layer_is n p (Some e) c = refl
 
 pub cell_opens : (e : CellRef) → reference e ≡ record { object = named_object (out-CellRef e).name (out-CellRef e).pos (member (out-CellRef e).family); cell = term (out-CellRef e).cell }
 cell_opens e = fold_out-CellRef Term Term Reference Term Term Term Term Term at_atom at_and at_cell at_compare at_expr at_product at_sum at_unary e ∙ cell_layer_is (out-CellRef e).name (out-CellRef e).pos (out-CellRef e).family (out-CellRef e).cell
+
+-- a statement whose parts are trees
+abbrev pub opened : Statement-F Statement → Phrase
+opened (Statement-F.Local kind name at value) = placed.Local kind name at (term value)
+opened (Statement-F.Assign name at value) = placed.Assign name at (term value)
+opened (Statement-F.Store target value) = placed.Store (reference target).object (reference target).cell (term value)
+opened (Statement-F.If test then None) = placed.If (term test) (block then)
+opened (Statement-F.If test then (Some other)) = placed.IfElse (term test) (block then) (block other)
+opened (Statement-F.For name at low high body) = placed.For name at (term low) (term high) (block body)
+opened (Statement-F.Withonly at section names body) = placed.Withonly at (block section) (map mentioned names) (block body)
+opened (Statement-F.With at section) = placed.With at (block section)
+opened (Statement-F.Declare how at o) = placed.Declare how at (object o)
+
+statement_opens : (s : Statement) → phrase s ≡ opened (out-Statement s)
+statement_opens s = fold_out-Statement Phrase at_statement s ∙ layer_opens (out-Statement s)
+  where
+    layer_opens : (f : Statement-F Statement) → at_statement (map-Statement Statement Phrase phrase f) ≡ opened f
+    layer_opens (Statement-F.Local kind name at value) = refl
+    layer_opens (Statement-F.Assign name at value) = refl
+    layer_opens (Statement-F.Store target value) = refl
+    layer_opens (Statement-F.If test then None) = refl
+    layer_opens (Statement-F.If test then (Some b)) = refl
+    layer_opens (Statement-F.For name at low high body) = refl
+    layer_opens (Statement-F.Withonly at section names body) = refl
+    layer_opens (Statement-F.With at section) = refl
+    layer_opens (Statement-F.Declare how at o) = refl
+
+pub if_none : (test : Expr) (then : List Statement) (o : Option (List Statement)) → o ≡ None → phrase (If test then o) ≡ placed.If (term test) (block then)
+if_none test then o e = statement_opens (If test then o) ∙ ap opened (outs-If test then o) ∙ ap (λ p. opened (Statement-F.If test then p)) e
+
+pub if_some : (test : Expr) (then other : List Statement) (o : Option (List Statement)) → o ≡ Some other → phrase (If test then o) ≡ placed.IfElse (term test) (block then) (block other)
+if_some test then other o e = statement_opens (If test then o) ∙ ap opened (outs-If test then o) ∙ ap (λ p. opened (Statement-F.If test then p)) e
+
+pub for_is : (x : Name) (at : Pos) (low high : Expr) (body : List Statement) → phrase (For x at low high body) ≡ placed.For x at (term low) (term high) (block body)
+for_is x at low high body = statement_opens (For x at low high body) ∙ ap opened (outs-For x at low high body)
+
+pub withonly_is : (at : Pos) (section : List Statement) (names : List Named) (body : List Statement) → phrase (Withonly at section names body) ≡ placed.Withonly at (block section) (map mentioned names) (block body)
+withonly_is at section names body = statement_opens (Withonly at section names body) ∙ ap opened (outs-Withonly at section names body)

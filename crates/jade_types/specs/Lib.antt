@@ -1,3 +1,4 @@
+pub mod Counted
 pub mod Meanings
 pub mod Noted
 pub mod Passed

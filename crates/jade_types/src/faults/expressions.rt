@@ -27,14 +27,14 @@ fn sign_kind(sign: UnaryOp) -> ValueKind
 }
 
 /// Goes through the use of a name.
-pub(crate) fn visit_use(notes: &mut Notes, scope: &Scope<'_>, how: Use, name: &Name, pos: Pos)
+pub(crate) fn visit_use(notes: &mut Notes, scope: &Scope<'_, '_>, how: Use, name: &Name, pos: Pos)
     ensures { Noted notes.old notes.new (Uses (used how) name.now pos (in_scope scope.now) ∷ []) }
 {
     notes.note(pos, wrong_use(how, scope.found(name)));
 }
 
 #[cycle(expr)]
-pub(crate) fn visit_expr(notes: &mut Notes, scope: &Scope<'_>, e: &Expr) -> Seen
+pub(crate) fn visit_expr(notes: &mut Notes, scope: &Scope<'_, '_>, e: &Expr) -> Seen
     ensures { Visited notes.old notes.new result (in_scope scope.now) (term e.now) }
 {
     let first = visit_and(notes, scope, &e.first);
@@ -54,7 +54,7 @@ pub(crate) fn visit_expr(notes: &mut Notes, scope: &Scope<'_>, e: &Expr) -> Seen
 }
 
 #[cycle(expr)]
-fn visit_and(notes: &mut Notes, scope: &Scope<'_>, e: &AndExpr) -> Seen
+fn visit_and(notes: &mut Notes, scope: &Scope<'_, '_>, e: &AndExpr) -> Seen
     ensures { Visited notes.old notes.new result (in_scope scope.now) (and_term e.now) }
 {
     let first = visit_compare(notes, scope, &e.first);
@@ -74,7 +74,7 @@ fn visit_and(notes: &mut Notes, scope: &Scope<'_>, e: &AndExpr) -> Seen
 }
 
 #[cycle(expr)]
-fn visit_compare(notes: &mut Notes, scope: &Scope<'_>, e: &Compare) -> Seen
+fn visit_compare(notes: &mut Notes, scope: &Scope<'_, '_>, e: &Compare) -> Seen
     ensures { Visited notes.old notes.new result (in_scope scope.now) (compare_term e.now) }
 {
     let left = visit_sum(notes, scope, &e.left);
@@ -93,7 +93,7 @@ fn visit_compare(notes: &mut Notes, scope: &Scope<'_>, e: &Compare) -> Seen
 }
 
 #[cycle(expr)]
-fn visit_sum(notes: &mut Notes, scope: &Scope<'_>, e: &Sum) -> Seen
+fn visit_sum(notes: &mut Notes, scope: &Scope<'_, '_>, e: &Sum) -> Seen
     ensures { Visited notes.old notes.new result (in_scope scope.now) (sum_term e.now) }
 {
     let first = visit_product(notes, scope, &e.first);
@@ -113,7 +113,7 @@ fn visit_sum(notes: &mut Notes, scope: &Scope<'_>, e: &Sum) -> Seen
 }
 
 #[cycle(expr)]
-fn visit_product(notes: &mut Notes, scope: &Scope<'_>, e: &Product) -> Seen
+fn visit_product(notes: &mut Notes, scope: &Scope<'_, '_>, e: &Product) -> Seen
     ensures { Visited notes.old notes.new result (in_scope scope.now) (product_term e.now) }
 {
     let first = visit_unary(notes, scope, &e.first);
@@ -133,7 +133,7 @@ fn visit_product(notes: &mut Notes, scope: &Scope<'_>, e: &Product) -> Seen
 }
 
 #[cycle(expr)]
-fn visit_unary(notes: &mut Notes, scope: &Scope<'_>, e: &Unary) -> Seen
+fn visit_unary(notes: &mut Notes, scope: &Scope<'_, '_>, e: &Unary) -> Seen
     ensures { Visited notes.old notes.new result (in_scope scope.now) (unary_term e.now) }
 {
     let mut seen = visit_atom(notes, scope, &e.atom);
@@ -152,7 +152,7 @@ fn visit_unary(notes: &mut Notes, scope: &Scope<'_>, e: &Unary) -> Seen
 }
 
 #[cycle(expr)]
-fn visit_atom(notes: &mut Notes, scope: &Scope<'_>, e: &Atom) -> Seen
+fn visit_atom(notes: &mut Notes, scope: &Scope<'_, '_>, e: &Atom) -> Seen
     ensures { Visited notes.old notes.new result (in_scope scope.now) (atom_term e.now) }
 {
     match e {
@@ -183,7 +183,7 @@ fn visit_atom(notes: &mut Notes, scope: &Scope<'_>, e: &Atom) -> Seen
 }
 
 #[cycle(expr)]
-pub(crate) fn visit_cell(notes: &mut Notes, scope: &Scope<'_>, e: &CellRef) -> Seen
+pub(crate) fn visit_cell(notes: &mut Notes, scope: &Scope<'_, '_>, e: &CellRef) -> Seen
     ensures { Visited notes.old notes.new result (in_scope scope.now) (Cell (reference e.now).object (reference e.now).cell) }
 {
     visit_object(notes, scope, &e.name, e.pos, &e.family);
@@ -199,7 +199,7 @@ pub(crate) fn visit_cell(notes: &mut Notes, scope: &Scope<'_>, e: &CellRef) -> S
 #[cycle(expr)]
 pub(crate) fn visit_object(
     notes: &mut Notes,
-    scope: &Scope<'_>,
+    scope: &Scope<'_, '_>,
     name: &Name,
     pos: Pos,
     index: &Option<Expr>,
@@ -217,7 +217,7 @@ pub(crate) fn visit_object(
 }
 
 /// Goes through an expression that must be of a kind.
-pub(crate) fn visit_needed(notes: &mut Notes, scope: &Scope<'_>, kind: ValueKind, e: &Expr)
+pub(crate) fn visit_needed(notes: &mut Notes, scope: &Scope<'_, '_>, kind: ValueKind, e: &Expr)
     ensures { Noted notes.old notes.new (needed kind (in_scope scope.now) (term e.now)) }
 {
     let seen = visit_expr(notes, scope, e);

@@ -154,13 +154,13 @@ pub(crate) struct Bound<'p> {
 /// The names in scope: the locals, of which the newest of a name counts, and behind them the names
 /// of all items. Contracts see the locals with the newest first.
 #[derive(Drop)]
-pub(crate) struct Scope<'p> {
+pub(crate) struct Scope<'p, 'k> {
     locals: Vec<Bound<'p>>,
     items: &'p Items,
-    known: &'p ItemNames<'p>,
+    known: &'k ItemNames<'p>,
 }
 
-impl<'p> Model for Scope<'p> {
+impl<'p, 'k> Model for Scope<'p, 'k> {
     ghost use Rattle.jade_syntax.specs.StaticFaults.{item_names};
     ghost use Rattle.jade_types.specs.Scoped.{Scoped, local_names, Tells};
 
@@ -171,9 +171,9 @@ impl<'p> Model for Scope<'p> {
     ghost invariant = { λ s. Tells s.known.now (item_names s.items.now) };
 }
 
-impl<'p> Scope<'p> {
+impl<'p, 'k> Scope<'p, 'k> {
     /// The names of all items, with no locals. It takes no memory.
-    pub(crate) fn of(alloc: Global, items: &'p Items, known: &'p ItemNames<'p>) -> Scope<'p>
+    pub(crate) fn of(alloc: Global, items: &'p Items, known: &'k ItemNames<'p>) -> Scope<'p, 'k>
         requires { Tells known.now (item_names items.now) }
         ensures { result ≡ record { locals = []; items = item_names items.now } }
     {
@@ -185,7 +185,7 @@ impl<'p> Scope<'p> {
     }
 
     /// The same items, with no locals. It takes no memory.
-    pub(crate) fn without_locals(&self) -> Scope<'p>
+    pub(crate) fn without_locals(&self) -> Scope<'p, 'k>
         ensures { result ≡ record { locals = []; items = self.now.items } }
     {
         Scope {

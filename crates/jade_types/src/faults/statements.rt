@@ -16,14 +16,14 @@ use jade_syntax::Name;
 use jade_syntax::tree::{Block, CellRef, Expr, NameList, Statement, ValueKind};
 
 /// Goes through the declaration of a name that is not to be in scope.
-fn visit_declared(notes: &mut Notes, scope: &Scope<'_>, name: &Name, pos: Pos)
+fn visit_declared(notes: &mut Notes, scope: &Scope<'_, '_>, name: &Name, pos: Pos)
     ensures { Noted notes.old notes.new (Declares name.now pos (in_scope scope.now) ∷ []) }
 {
     notes.declares(pos, scope.found(name).is_some());
 }
 
 /// Goes through a value that is given to a variable of a kind, if it has one.
-fn visit_given(notes: &mut Notes, scope: &Scope<'_>, kind: Option<ValueKind>, value: &Expr)
+fn visit_given(notes: &mut Notes, scope: &Scope<'_, '_>, kind: Option<ValueKind>, value: &Expr)
     ensures { Noted notes.old notes.new (given kind (in_scope scope.now) (term value.now)) }
 {
     match kind {
@@ -34,14 +34,14 @@ fn visit_given(notes: &mut Notes, scope: &Scope<'_>, kind: Option<ValueKind>, va
     }
 }
 
-fn visit_assign(notes: &mut Notes, scope: &Scope<'_>, name: &Name, pos: Pos, value: &Expr)
+fn visit_assign(notes: &mut Notes, scope: &Scope<'_, '_>, name: &Name, pos: Pos, value: &Expr)
     ensures { Passed notes.old notes.new scope.now scope.now (Assign name.now pos (term value.now)) }
 {
     visit_use(notes, scope, Use::Target, name, pos);
     visit_given(notes, scope, kind_of_name(scope.found(name)), value);
 }
 
-fn visit_store(notes: &mut Notes, scope: &Scope<'_>, target: &CellRef, value: &Expr)
+fn visit_store(notes: &mut Notes, scope: &Scope<'_, '_>, target: &CellRef, value: &Expr)
     ensures { Passed notes.old notes.new scope.now scope.now (Store (reference target.now).object (reference target.now).cell (term value.now)) }
 {
     visit_object(notes, scope, &target.name, target.pos, &target.family);
@@ -49,9 +49,9 @@ fn visit_store(notes: &mut Notes, scope: &Scope<'_>, target: &CellRef, value: &E
     visit_needed(notes, scope, ValueKind::Int, value);
 }
 
-fn visit_local<'p>(
+fn visit_local<'p, 'k>(
     notes: &mut Notes,
-    scope: &mut Scope<'p>,
+    scope: &mut Scope<'p, 'k>,
     kind: ValueKind,
     name: &'p Name,
     pos: Pos,
@@ -65,11 +65,11 @@ fn visit_local<'p>(
 }
 
 /// Goes through the names of a `do` list, and gives the names in scope in the body.
-fn visit_names<'p>(
+fn visit_names<'p, 'k>(
     notes: &mut Notes,
-    scope: &Scope<'p>,
+    scope: &Scope<'p, 'k>,
     names: &'p NameList,
-) -> Result<Scope<'p>, Memory>
+) -> Result<Scope<'p, 'k>, Memory>
     ensures noted { OnOk result (Noted notes.old notes.new (mention_sites (in_scope scope.now) [] (map mentioned names.now))) }
     ensures scope { IfOk result (λ s. s ≡ record { locals = parameters (in_scope scope.now) [] (map mentioned names.now); items = scope.now.items }) }
 {
@@ -85,9 +85,9 @@ fn visit_names<'p>(
 }
 
 #[cycle(statement)]
-fn visit_statement<'p>(
+fn visit_statement<'p, 'k>(
     notes: &mut Notes,
-    scope: &mut Scope<'p>,
+    scope: &mut Scope<'p, 'k>,
     statement: &'p Statement,
 ) -> Result<(), Memory>
     ensures { OnOk result (Passed notes.old notes.new scope.old scope.new (phrase statement.now)) }
@@ -155,9 +155,9 @@ fn visit_statement<'p>(
 
 /// Goes through the statements of a block, whose locals end with it.
 #[cycle(statement)]
-pub(crate) fn visit_block<'p>(
+pub(crate) fn visit_block<'p, 'k>(
     notes: &mut Notes,
-    scope: &mut Scope<'p>,
+    scope: &mut Scope<'p, 'k>,
     statements: &'p Block,
 ) -> Result<(), Memory>
     ensures { OnOk result (PassedBlock notes.old notes.new scope.old scope.new (block statements.now)) }
