@@ -12,7 +12,7 @@ use Rattle.jade_base.specs.declared.place.Pos.{Pos}
 use Rattle.jade_syntax.specs.Abstract.{Name}
 use Rattle.jade_syntax.specs.Placed.{Term, Phrase, Phrases, Local, Assign, Store, If, IfElse, For, Withonly, With, Declare}
 use Rattle.jade_syntax.specs.PlacedImage.{phrase, phrases, mentioned}
-use Rattle.jade_syntax.specs.StaticFaults.{Site, Uses, Handed, Declares, Meaning, Holds, Turns, Names, known, found, is_known, kind_of_name, parameter, parameters, mention_sites, names_after, needed, sites, block_sites}
+use Rattle.jade_syntax.specs.StaticFaults.{Uses, Handed, Declares, Meaning, Holds, Turns, Names, known, found, is_known, kind_of_name, parameter, parameters, mention_sites, names_after, needed, sites, block_sites}
 use Rattle.jade_syntax.proofs.Limits.{drop_item}
 use Rattle.jade_types.specs.declared.faults.names.Meaning.{Meaning as MeaningOf}
 use Rattle.jade_types.specs.declared.faults.notes.Notes.{Notes}

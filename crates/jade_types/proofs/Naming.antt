@@ -76,11 +76,11 @@ pub tells_more : (old new : ItemNames) (names : Names) (k : Bor (List ℕ)) (m :
     k.now ≡ item.name → meant m ≡ item.meaning → Tells old names → Tells new (names ++ item ∷ [])
 tells_more old new names k m item absent entries name meaning h = record {
   by = λ x.
-    ap (told x) (entries ∙ insert_new old.known.entries k m absent) ∙ told_more x old.known.entries k m
-    ∙ ap (λ r. or_else r (alone x (known k.now (meant m)))) (h.by x)
-    ∙ ap (λ y. or_else (found x names) (alone x (known y (meant m)))) name
-    ∙ ap (λ y. or_else (found x names) (alone x (known item.name y))) meaning
-    ∙ sym (found_both x names (item ∷ []));
+      ap (told x) (entries ∙ insert_new old.known.entries k m absent) ∙ told_more x old.known.entries k m
+      ∙ ap (λ r. or_else r (alone x (known k.now (meant m)))) (h.by x)
+      ∙ ap (λ y. or_else (found x names) (alone x (known y (meant m)))) name
+      ∙ ap (λ y. or_else (found x names) (alone x (known item.name y))) meaning
+      ∙ sym (found_both x names (item ∷ []));
 }
 
 same_from : (x y : Name) → same_name x y ≡ true → x ≡ y
@@ -91,9 +91,11 @@ kept_first x names item h = by_test (same_name x item.name) refl where
   something : (a c : Option Meaning) → is_some a ≡ true → or_else a c ≡ a
   something None c g = cc
   something (Some m) c g = refl
+
   nothing : (a : Option Meaning) → or_else a None ≡ a
   nothing None = refl
   nothing (Some m) = refl
+
   by_test : (b : Bool) → same_name x item.name ≡ b → or_else (found x names) (alone x item) ≡ found x names
   by_test true e = something (found x names) (alone x item) (ap (λ y. is_some (found y names)) (same_from x item.name e) ∙ h)
   by_test false e = ap (λ b. or_else (found x names) (if b then Some item.meaning else None)) e ∙ nothing (found x names)

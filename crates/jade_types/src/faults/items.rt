@@ -190,7 +190,7 @@ fn visit_item<'p>(
     room: &mut Room,
     item: &'p Item,
 ) -> Result<(), Memory>
-    ensures { OnOk result ((before : List ItemOf) → Behind before known.old room.old → PassedItem notes.old notes.new before item.now known.new room.new) }
+    ensures { (before : List ItemOf) → Behind before known.old room.old → OnOk result (PassedItem notes.old notes.new before item.now known.new room.new) }
 {
     let pos = place_of(item);
     notes.declares(pos, known.found(name_of(item)).is_some());

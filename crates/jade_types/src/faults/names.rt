@@ -8,8 +8,8 @@ ghost use Rattle.jade_types.specs.Scoped.{Tells, in_scope};
 
 use indexmap::IndexMap;
 use jade_base::Memory;
-use jade_syntax::tree::{Item, Items, ValueKind};
 use jade_syntax::name::same_name;
+use jade_syntax::tree::{Item, Items, ValueKind};
 use jade_syntax::{Name, StaticKind};
 use std::alloc::Global;
 use std::marker::Model;
@@ -134,7 +134,7 @@ impl<'p> ItemNames<'p> {
 
     /// The names of one more item.
     pub(crate) fn declare(&mut self, item: &'p Item) -> Result<(), Memory>
-        ensures { OnOk result ((names : Names) → Tells self.old names → Tells self.new (names ++ item_known item.now ∷ [])) }
+        ensures { (names : Names) → Tells self.old names → OnOk result (Tells self.new (names ++ item_known item.now ∷ [])) }
     {
         let bytes = name_of(item).bytes();
         if !self.known.contains_key(bytes) {

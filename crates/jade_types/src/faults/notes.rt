@@ -63,13 +63,7 @@ impl Notes {
     {
         let first = match self.first {
             None => fault,
-            Some(kept) => {
-                if fault.is_earlier(&kept) {
-                    fault
-                } else {
-                    kept
-                }
-            }
+            Some(kept) => { if fault.is_earlier(&kept) { fault } else { kept } }
         };
         self.first = Some(first);
     }
