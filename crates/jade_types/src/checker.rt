@@ -3,7 +3,7 @@
 ghost use Rattle.std.specs.Prelude.{◌≡◌, IfOk, IfErr};
 ghost use Rattle.jade_types.specs.Check.{IsStaticRefusal};
 
-use crate::faults_stub::first_fault;
+use crate::faults::first_fault;
 use crate::numbers::numbering;
 use jade_base::{Memory, Pos};
 use jade_syntax::tree::Program;

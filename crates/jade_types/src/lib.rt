@@ -2,7 +2,7 @@
 #![tactic(auto)]
 
 pub mod checker;
-mod faults_stub;
+mod faults;
 mod item_map;
 mod numbers;
 
