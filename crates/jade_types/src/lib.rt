@@ -2,6 +2,8 @@
 #![tactic(auto)]
 
 pub mod checker;
+#[cfg(test)]
+mod checker_tests;
 mod faults;
 mod item_map;
 mod numbers;

@@ -1,7 +1,6 @@
 //! A body as it is gone through: the names in scope, and the slots taken.
 
 ghost use Rattle.std.specs.Prelude.{◌≡◌, [], ◌-◌, length, drop, map, IfOk, OnOk};
-ghost use Rattle.std.specs.Option.{option_map};
 ghost use Rattle.jade_syntax.specs.declared.stands.Stand.TheVariants.{Slot};
 ghost use Rattle.jade_syntax.specs.Numbering.{stand_of};
 ghost use Rattle.jade_types.specs.Bodies.{as_scope, names_in, with_variable, created_in};

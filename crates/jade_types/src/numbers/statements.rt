@@ -1,6 +1,6 @@
 //! What the names of statements stand for.
 
-ghost use Rattle.std.specs.Prelude.{◌≡◌, map, OnOk};
+ghost use Rattle.std.specs.Prelude.{map, OnOk};
 ghost use Rattle.jade_syntax.specs.Image.{action, block as actions_of, object as place_of};
 ghost use Rattle.jade_syntax.specs.Numbering.{name_stands, place_stands};
 ghost use Rattle.jade_types.specs.Bodies.{Puts, Goes, GoesAll, names_in};
