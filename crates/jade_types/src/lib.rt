@@ -4,6 +4,8 @@
 pub mod checker;
 #[cfg(test)]
 mod checker_tests;
+#[cfg(test)]
+mod fault_tests;
 mod faults;
 mod item_map;
 mod numbers;
