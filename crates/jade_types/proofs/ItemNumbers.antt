@@ -32,7 +32,7 @@ pub counted : {items : List Item} {before so_far more : List Stand} {pairs next 
 counted {items} {before} {so_far} {more} {pairs} {next} {old} {new} i item key s e count put k n g =
     let rest = items_from new.inputs new.objects (drop (i + 1) items) in
     let opens : items_from old.inputs old.objects (drop i items) ≡ record { name = (item_known item).name; stand = s } ∷ rest =
-        ap (items_from old.inputs old.objects) (next_of items i item e) ∙ count (drop (i + 1) items) in
+    ap (items_from old.inputs old.objects) (next_of items i item e) ∙ count (drop (i + 1) items) in
     record {
       stands = ap (λ o. o ++ stands_alone rest) put.by ∙ append_assoc so_far (s ∷ []) (stands_alone rest) ∙ ap (λ l. so_far ++ stands_alone l) (sym opens) ∙ g.stands;
       names = ap (λ ps. scope_of ps ++ rest) n ∙ ap (λ o. o ++ rest) (scope_more pairs (key, s)) ∙ append_assoc (scope_of pairs) (record { name = key.now; stand = s } ∷ []) rest

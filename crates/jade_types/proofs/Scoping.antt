@@ -68,7 +68,7 @@ one_more b old new names i m e h g =
     let l : length (names_of (take i names)) ≡ length (take i names) = simp length-map in
     let k : 0 + length (names_of (take i names)) ≡ i = omega (arith, l, length-take i names, lt) in
     let more : names_of (take (i + 1) names) ≡ names_of (take i names) ++ m.name ∷ [] =
-        ap names_of (take_more names i m lt ∙ ap (λ y. take i names ++ y ∷ []) (get_or_from_slice_get names i m m e)) ∙ map-append (λ n. n.name) (take i names) (m ∷ []) in
+    ap names_of (take_more names i m lt ∙ ap (λ y. take i names ++ y ∷ []) (get_or_from_slice_get names i m m e)) ∙ map-append (λ n. n.name) (take i names) (m ∷ []) in
     let v : parameters 0 (names_of (take (i + 1) names)) [] ≡ slotted m.name i (parameters 0 (names_of (take i names)) []) =
-        ap (λ xs. parameters 0 xs []) more ∙ parameters_more 0 (names_of (take i names)) m.name [] ∙ ap (λ d. slotted m.name d (parameters 0 (names_of (take i names)) [])) k in
+    ap (λ xs. parameters 0 xs []) more ∙ parameters_more 0 (names_of (take i names)) m.name [] ∙ ap (λ d. slotted m.name d (parameters 0 (names_of (take i names)) [])) k in
     g ∙ ap (with_variable m.name 1) h ∙ (λ j. record { variables = sym v j; items = b.items; slots = i + 1 })

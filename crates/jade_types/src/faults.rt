@@ -12,6 +12,7 @@ mod statements;
 
 use crate::faults::items::visit_items;
 use crate::faults::names::Scope;
+pub(crate) use crate::faults::names::name_of;
 use crate::faults::notes::Notes;
 use crate::faults::statements::visit_block;
 use jade_base::Memory;

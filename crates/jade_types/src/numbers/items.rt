@@ -7,11 +7,12 @@ ghost use Rattle.jade_syntax.specs.Objects.{amount};
 ghost use Rattle.jade_syntax.specs.StaticFaults.{item_known};
 ghost use Rattle.jade_types.specs.Bodies.{Puts, as_scope};
 
+use crate::faults::name_of;
 use crate::item_map::ItemMap;
 use crate::numbers::expressions::put;
 use jade_base::{Memory, ObjectId};
 use jade_syntax::tree::{Item, Items, Number};
-use jade_syntax::{Name, Stand, Stands};
+use jade_syntax::{Stand, Stands};
 use std::alloc::Global;
 
 /// How many inputs and objects were declared.
@@ -19,16 +20,6 @@ use std::alloc::Global;
 struct Counts {
     inputs: u32,
     objects: u32,
-}
-
-fn name_of(item: &Item) -> &Name
-    ensures { result.now ≡ (item_known item.now).name }
-{
-    match item {
-        Item::Input { name, .. } => name,
-        Item::Single { name, .. } => name,
-        Item::Family { name, .. } => name,
-    }
 }
 
 /// A number of members; `Memory` where it is too large to count.
