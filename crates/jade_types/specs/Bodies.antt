@@ -67,3 +67,8 @@ pub record Goes (old new : InBody) (before after : List Stand) (a : Action) : Ty
 pub record GoesAll (old new : InBody) (before after : List Stand) (actions : Actions) : Type 0 where
   pub stands : Puts before after (all_in old actions).stands
   pub body : new ≡ record { variables = old.variables; items = old.items; slots = (all_in old actions).slots }
+
+-- the body of a loop was gone through, in which its variable was in scope
+pub record GoesRound (old new : InBody) (before after : List Stand) (x : Name) (turns : Actions) : Type 0 where
+  pub stands : Puts before after (all_in (with_variable x 2 old) turns).stands
+  pub body : new ≡ record { variables = old.variables; items = old.items; slots = (all_in (with_variable x 2 old) turns).slots }
