@@ -1,0 +1,246 @@
+//! What names stand for.
+
+ghost use Rattle.std.specs.Prelude.{◌≡◌, [], ◌∷◌, ◌++◌, ◌-◌, length, drop, OnOk};
+ghost use Rattle.std.specs.Option.{option_map};
+ghost use Rattle.jade_syntax.specs.StaticFaults.{Names, known, found, misuse, wrong_use, kind_of_name, item_known, item_names};
+ghost use Rattle.jade_types.specs.Meanings.{meant, used};
+ghost use Rattle.jade_types.specs.Scoped.{Tells, in_scope};
+
+use indexmap::IndexMap;
+use jade_base::Memory;
+use jade_syntax::name::same_name;
+use jade_syntax::tree::{Item, Items, ValueKind};
+use jade_syntax::{Name, StaticKind};
+use std::alloc::Global;
+use std::marker::Model;
+
+/// What a name stands for: an input, a variable of a kind (of none where it was given a name that
+/// is itself refused), the variable of a loop, a single object, or a family.
+#[derive(Clone, Copy)]
+pub(crate) enum Meaning {
+    Input,
+    Holds(Option<ValueKind>),
+    Turns,
+    Single,
+    Family,
+}
+
+/// What a name is used as: a value, the target of an assignment, a name of a `do` list, a single
+/// object, or a family.
+#[derive(Clone, Copy)]
+pub(crate) enum Use {
+    Value,
+    Target,
+    Handed,
+    Single,
+    Family,
+}
+
+fn misuse(how: Use, meaning: Meaning) -> Option<StaticKind>
+    ensures { result ≡ misuse (used how) (meant meaning) }
+{
+    match how {
+        Use::Value => match meaning {
+            Meaning::Input | Meaning::Holds(_) | Meaning::Turns => None,
+            Meaning::Single | Meaning::Family => Some(StaticKind::Kind),
+        },
+        Use::Target => match meaning {
+            Meaning::Holds(_) => None,
+            Meaning::Input | Meaning::Turns => Some(StaticKind::Assign),
+            Meaning::Single | Meaning::Family => Some(StaticKind::Kind),
+        },
+        Use::Handed => match meaning {
+            Meaning::Holds(_) | Meaning::Turns => None,
+            Meaning::Input | Meaning::Single | Meaning::Family => Some(StaticKind::Kind),
+        },
+        Use::Single => match meaning {
+            Meaning::Single => None,
+            Meaning::Input | Meaning::Holds(_) | Meaning::Turns | Meaning::Family => {
+                Some(StaticKind::Kind)
+            }
+        },
+        Use::Family => match meaning {
+            Meaning::Family => None,
+            Meaning::Input | Meaning::Holds(_) | Meaning::Turns | Meaning::Single => {
+                Some(StaticKind::Kind)
+            }
+        },
+    }
+}
+
+/// What is wrong with the use of a name that stands for this, or for nothing.
+pub(crate) fn wrong_use(how: Use, found: Option<Meaning>) -> Option<StaticKind>
+    ensures { result ≡ wrong_use (used how) (option_map meant found) }
+{
+    match found {
+        None => Some(StaticKind::Name),
+        Some(meaning) => misuse(how, meaning),
+    }
+}
+
+/// The kind of what a name stands for; none where it is no variable and no input.
+pub(crate) fn kind_of_name(found: Option<Meaning>) -> Option<ValueKind>
+    ensures { result ≡ kind_of_name (option_map meant found) }
+{
+    match found {
+        Some(Meaning::Input | Meaning::Turns) => Some(ValueKind::Int),
+        Some(Meaning::Holds(kind)) => kind,
+        Some(Meaning::Single | Meaning::Family) | None => None,
+    }
+}
+
+/// The name of an item.
+pub(crate) fn name_of(item: &Item) -> &Name
+    ensures { result.now ≡ (item_known item.now).name }
+{
+    match item {
+        Item::Input { name, .. } | Item::Single { name, .. } | Item::Family { name, .. } => name,
+    }
+}
+
+/// What an item's name stands for.
+fn meaning_of(item: &Item) -> Meaning
+    ensures { meant result ≡ (item_known item.now).meaning }
+{
+    match item {
+        Item::Input { .. } => Meaning::Input,
+        Item::Single { .. } => Meaning::Single,
+        Item::Family { .. } => Meaning::Family,
+    }
+}
+
+/// What the names of some items stand for: the first item of a name counts.
+#[derive(Drop)]
+pub(crate) struct ItemNames<'p> {
+    known: IndexMap<&'p [u8], Meaning>,
+}
+
+impl<'p> ItemNames<'p> {
+    /// The names of no items. It takes no memory.
+    pub(crate) fn none(alloc: Global) -> ItemNames<'p>
+        ensures { Tells result [] }
+    {
+        ItemNames {
+            known: IndexMap::new(alloc),
+        }
+    }
+
+    /// What a name stands for, if it is that of an item.
+    pub(crate) fn found(&self, name: &Name) -> Option<Meaning>
+        ensures { (names : Names) → Tells self.now names → option_map meant result ≡ found name.now names }
+    {
+        self.known.get(name.bytes()).copied()
+    }
+
+    /// The names of one more item.
+    pub(crate) fn declare(&mut self, item: &'p Item) -> Result<(), Memory>
+        ensures { (names : Names) → Tells self.old names → OnOk result (Tells self.new (names ++ item_known item.now ∷ [])) }
+    {
+        let bytes = name_of(item).bytes();
+        if !self.known.contains_key(bytes) {
+            self.known.insert(bytes, meaning_of(item))?;
+        }
+        Ok(())
+    }
+}
+
+/// A local name and what it stands for.
+#[derive(Clone, Copy)]
+pub(crate) struct Bound<'p> {
+    name: &'p Name,
+    meaning: Meaning,
+}
+
+/// The names in scope: the locals, of which the newest of a name counts, and behind them the names
+/// of all items. Contracts see the locals with the newest first.
+#[derive(Drop)]
+pub(crate) struct Scope<'p, 'k> {
+    locals: Vec<Bound<'p>>,
+    items: &'p Items,
+    known: &'k ItemNames<'p>,
+}
+
+impl<'p, 'k> Model for Scope<'p, 'k> {
+    ghost use Rattle.jade_syntax.specs.StaticFaults.{item_names};
+    ghost use Rattle.jade_types.specs.Scoped.{Scoped, local_names, Tells};
+
+    ghost Value = { Scoped };
+
+    ghost view = { λ s. record { locals = local_names s.locals.items; items = item_names s.items.now } };
+
+    ghost invariant = { λ s. Tells s.known.now (item_names s.items.now) };
+}
+
+impl<'p, 'k> Scope<'p, 'k> {
+    /// The names of all items, with no locals. It takes no memory.
+    pub(crate) fn of(alloc: Global, items: &'p Items, known: &'k ItemNames<'p>) -> Scope<'p, 'k>
+        requires { Tells known.now (item_names items.now) }
+        ensures { result ≡ record { locals = []; items = item_names items.now } }
+    {
+        Scope {
+            locals: Vec::new(alloc),
+            items,
+            known,
+        }
+    }
+
+    /// The same items, with no locals. It takes no memory.
+    pub(crate) fn without_locals(&self) -> Scope<'p, 'k>
+        ensures { result ≡ record { locals = []; items = self.now.items } }
+    {
+        Scope {
+            locals: Vec::new(*self.locals.allocator()),
+            items: self.items,
+            known: self.known,
+        }
+    }
+
+    /// The number of locals.
+    pub(crate) fn len(&self) -> usize
+        ensures { result ≡ length self.now.locals }
+    {
+        self.locals.len()
+    }
+
+    /// A new local.
+    pub(crate) fn bind(&mut self, name: &'p Name, meaning: Meaning) -> Result<(), Memory>
+        ensures { OnOk result (self.new ≡ record { locals = known name.now (meant meaning) ∷ self.old.locals; items = self.old.items }) }
+    {
+        match self.locals.push(Bound { name, meaning }) {
+            Ok(()) => Ok(()),
+            Err(_) => Err(Memory),
+        }
+    }
+
+    /// Ends the newest locals, so that `len` stay, if there are more.
+    pub(crate) fn leave(&mut self, len: usize)
+        ensures { self.new ≡ record { locals = drop (length self.old.locals - len) self.old.locals; items = self.old.items } }
+    {
+        self.locals.truncate(len);
+    }
+
+    /// What a name stands for as a local.
+    pub(crate) fn found_local(&self, name: &Name) -> Option<Meaning>
+        ensures { option_map meant result ≡ found name.now self.now.locals }
+    {
+        let mut left = self.locals.len();
+        while left > 0 {
+            left -= 1;
+            let bound = &self.locals[left];
+            if same_name(name.bytes(), bound.name.bytes()) {
+                return Some(bound.meaning);
+            }
+        }
+        None
+    }
+
+    /// What a name stands for.
+    pub(crate) fn found(&self, name: &Name) -> Option<Meaning>
+        ensures { option_map meant result ≡ found name.now (in_scope self.now) }
+    {
+        match self.found_local(name) {
+            Some(meaning) => Some(meaning),
+            None => self.known.found(name),
+        }
+    }
+}

@@ -1,0 +1,174 @@
+//! The faults of statements.
+
+ghost use Rattle.std.specs.Prelude.{◌≡◌, [], ◌∷◌, map, OnOk, IfOk, Some};
+ghost use Rattle.jade_syntax.specs.Placed.{Local, Assign, Store, Declare};
+ghost use Rattle.jade_syntax.specs.PlacedImage.{term, reference, object, phrase, block, mentioned};
+ghost use Rattle.jade_syntax.specs.StaticFaults.{given, Declares, needed, mention_sites, parameters};
+ghost use Rattle.jade_types.specs.Noted.{Noted};
+ghost use Rattle.jade_types.specs.Passed.{Passed, PassedBlock};
+ghost use Rattle.jade_types.specs.Scoped.{in_scope};
+
+use crate::faults::expressions::{visit_expr, visit_needed, visit_object, visit_use};
+use crate::faults::names::{Meaning, Scope, Use, kind_of_name};
+use crate::faults::notes::Notes;
+use jade_base::{Memory, Pos};
+use jade_syntax::Name;
+use jade_syntax::tree::{Block, CellRef, Expr, NameList, Statement, ValueKind};
+
+/// Goes through the declaration of a name that is not to be in scope.
+fn visit_declared(notes: &mut Notes, scope: &Scope<'_, '_>, name: &Name, pos: Pos)
+    ensures { Noted notes.old notes.new (Declares name.now pos (in_scope scope.now) ∷ []) }
+{
+    notes.declares(pos, scope.found(name).is_some());
+}
+
+/// Goes through a value that is given to a variable of a kind, if it has one.
+fn visit_given(notes: &mut Notes, scope: &Scope<'_, '_>, kind: Option<ValueKind>, value: &Expr)
+    ensures { Noted notes.old notes.new (given kind (in_scope scope.now) (term value.now)) }
+{
+    match kind {
+        None => {
+            let _ = visit_expr(notes, scope, value);
+        }
+        Some(kind) => visit_needed(notes, scope, kind, value),
+    }
+}
+
+fn visit_assign(notes: &mut Notes, scope: &Scope<'_, '_>, name: &Name, pos: Pos, value: &Expr)
+    ensures { Passed notes.old notes.new scope.now scope.now (Assign name.now pos (term value.now)) }
+{
+    visit_use(notes, scope, Use::Target, name, pos);
+    visit_given(notes, scope, kind_of_name(scope.found(name)), value);
+}
+
+fn visit_store(notes: &mut Notes, scope: &Scope<'_, '_>, target: &CellRef, value: &Expr)
+    ensures { Passed notes.old notes.new scope.now scope.now (Store (reference target.now).object (reference target.now).cell (term value.now)) }
+{
+    visit_object(notes, scope, &target.name, target.pos, &target.family);
+    visit_needed(notes, scope, ValueKind::Int, &target.cell);
+    visit_needed(notes, scope, ValueKind::Int, value);
+}
+
+fn visit_local<'p, 'k>(
+    notes: &mut Notes,
+    scope: &mut Scope<'p, 'k>,
+    kind: ValueKind,
+    name: &'p Name,
+    pos: Pos,
+    value: &Expr,
+) -> Result<(), Memory>
+    ensures { OnOk result (Passed notes.old notes.new scope.old scope.new (Local kind name.now pos (term value.now))) }
+{
+    visit_declared(notes, scope, name, pos);
+    visit_needed(notes, scope, kind, value);
+    scope.bind(name, Meaning::Holds(Some(kind)))
+}
+
+/// Goes through the names of a `do` list, and gives the names in scope in the body.
+fn visit_names<'p, 'k>(
+    notes: &mut Notes,
+    scope: &Scope<'p, 'k>,
+    names: &'p NameList,
+) -> Result<Scope<'p, 'k>, Memory>
+    ensures noted { OnOk result (Noted notes.old notes.new (mention_sites (in_scope scope.now) [] (map mentioned names.now))) }
+    ensures scope { IfOk result (λ s. s ≡ record { locals = parameters (in_scope scope.now) [] (map mentioned names.now); items = scope.now.items }) }
+{
+    let mut body = scope.without_locals();
+    for i in 0..names.len() {
+        let named = names.at(i);
+        let kind = kind_of_name(scope.found(&named.name));
+        visit_use(notes, scope, Use::Handed, &named.name, named.pos);
+        notes.declares(named.pos, body.found_local(&named.name).is_some());
+        body.bind(&named.name, Meaning::Holds(kind))?;
+    }
+    Ok(body)
+}
+
+#[cycle(statement)]
+fn visit_statement<'p, 'k>(
+    notes: &mut Notes,
+    scope: &mut Scope<'p, 'k>,
+    statement: &'p Statement,
+) -> Result<(), Memory>
+    ensures { OnOk result (Passed notes.old notes.new scope.old scope.new (phrase statement.now)) }
+{
+    match statement {
+        Statement::Local {
+            kind,
+            name,
+            pos,
+            value,
+        } => visit_local(notes, scope, *kind, name, *pos, value),
+        Statement::Assign { name, pos, value } => {
+            visit_assign(notes, scope, name, *pos, value);
+            Ok(())
+        }
+        Statement::Store { target, value } => {
+            visit_store(notes, scope, target, value);
+            Ok(())
+        }
+        Statement::If {
+            test,
+            then,
+            otherwise,
+        } => {
+            visit_needed(notes, scope, ValueKind::Bool, test);
+            visit_block(notes, scope, then)?;
+            match otherwise {
+                None => Ok(()),
+                Some(block) => visit_block(notes, scope, block),
+            }
+        }
+        Statement::For {
+            name,
+            pos,
+            low,
+            high,
+            body,
+        } => {
+            visit_declared(notes, scope, name, *pos);
+            visit_needed(notes, scope, ValueKind::Int, low);
+            visit_needed(notes, scope, ValueKind::Int, high);
+            let len = scope.len();
+            scope.bind(name, Meaning::Turns)?;
+            visit_block(notes, scope, body)?;
+            scope.leave(len);
+            Ok(())
+        }
+        Statement::Withonly {
+            pos: _,
+            section,
+            names,
+            body,
+        } => {
+            visit_block(notes, scope, section)?;
+            let mut inner = visit_names(notes, scope, names)?;
+            visit_block(notes, &mut inner, body)
+        }
+        Statement::With { pos: _, section } => visit_block(notes, scope, section),
+        Statement::Declare { object, .. } => {
+            visit_object(notes, scope, &object.name, object.pos, &object.member);
+            Ok(())
+        }
+    }
+}
+
+/// Goes through the statements of a block, whose locals end with it.
+#[cycle(statement)]
+pub(crate) fn visit_block<'p, 'k>(
+    notes: &mut Notes,
+    scope: &mut Scope<'p, 'k>,
+    statements: &'p Block,
+) -> Result<(), Memory>
+    ensures { OnOk result (PassedBlock notes.old notes.new scope.old scope.new (block statements.now)) }
+{
+    let len = scope.len();
+    for i in 0..statements.len() {
+        match visit_statement(notes, scope, statements.at(i)) {
+            Ok(()) => {}
+            Err(memory) => return Err(memory),
+        }
+    }
+    scope.leave(len);
+    Ok(())
+}

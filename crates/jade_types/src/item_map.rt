@@ -1,0 +1,57 @@
+//! The names of items with what they are, found by a name.
+
+ghost use Rattle.std.specs.Prelude.{◌≡◌, map, IfOk};
+ghost use Rattle.std.specs.Map.{lookup};
+ghost use Rattle.jade_syntax.specs.Numbering.{same_name};
+ghost use Rattle.jade_types.specs.ItemMap.{named};
+
+use indexmap::IndexMap;
+use jade_base::Memory;
+use std::alloc::Global;
+use std::marker::Model;
+
+/// The names of items in declared order, each with what the item is. `places` has for each name the
+/// place of the first of that name.
+#[derive(Drop)]
+pub(crate) struct ItemMap<'p, V: Drop> {
+    pairs: Vec<(&'p [u8], V)>,
+    places: IndexMap<&'p [u8], usize>,
+}
+
+impl<'p, V: Drop> Model for ItemMap<'p, V> {
+    ghost use Rattle.std.specs.Prelude.{List, ℕ, map};
+    ghost use Rattle.std.specs.Coded.{coded_list, coded×, coded_ℕ};
+
+    ghost Value = { List (List ℕ × V) };
+
+    ghost coded = { coded_list (coded× (coded_list coded_ℕ) V.code) };
+
+    ghost use Rattle.jade_types.specs.ItemMap.{named, IsIndexed};
+
+    ghost view = { λ m. map named m.pairs.items };
+
+    ghost invariant = { λ m. IsIndexed m.pairs.items m.pairs.items m.places.entries };
+}
+
+impl<'p, V: Copy + Drop> ItemMap<'p, V> {
+    /// The names of some items, in declared order.
+    pub(crate) fn of(alloc: Global, pairs: Vec<(&'p [u8], V)>) -> Result<ItemMap<'p, V>, Memory>
+        ensures { IfOk result (λ m. m ≡ map named pairs.entry.items) }
+    {
+        let mut places = IndexMap::new(alloc);
+        for i in (0..pairs.len()).rev() {
+            places.insert(pairs[i].0, i)?;
+        }
+        Ok(ItemMap { pairs, places })
+    }
+
+    /// What the first item of a name is. It takes no memory.
+    pub(crate) fn get(&self, name: &[u8]) -> Option<V>
+        ensures { result ≡ lookup (same_name name.now) self.now }
+    {
+        match self.places.get(name) {
+            Some(place) => Some(self.pairs[*place].1),
+            None => None,
+        }
+    }
+}
