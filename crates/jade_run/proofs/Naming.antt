@@ -44,18 +44,18 @@ no_run words first more Memory two never = tt
 
 pub not_run : (name : List ℕ) (rest : List (List ℕ)) (e : WordsError) → name ≡ codes "run" → NoRun rest e → IsUsage (name ∷ rest) e
 not_run name rest Usage is never = λ a. elim a [
-    to_run w l ns h ↦ (let P : List (List ℕ) → Type 0 = λ ws. SpellsRun ws w l ns in never w l ns (subst P (sym (rests _ _ _ _ h.two)) h.run))
+  | to_run w l ns h ↦ (let P : List (List ℕ) → Type 0 = λ ws. SpellsRun ws w l ns in never w l ns (subst P (sym (rests _ _ _ _ h.two)) h.run))
   | to_serial l ns h ↦ run_serial (sym is ∙ firsts _ _ _ _ h.two)
   | to_check h ↦ run_check (sym is ∙ firsts _ _ _ _ h.spelled)
   | to_show h ↦ run_show (sym is ∙ firsts _ _ _ _ h.spelled)
-  ]
+]
 not_run name rest Memory is never = tt
 
 pub not_serial : (name : List ℕ) (rest : List (List ℕ)) (e : WordsError) → name ≡ codes "serial" → NoExecution rest e → IsUsage (name ∷ rest) e
 not_serial name rest Usage is never = λ a. elim a [
-    to_run w l ns h ↦ run_serial (sym (firsts _ _ _ _ h.two) ∙ is)
+  | to_run w l ns h ↦ run_serial (sym (firsts _ _ _ _ h.two) ∙ is)
   | to_serial l ns h ↦ (let P : List (List ℕ) → Type 0 = λ ws. SpellsExecution ws l ns in never l ns (subst P (sym (rests _ _ _ _ h.two)) h.execution))
   | to_check h ↦ serial_check (sym is ∙ firsts _ _ _ _ h.spelled)
   | to_show h ↦ serial_show (sym is ∙ firsts _ _ _ _ h.spelled)
-  ]
+]
 not_serial name rest Memory is never = tt

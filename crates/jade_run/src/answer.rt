@@ -218,12 +218,7 @@ fn count_of(numbers: &[i64]) -> u32
 }
 
 /// What a text of at most 1,048,576 bytes comes to, run with these numbers and a limit.
-pub fn run_text(
-    alloc: Global,
-    text: &[u8],
-    numbers: &[i64],
-    limit: u32,
-) -> Result<Answer, Memory>
+pub fn run_text(alloc: Global, text: &[u8], numbers: &[i64], limit: u32) -> Result<Answer, Memory>
     requires some { 1 ≤ limit }
     requires within { length text.now ≤ 1048576 }
     requires few { length numbers.now ≤ 64 }

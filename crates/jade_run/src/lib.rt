@@ -14,4 +14,3 @@ pub use call::jade_main;
 pub use gate::{EmptyGate, Gate};
 pub use status::Status;
 pub use sure::run_in_memory;
-

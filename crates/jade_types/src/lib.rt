@@ -2,10 +2,6 @@
 #![tactic(auto)]
 
 pub mod checker;
-#[cfg(test)]
-mod checker_tests;
-#[cfg(test)]
-mod fault_tests;
 mod faults;
 mod item_map;
 mod numbers;
