@@ -1,17 +1,23 @@
 //! Runs each case of standard input as a whole call of `jade_main`, and prints what it writes and
 //! its status. A case begins with a line `> WORDS`; the lines up to the next one are its text, with
 //! a line feed between two lines and none at the end. A line `* N PIECE` stands for N times the
-//! piece, with no line feed before or after it.
+//! piece, with no line feed before or after it. Before the cases it runs one program over a source
+//! and a sink of which a call fails.
 #![tactic(auto)]
 
-use jade_base::{Memory, StdSource, SureSink, SureSource, Word, read_text};
-use jade_run::{EmptyGate, run_in_memory};
+use jade_base::{
+    Memory, MemorySink, MemorySource, StdSource, SureSink, SureSource, Word, read_text,
+};
+use jade_run::{EmptyGate, jade_main, run_in_memory};
 use std::alloc::Global;
 use std::process::ExitCode;
 use std::str;
 
 /// The most bytes that a case writes.
 const ROOM: usize = 65_536;
+
+/// A program that writes `s = 7`.
+const SEVEN: &str = "object s : 1; main { withonly { wr(s); } do () { s[0] = 7; } }";
 
 /// Why the cases could not be run to their end.
 #[derive(Clone, Copy, Debug, PartialEq, Eq)]
@@ -114,6 +120,39 @@ fn finish(rt: &HostRuntime, alloc: Global, case: Option<Case>) -> Result<(), Sto
     }
 }
 
+/// A list of one call, or of none.
+fn calls(alloc: Global, failing: Option<u64>) -> Result<Vec<u64>, Stop> {
+    let mut calls = Vec::new(alloc);
+    if let Some(call) = failing {
+        calls.push(call).map_err(|_| Stop::Failed)?;
+    }
+    Ok(calls)
+}
+
+/// Runs `SEVEN` over a source that gives 4 bytes a call and a sink that takes 3, and prints what the
+/// sink took and the status. The calls of these numbers fail.
+fn run_failing(
+    rt: &HostRuntime,
+    alloc: Global,
+    read: Option<u64>,
+    write: Option<u64>,
+) -> Result<(), Stop> {
+    let case = Case::of(alloc, "run 4 100").map_err(|_| Stop::Failed)?;
+    let text = Vec::from_slice(alloc, SEVEN.as_bytes()).map_err(|_| Stop::Failed)?;
+    let mut source = MemorySource::new(text, 4, calls(alloc, read)?);
+    let mut sink = MemorySink::new(alloc, 3, calls(alloc, write)?, 1024).map_err(|_| Stop::Failed)?;
+    let status = jade_main(rt, alloc, &case.words, &mut source, &mut sink, &EmptyGate);
+    let taken = str::from_utf8(sink.taken()).map_err(|_| Stop::Line)?;
+    println!(rt; "{:?} was taken, status {}", taken, status.number()).map_err(|_| Stop::Failed)
+}
+
+/// Runs over a source that fails, a sink that fails, and over both without a fault.
+fn run_all_failing(rt: &HostRuntime, alloc: Global) -> Result<(), Stop> {
+    run_failing(rt, alloc, None, None)?;
+    run_failing(rt, alloc, None, Some(1))?;
+    run_failing(rt, alloc, Some(1), None)
+}
+
 fn main(rt: HostRuntime) -> ExitCode {
     let alloc = rt.alloc();
     let mut source = StdSource::new(rt.stdin());
@@ -123,6 +162,9 @@ fn main(rt: HostRuntime) -> ExitCode {
     let Ok(text) = str::from_utf8(&bytes) else {
         return ExitCode::from(2);
     };
+    if run_all_failing(&rt, alloc).is_err() {
+        return ExitCode::from(1);
+    }
     match run_cases(&rt, alloc, text) {
         Ok(()) => ExitCode::SUCCESS,
         Err(_) => ExitCode::from(1),
