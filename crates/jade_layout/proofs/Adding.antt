@@ -36,6 +36,18 @@ all f o0 o1 xs n le p = record { by = rw (p.by, take_all n xs le) refl }
 pub arm : (s s' : Statement) (ts : Tokens) (o0 o : Printed) → s ≡ s' → statement_tokens s' ≡ ts → Adds o0 o ts → Adds o0 o (statement_tokens s)
 arm s s' ts o0 o e k h = rw (e, k) h
 
+-- a value that is stored
+pub stored : {o0 o1 o2 : Printed} (target value : Tokens) → Adds o0 o1 target → Adds o1 o2 (codes "=" ∷ [] ++ value ++ codes ";" ∷ []) → Adds o0 o2 (target ++ codes "=" ∷ [] ++ value ++ codes ";" ∷ [])
+stored {o0} {o1} {o2} target value p q =
+    let e : target ++ (codes "=" ∷ [] ++ value ++ codes ";" ∷ []) ≡ target ++ codes "=" ∷ [] ++ value ++ codes ";" ∷ [] = simp append_assoc in
+    record { by = (after p q).by ∙ ap (with_tokens o0) e }
+
+-- the names of a `do` list after the section
+pub handed : {o0 o1 o2 : Printed} (section names : Tokens) → Adds o0 o1 section → Adds o1 o2 (codes "do" ∷ codes "(" ∷ [] ++ names ++ codes ")" ∷ []) → Adds o0 o2 (section ++ codes "do" ∷ [] ++ codes "(" ∷ [] ++ names ++ codes ")" ∷ [])
+handed {o0} {o1} {o2} section names p q =
+    let e : section ++ (codes "do" ∷ codes "(" ∷ [] ++ names ++ codes ")" ∷ []) ≡ section ++ codes "do" ∷ [] ++ codes "(" ∷ [] ++ names ++ codes ")" ∷ [] = simp append_assoc in
+    record { by = (after p q).by ∙ ap (with_tokens o0) e }
+
 names_more : (ns : List Named) (i : ℕ) (n : Named) → 1 ≤ i → slice_get ns i ≡ Some n → name_tokens (take (i + 1) ns) ≡ name_tokens (take i ns) ++ (codes "," ∷ n.name ∷ [])
 names_more [] i n le e = cc
 names_more (m ∷ ns) zero n le e = absurd (omega arith)

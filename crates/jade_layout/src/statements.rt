@@ -1,15 +1,18 @@
 //! Printing statements and programs.
 
-ghost use Rattle.std.specs.Prelude.{◌≡◌, [], ◌∷◌, OnOk, IfOk};
+ghost use Rattle.std.specs.Prelude.{◌≡◌, [], ◌∷◌, ◌++◌, codes, OnOk, IfOk};
+ghost use Rattle.jade_base.specs.declared.place.Pos.{Pos};
+ghost use Rattle.jade_syntax.specs.declared.tree.Statement.TheVariants.{Local, Assign, Store, With, Declare};
 ghost use Rattle.jade_layout.specs.Layout.{layout};
-ghost use Rattle.jade_layout.specs.Spelling.{statement_tokens, block_tokens, object_tokens, item_tokens, spelling, name_tokens, declare_word, kind_word};
+ghost use Rattle.jade_layout.specs.Spelling.{expr_tokens, statement_tokens, block_tokens, object_tokens, item_tokens, spelling, name_tokens, declare_word, kind_word};
 ghost use Rattle.jade_layout.specs.Printed.{Adds};
 
 use crate::expressions::{put_cell, put_expr, put_member, put_name, put_number};
 use crate::printer::Printer;
 use jade_base::Memory;
+use jade_syntax::Name;
 use jade_syntax::tree::{
-    Block, DeclareWord, Item, NameList, ObjectRef, Program, Statement, ValueKind,
+    Block, CellRef, DeclareWord, Expr, Item, NameList, ObjectRef, Program, Statement, ValueKind,
 };
 use std::alloc::Global;
 
@@ -65,6 +68,83 @@ fn put_names(printer: &mut Printer, names: &NameList) -> Result<(), Memory>
     Ok(())
 }
 
+fn put_local(
+    printer: &mut Printer,
+    kind: ValueKind,
+    name: &Name,
+    value: &Expr,
+) -> Result<(), Memory>
+    ensures { (at : Pos) → OnOk result (Adds printer.old printer.new (statement_tokens (Local kind name.now at value.now))) }
+{
+    put_kind(printer, kind)?;
+    put_name(printer, name)?;
+    put_value(printer, value)
+}
+
+/// Puts what is stored or assigned, and the end of the statement.
+fn put_value(printer: &mut Printer, value: &Expr) -> Result<(), Memory>
+    ensures { OnOk result (Adds printer.old printer.new (codes "=" ∷ [] ++ expr_tokens value.now ++ codes ";" ∷ [])) }
+{
+    printer.put(b"=")?;
+    put_expr(printer, value)?;
+    printer.put(b";")
+}
+
+fn put_assign(printer: &mut Printer, name: &Name, value: &Expr) -> Result<(), Memory>
+    ensures { (at : Pos) → OnOk result (Adds printer.old printer.new (statement_tokens (Assign name.now at value.now))) }
+{
+    put_name(printer, name)?;
+    put_value(printer, value)
+}
+
+fn put_store(printer: &mut Printer, target: &CellRef, value: &Expr) -> Result<(), Memory>
+    ensures { OnOk result (Adds printer.old printer.new (statement_tokens (Store target.now value.now))) }
+{
+    put_cell(printer, target)?;
+    put_value(printer, value)
+}
+
+fn put_declare(printer: &mut Printer, word: &DeclareWord, object: &ObjectRef) -> Result<(), Memory>
+    ensures { (at : Pos) → OnOk result (Adds printer.old printer.new (statement_tokens (Declare word.now at object.now))) }
+{
+    put_word(printer, word)?;
+    printer.put(b"(")?;
+    put_object(printer, object)?;
+    printer.put(b")")?;
+    printer.put(b";")
+}
+
+/// Puts the names of a `do` list with their parentheses.
+fn put_handed(printer: &mut Printer, names: &NameList) -> Result<(), Memory>
+    ensures { OnOk result (Adds printer.old printer.new (codes "do" ∷ codes "(" ∷ [] ++ name_tokens names.now ++ codes ")" ∷ [])) }
+{
+    printer.put(b"do")?;
+    printer.put(b"(")?;
+    put_names(printer, names)?;
+    printer.put(b")")
+}
+
+/// Puts what stands before the first branch of an `if`.
+#[tactic(auto, using(crate::proofs::Adding::after))]
+fn put_test(printer: &mut Printer, test: &Expr) -> Result<(), Memory>
+    ensures { OnOk result (Adds printer.old printer.new (codes "if" ∷ expr_tokens test.now)) }
+{
+    printer.put(b"if")?;
+    put_expr(printer, test)
+}
+
+/// Puts what stands before the body of a `for`.
+fn put_bounds(printer: &mut Printer, name: &Name, low: &Expr, high: &Expr) -> Result<(), Memory>
+    ensures { OnOk result (Adds printer.old printer.new (codes "for" ∷ name.now ∷ codes "in" ∷ [] ++ expr_tokens low.now ++ codes ".." ∷ [] ++ expr_tokens high.now)) }
+{
+    printer.put(b"for")?;
+    put_name(printer, name)?;
+    printer.put(b"in")?;
+    put_expr(printer, low)?;
+    printer.put(b"..")?;
+    put_expr(printer, high)
+}
+
 #[cycle(statement)]
 fn put_statement(printer: &mut Printer, statement: &Statement) -> Result<(), Memory>
     ensures { OnOk result (Adds printer.old printer.new (statement_tokens statement.now)) }
@@ -73,94 +153,73 @@ fn put_statement(printer: &mut Printer, statement: &Statement) -> Result<(), Mem
         Statement::Local {
             kind,
             name,
-            pos: _,
             value,
-        } => {
-            put_kind(printer, *kind)?;
-            put_name(printer, name)?;
-            printer.put(b"=")?;
-            put_expr(printer, value)?;
-            printer.put(b";")
-        }
-        Statement::Assign {
-            name,
-            pos: _,
-            value,
-        } => {
-            put_name(printer, name)?;
-            printer.put(b"=")?;
-            put_expr(printer, value)?;
-            printer.put(b";")
-        }
-        Statement::Store { target, value } => {
-            put_cell(printer, target)?;
-            printer.put(b"=")?;
-            put_expr(printer, value)?;
-            printer.put(b";")
-        }
+            ..
+        } => put_local(printer, *kind, name, value),
+        Statement::Assign { name, value, .. } => put_assign(printer, name, value),
+        Statement::Store { target, value } => put_store(printer, target, value),
         Statement::If {
             test,
             then,
             otherwise,
         } => {
-            printer.put(b"if")?;
-            put_expr(printer, test)?;
+            put_test(printer, test)?;
             put_block(printer, then)?;
             match otherwise {
                 None => Ok(()),
-                Some(block) => {
-                    printer.put(b"else")?;
-                    put_block(printer, block)
-                }
+                Some(block) => put_other(printer, block),
             }
         }
         Statement::For {
             name,
-            pos: _,
             low,
             high,
             body,
+            ..
         } => {
-            printer.put(b"for")?;
-            put_name(printer, name)?;
-            printer.put(b"in")?;
-            put_expr(printer, low)?;
-            printer.put(b"..")?;
-            put_expr(printer, high)?;
+            put_bounds(printer, name, low, high)?;
             put_block(printer, body)
         }
         Statement::Withonly {
-            pos: _,
             section,
             names,
             body,
+            ..
         } => {
-            printer.put(b"withonly")?;
-            put_block(printer, section)?;
-            printer.put(b"do")?;
-            printer.put(b"(")?;
-            put_names(printer, names)?;
-            printer.put(b")")?;
+            put_section(printer, section)?;
+            put_handed(printer, names)?;
             put_block(printer, body)
         }
-        Statement::With { pos: _, section } => {
-            printer.put(b"with")?;
-            put_block(printer, section)?;
-            printer.put(b"cont")?;
-            printer.put(b";")
-        }
-        Statement::Declare {
-            word,
-            pos: _,
-            object,
-        } => {
-            put_word(printer, word)?;
-            printer.put(b"(")?;
-            put_object(printer, object)?;
-            printer.put(b")")?;
-            printer.put(b";")
-        }
+        Statement::With { section, .. } => put_with(printer, section),
+        Statement::Declare { word, object, .. } => put_declare(printer, word, object),
     }
+}
+
+#[cycle(statement)]
+fn put_other(printer: &mut Printer, block: &Block) -> Result<(), Memory>
+    ensures { OnOk result (Adds printer.old printer.new (codes "else" ∷ [] ++ block_tokens block.now)) }
+{
+    printer.put(b"else")?;
+    put_block(printer, block)
+}
+
+/// Puts the section of a `withonly`.
+#[cycle(statement)]
+fn put_section(printer: &mut Printer, section: &Block) -> Result<(), Memory>
+    ensures { OnOk result (Adds printer.old printer.new (codes "withonly" ∷ [] ++ block_tokens section.now)) }
+{
+    printer.put(b"withonly")?;
+    put_block(printer, section)
+}
+
+#[cycle(statement)]
+fn put_with(printer: &mut Printer, section: &Block) -> Result<(), Memory>
+    ensures { (at : Pos) → OnOk result (Adds printer.old printer.new (statement_tokens (With at section.now))) }
+{
+    printer.put(b"with")?;
+    put_block(printer, section)?;
+    printer.put(b"cont")?;
+    printer.put(b";")
 }
 
 #[cycle(statement)]
