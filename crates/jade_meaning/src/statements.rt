@@ -1,12 +1,13 @@
 //! A task that goes through its statements, with what it notes.
 
 ghost use Rattle.std.specs.Prelude.{◌≡◌, [], ◌∷◌, ◌++◌, map, OnOk, IfOk};
+ghost use Rattle.jade_syntax.specs.Abstract.{For};
 ghost use Rattle.jade_syntax.specs.Image.{expression, reference, object, action, block};
 ghost use Rattle.jade_meaning.specs.Course.{NoDraft, Building, Amending, copied, drafted, none_of};
 ghost use Rattle.jade_meaning.specs.Carry.{noted};
 ghost use Rattle.jade_meaning.specs.Specification.{fitted};
 ghost use Rattle.jade_meaning.specs.Values.{turn_count};
-ghost use Rattle.jade_meaning.specs.Perform.{Follows, shown, begun, within, localized, reassigned, stored, declared_on, turned, turned_once, perform, perform_all, created, changed, child_task, ended, then_on};
+ghost use Rattle.jade_meaning.specs.Perform.{Goes, Follows, shown, begun, within, localized, reassigned, stored, declared_on, turned, turned_once, perform, perform_all, created, changed, child_task, ended, then_on};
 
 use crate::draft::Draft;
 use crate::grants::Grants;
@@ -245,31 +246,72 @@ impl<'c> Setting<'c> {
                 high,
                 body,
                 ..
-            } => {
-                let low = self.value(task, &ledger.objects, low)?.whole();
-                let high = self.value(task, &ledger.objects, high)?.whole();
-                self.turns(name, low, high, body, path, task, ledger)
-            }
+            } => self.repeat(name, body, low, high, path, task, ledger),
             Statement::Withonly {
                 pos,
                 section,
                 names,
                 body,
             } => {
-                self.begin_building(task)?;
-                self.scoped(section, path, task, ledger)?;
+                self.build(section, path, task, ledger)?;
                 self.create(*pos, names, body, path, task, ledger)
             }
-            Statement::With { section, .. } => {
-                self.begin_amending(task)?;
-                self.scoped(section, path, task, ledger)?;
-                self.end_amending(task)?;
-                Ok(())
-            }
+            Statement::With { section, .. } => self.amend(section, path, task, ledger),
             Statement::Declare { word, pos, object } => {
                 self.declare(*word, *pos, object, task, ledger)
             }
         }
+    }
+
+    // A loop: its bounds, and its turns.
+    #[cycle(statement)]
+    fn repeat(
+        &self,
+        name: &'c Name,
+        body: &'c Block,
+        low: &Expr,
+        high: &Expr,
+        path: &Path,
+        task: &mut Task<'c>,
+        ledger: &mut Ledger,
+    ) -> Result<(), Stop>
+        ensures { Follows result (perform (shown self.now) path.now (For name.now (expression low.now) (expression high.now) (block body.now)) task.old ledger.old) task.new ledger.new }
+    {
+        let low = self.value(task, &ledger.objects, low)?.whole();
+        let high = self.value(task, &ledger.objects, high)?.whole();
+        self.turns(name, low, high, body, path, task, ledger)
+    }
+
+    // The section of a `withonly`.
+    #[cycle(statement)]
+    fn build(
+        &self,
+        section: &'c Block,
+        path: &Path,
+        task: &mut Task<'c>,
+        ledger: &mut Ledger,
+    ) -> Result<(), Stop>
+        ensures { let u = record task.old { draft = Building (none_of self.now.items) } in Follows result (within u (perform_all (shown self.now) path.now (block section.now) u ledger.old)) task.new ledger.new }
+    {
+        self.begin_building(task)?;
+        self.scoped(section, path, task, ledger)
+    }
+
+    // A `with`: its section, and the rights that it leaves.
+    #[cycle(statement)]
+    fn amend(
+        &self,
+        section: &'c Block,
+        path: &Path,
+        task: &mut Task<'c>,
+        ledger: &mut Ledger,
+    ) -> Result<(), Stop>
+        ensures { let u = record task.old { draft = Amending task.old.grants } in Follows result (then_on (within u (perform_all (shown self.now) path.now (block section.now) u ledger.old)) (λ w m. Goes (changed w) m)) task.new ledger.new }
+    {
+        self.begin_amending(task)?;
+        self.scoped(section, path, task, ledger)?;
+        self.end_amending(task)?;
+        Ok(())
     }
 
     // A step: it is counted, and the statement is done.
