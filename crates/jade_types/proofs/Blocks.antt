@@ -138,16 +138,9 @@ if_passed test first = record { noted = after test first.noted; scope = first.sc
 pub else_passed : {n0 n1 n2 n3 : Notes} {s t u : Scoped} {e : Term} {ps qs : Phrases} → Noted n0 n1 (needed value.Bool (in_scope s) e) → PassedBlock n1 n2 s t ps → PassedBlock n2 n3 t u qs → Passed n0 n3 s u (IfElse e ps qs)
 else_passed test first other = let b = block_in first.scope other in record { noted = after (after test first.noted) b.noted; scope = b.scope }
 
-pub loop_passed : {n0 n1 n2 n3 n4 : Notes} {s t u v : Scoped} {low high : Term} {ps : Phrases} (x : Name) (at : Pos) (n : ℕ) → Noted n0 n1 (Declares x at (in_scope s) ∷ []) → Noted n1 n2 (needed value.Int (in_scope s) low) → Noted n2 n3 (needed value.Int (in_scope s) high) →
-    n ≡ length s.locals → t ≡ record { locals = known x Turns ∷ s.locals; items = s.items } → PassedBlock n3 n4 t u ps → v ≡ record { locals = drop (length u.locals - n) u.locals; items = u.items } → Passed n0 n4 s v (For x at low high ps)
-loop_passed {n0} {n1} {n2} {n3} {n4} {s} {t} {u} {v} {low} {high} {ps} x at n declared from to len bound body left =
-    let inner : Scoped = record { locals = known x Turns ∷ s.locals; items = s.items } in
-    let b : PassedBlock n3 n4 inner u ps = block_in bound body in
-    let keeps : Keeps s inner = record { newer = known x Turns ∷ []; locals = refl; items = refl } in
-    record {
-      noted = after declared (after (after from to) b.noted);
-      scope = left_keeps s inner v n len keeps (left ∙ ap (λ (w : Scoped). record { locals = drop (length w.locals - n) w.locals; items = w.items }) b.scope);
-    }
+pub loop_passed : {n0 n1 n2 : Notes} {s t : Scoped} {low high : Term} {ps : Phrases} (x : Name) (at : Pos) → Noted n0 n1 (Declares x at (in_scope s) ∷ (needed value.Int (in_scope s) low ++ needed value.Int (in_scope s) high)) →
+    Noted n1 n2 (block_sites s.items (known x Turns ∷ in_scope s) ps) → t ≡ s → Passed n0 n2 s t (For x at low high ps)
+loop_passed x at bounds turns same = record { noted = after bounds turns; scope = same }
 
 pub task_passed : {n0 n1 n2 n3 : Notes} {s t u v : Scoped} {at : Pos} {ps qs : Phrases} (names : List Named) → PassedBlock n0 n1 s t ps → Noted n1 n2 (mention_sites (in_scope t) [] (map mentioned names)) →
     u ≡ record { locals = parameters (in_scope t) [] (map mentioned names); items = t.items } → PassedBlock n2 n3 u v qs → Passed n0 n3 s t (Withonly at ps (map mentioned names) qs)

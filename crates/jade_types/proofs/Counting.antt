@@ -12,14 +12,16 @@ use Rattle.jade_syntax.specs.declared.tree.Number.{Number}
 use Rattle.jade_syntax.specs.declared.static_fault.StaticKind.TheVariants as fault
 use Rattle.jade_syntax.specs.Abstract.{Name}
 use Rattle.jade_syntax.specs.Objects.{amount, input_names, sizes}
+use Rattle.jade_syntax.specs.StaticFaults as spec
 use Rattle.jade_syntax.specs.StaticFaults.{Site, Names, Declares, Counts, item_known, item_place, item_names, item_sites, amount_sites, counted, exceeds, found, is_known, when, site_place, fault_kind}
 use Rattle.jade_syntax.proofs.Limits.{inputs_first, sizes_first, drop_item}
 use Rattle.jade_types.specs.declared.faults.items.Room.{Room}
-use Rattle.jade_types.specs.declared.faults.names.ItemNames.{ItemNames}
+use Rattle.jade_types.specs.declared.faults.names.Meaning.{Meaning}
 use Rattle.jade_types.specs.declared.faults.notes.Notes.{Notes}
 use Rattle.jade_types.specs.Counted.{left_of, Leaves, Behind, places_of, PassedItem}
+use Rattle.jade_types.specs.Meanings.{meant}
 use Rattle.jade_types.specs.Noted.{Noted}
-use Rattle.jade_types.specs.Scoped.{Tells}
+use Rattle.jade_types.specs.Scoped.{as_names}
 use Rattle.jade_types.proofs.Noting.{Left, begins, goes_on, ends, after}
 
 inputs_append : (xs ys : List Item) → input_names (xs ++ ys) ≡ input_names xs ++ input_names ys
@@ -72,29 +74,37 @@ module _ (items : List Item) (room : Room) (h : Leaves items room) (item : Item)
 names_more : (before : List Item) (i : Item) → item_names (before ++ i ∷ []) ≡ item_names before ++ item_known i ∷ []
 names_more before i = map-append item_known before (i ∷ [])
 
+-- the name of one item more
+pub declared_more : (known more : List (Name × Meaning)) (before : List Item) (i : Item) (x : Name) (m : Meaning) → x ≡ (item_known i).name → meant m ≡ (item_known i).meaning → as_names known ≡ item_names before →
+    more ≡ known ++ (x, m) ∷ [] → as_names more ≡ item_names before ++ item_known i ∷ []
+declared_more known more before i x m name meaning names e =
+    ap as_names e ∙ map-append (λ k. spec.known k.0 (meant k.1)) known ((x, m) ∷ [])
+    ∙ ap (λ ks. ks ++ spec.known x (meant m) ∷ []) names
+    ∙ ap (λ y. item_names before ++ spec.known y (meant m) ∷ []) name
+    ∙ ap (λ y. item_names before ++ spec.known (item_known i).name y ∷ []) meaning
+
 -- one item was gone through
-pub item_passed : {n0 n1 n2 n3 : Notes} {before : List Item} {i : Item} {k0 k1 : ItemNames} {r0 r1 : Room} (at : Pos) (is_declared : Bool) (is_beyond : Bool) → at ≡ item_place i → is_declared ≡ is_known (found (item_known i).name (item_names before)) →
+pub item_passed : {n0 n1 n2 n3 : Notes} {before : List Item} {i : Item} {k0 k1 : List (Name × Meaning)} {r0 r1 : Room} (at : Pos) (is_declared : Bool) (is_beyond : Bool) → at ≡ item_place i → is_declared ≡ is_known (found (item_known i).name (item_names before)) →
     is_beyond ≡ exceeds before i → Behind before k0 r0 →
     (is_declared ≡ is_known (found (item_known i).name (item_names before)) → Noted n0 n1 (Declares (item_known i).name at (item_names before) ∷ [])) →
     ((s : Site) → site_place s ≡ at → fault_kind s ≡ when is_beyond fault.Size → Noted n1 n2 (s ∷ [])) → Noted n2 n3 (amount_sites i) →
-    Tells k1 (item_names before ++ item_known i ∷ []) → (Leaves (counted before) r0 → Leaves (counted (before ++ i ∷ [])) r1) → PassedItem n0 n3 before i k1 r1
+    as_names k1 ≡ item_names before ++ item_known i ∷ [] → (Leaves (counted before) r0 → Leaves (counted (before ++ i ∷ [])) r1) → PassedItem n0 n3 before i k1 r1
 item_passed {n0} {n1} {n2} {n3} {before} {i} {k0} {k1} {r0} {r1} at is_declared is_beyond place declared beyond behind note beside amounts names left =
     let P : Pos → Type 0 = λ p. Noted n0 n1 (Declares (item_known i).name p (item_names before) ∷ []) in
-    let Q : Names → Type 0 = λ ks. Tells k1 ks in
     record {
       noted = after (subst P place (note declared)) (after (beside (Counts before i) (sym place) (ap (λ b. when b fault.Size) (sym beyond))) amounts);
-      behind = record { names = subst Q (sym (names_more before i)) names; left = left behind.left };
+      behind = record { names = names ∙ sym (names_more before i); left = left behind.left };
     }
 
 -- the items go on
-pub record Itemizing (first now : Notes) (all before rest : List Item) (known : ItemNames) (room : Room) : Type 0 where
+pub record Itemizing (first now : Notes) (all before rest : List Item) (known : List (Name × Meaning)) (room : Room) : Type 0 where
   pub noted : Left first now (item_sites [] all) (item_sites before rest)
   pub behind : Behind before known room
 
-pub items_none : (n : Notes) (all : List Item) (known : ItemNames) (room : Room) → Tells known [] → Leaves [] room → Itemizing n n all (take 0 all) (drop 0 all) known room
+pub items_none : (n : Notes) (all : List Item) (known : List (Name × Meaning)) (room : Room) → as_names known ≡ [] → Leaves [] room → Itemizing n n all (take 0 all) (drop 0 all) known room
 items_none n all known room h l = record { noted = begins n _; behind = record { names = h; left = l } }
 
-pub items_more : {n0 n1 n2 : Notes} {k0 k1 : ItemNames} {r0 r1 : Room} (all : List Item) (i : ℕ) (x : Item) → slice_get all i ≡ Some x → Itemizing n0 n1 all (take i all) (drop i all) k0 r0 →
+pub items_more : {n0 n1 n2 : Notes} {k0 k1 : List (Name × Meaning)} {r0 r1 : Room} (all : List Item) (i : ℕ) (x : Item) → slice_get all i ≡ Some x → Itemizing n0 n1 all (take i all) (drop i all) k0 r0 →
     PassedItem n1 n2 (take i all) x k1 r1 → Itemizing n0 n2 all (take (i + 1) all) (drop (i + 1) all) k1 r1
 items_more {n0} {n1} {n2} {k0} {k1} {r0} {r1} all i x at h passed =
     let P : List Item → Type 0 = λ xs. Itemizing n0 n1 all (take i all) xs k0 r0 in
@@ -103,8 +113,7 @@ items_more {n0} {n1} {n2} {k0} {k1} {r0} {r1} all i x at h passed =
     let t : take (i + 1) all ≡ take i all ++ x ∷ [] = take_more all i x (slice_get_within all i x at) ∙ ap (λ y. take i all ++ y ∷ []) (get_or_from_slice_get all i x x at) in
     subst Q (sym t) (record { noted = goes_on {a = places_of (take i all) x} g.noted passed.noted; behind = passed.behind })
 
-pub items_end : {n0 n1 : Notes} {known : ItemNames} {room : Room} (all : List Item) (i : ℕ) → length all ≤ i → Itemizing n0 n1 all (take i all) (drop i all) known room → Noted n0 n1 (item_sites [] all) × Tells known (item_names all)
+pub items_end : {n0 n1 : Notes} {known : List (Name × Meaning)} {room : Room} (all : List Item) (i : ℕ) → length all ≤ i → Itemizing n0 n1 all (take i all) (drop i all) known room → Noted n0 n1 (item_sites [] all) × (as_names known ≡ item_names all)
 items_end {n0} {n1} {known} {room} all i le h =
     let P : List Item → Type 0 = λ xs. Itemizing n0 n1 all (take i all) xs known room in
-    let Q : List Item → Type 0 = λ xs. Tells known (item_names xs) in
-    (ends (subst P (drop_all i all le) h).noted, subst Q (take_all i all le) h.behind.names)
+    (ends (subst P (drop_all i all le) h).noted, h.behind.names ∙ ap item_names (take_all i all le))

@@ -1,13 +1,13 @@
 -- Going through the statements of a body.
-use Rattle.std.proofs.Common.{◌≡◌, ℕ, suc, ◌+◌, List, [], ◌∷◌, ◌++◌, Some, refl, ap, sym, ◌∙◌, subst, drop, length, add-one, drop-cons, append_assoc}
+use Rattle.std.proofs.Common.{◌≡◌, ℕ, suc, ◌+◌, List, [], ◌∷◌, ◌++◌, Some, refl, ap, sym, ◌∙◌, subst, drop, length, append_assoc}
 use Rattle.std.specs.List.{slice_get}
-use Rattle.std.proofs.lemmas.Option.{slice_get_within, get_or_from_slice_get}
 use Rattle.jade_base.specs.declared.place.Pos.{Pos}
 use Rattle.jade_syntax.specs.declared.stands.Stand.{Stand}
 use Rattle.jade_syntax.specs.declared.tree.Statement.{Statement}
 use Rattle.jade_syntax.specs.Abstract.{Name, Action, Actions, Local, Assign, Store, If, IfElse, For, Withonly, With, Declare, Then}
 use Rattle.jade_syntax.specs.Image.{action, block}
 use Rattle.jade_syntax.specs.Numbering.{Scope, slotted, parameters, name_stands, numbered_all}
+use Rattle.jade_syntax.proofs.Limits.{drop_item}
 use Rattle.jade_types.specs.Bodies.{InBody, Puts, Goes, GoesAll, names_in, created_in, numbered_in, all_in, variables_after}
 use Rattle.jade_types.proofs.Putting.{after, told}
 
@@ -15,15 +15,21 @@ pub created_names : (xs : List Name) (n : ℕ) (above items : Scope) → paramet
 created_names [] n above items = refl
 created_names (x ∷ xs) n above items = created_names xs (suc n) (slotted x n above) items
 
-pub withonly_goes : {old mid task end : InBody} {s0 s1 s2 s3 : List Stand} (at : Pos) (section : Actions) (names : List Name) (body : Actions)
-    → GoesAll old mid s0 s1 section → Puts s1 s2 (name_stands (names_in mid) names) → task ≡ created_in mid names → GoesAll task end s2 s3 body → Goes old mid s0 s3 (Withonly at section names body)
-withonly_goes {old} {mid} {task} {end} {s0} {s1} {s2} {s3} at section names body p q e g =
-    let P : InBody → Type 0 = λ b. Puts s1 s2 (name_stands (names_in b) names) in
-    let Q : InBody → Type 0 = λ b. GoesAll b end s2 s3 body in
-    let named : Puts s1 s2 (name_stands (names_in old) names) = subst P p.body q in
-    let t : GoesAll (created_in old names) end s2 s3 body = subst Q (e ∙ ap (λ b. created_in b names) p.body) g in
-    let all = ap (λ scope. (numbered_all old.items scope (length names) body).stands) (created_names names 0 [] old.items) in
-    record { stands = after (after p.stands named) (told all t.stands); body = p.body }
+-- the names that a task is handed, and then its body
+pub task_puts : {task end : InBody} {s0 s1 s2 : List Stand} (body : InBody) (names : List Name) (statements : Actions) → Puts s0 s1 (name_stands (names_in body) names) → task ≡ created_in body names → GoesAll task end s1 s2 statements
+    → Puts s0 s2 (name_stands (names_in body) names ++ (all_in (created_in body names) statements).stands)
+task_puts {task} {end} {s0} {s1} {s2} body names statements p e g =
+    let P : InBody → Type 0 = λ b. GoesAll b end s1 s2 statements in
+    after p (let t : GoesAll (created_in body names) end s1 s2 statements = subst P e g in t).stands
+
+pub withonly_goes : {old mid : InBody} {s0 s1 s2 : List Stand} (at : Pos) (section : Actions) (names : List Name) (body : Actions)
+    → GoesAll old mid s0 s1 section → Puts s1 s2 (name_stands (names_in mid) names ++ (all_in (created_in mid names) body).stands) → Goes old mid s0 s2 (Withonly at section names body)
+withonly_goes {old} {mid} {s0} {s1} {s2} at section names body p q =
+    let P : InBody → Type 0 = λ b. Puts s1 s2 (name_stands (names_in b) names ++ (all_in (created_in b names) body).stands) in
+    let handed = name_stands (names_in old) names in
+    let task : Puts s1 s2 (handed ++ (all_in (created_in old names) body).stands) = subst P p.body q in
+    let all = ap (λ scope. handed ++ (numbered_all old.items scope (length names) body).stands) (created_names names 0 [] old.items) in
+    record { stands = told (sym (append_assoc (all_in old section).stands handed _)) (after p.stands (told all task)); body = p.body }
 
 -- the arm of one kind of statement
 pub arm : {old new : InBody} {s0 s1 : List Stand} (s t : Statement) (a : Action) → s ≡ t → action t ≡ a → Goes old new s0 s1 a → Goes old new s0 s1 (action s)
@@ -86,14 +92,9 @@ goes_on {old} {now} {next} {before} {so_far} {more} {whole} {rest} a g s =
       variables = ap (λ n. n.variables) s.body ∙ above_is now a ∙ ap (λ vs. above now a ++ vs) g.variables ∙ sym (append_assoc (above now a) g.newer old.variables);
     }
 
-pub next_of : {A : Type 0} (xs : List A) (i : ℕ) (x : A) → slice_get xs i ≡ Some x → drop i xs ≡ x ∷ drop (i + 1) xs
-next_of xs i x h =
-    let lt = slice_get_within xs i x h in
-    rw (drop-cons xs i x lt, get_or_from_slice_get xs i x x h, add-one i) refl
-
 -- one more statement of a block
 pub one_more : {old now next : InBody} {before so_far more : List Stand} {whole : Actions} (ss : List Statement) (i : ℕ) (s : Statement) → slice_get ss i ≡ Some s
     → Going old now before so_far whole (block (drop i ss)) → Goes now next so_far more (action s) → Going old next before more whole (block (drop (i + 1) ss))
 one_more {old} {now} {next} {before} {so_far} {more} {whole} ss i s e g h =
     let P : List Statement → Type 0 = λ xs. Going old now before so_far whole (block xs) in
-    goes_on (action s) (let t : P (s ∷ drop (i + 1) ss) = subst P (next_of ss i s e) g in t) h
+    goes_on (action s) (let t : P (s ∷ drop (i + 1) ss) = subst P (drop_item ss i s e) g in t) h

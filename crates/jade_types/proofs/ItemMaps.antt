@@ -1,10 +1,12 @@
 -- Places of names, found by the names.
-use Rattle.std.proofs.Common.{◌≡◌, ℕ, suc, ◌<◌, List, [], ◌∷◌, Bool, true, false, cond, ◌&&◌, Bor, length, map, drop, get_or, Option, Some, None, nat_eq, refl, ap, sym, ◌∙◌, subst}
+use Rattle.std.proofs.Common.{◌≡◌, ℕ, List, [], ◌∷◌, ◌++◌, Bool, true, false, cond, ◌&&◌, Bor, length, map, get_or, Option, Some, None, is_some, nat_eq, refl, ap, sym, ◌∙◌, subst, arith, length-append}
+use Rattle.std.specs.Option.{option_or}
 use Rattle.std.specs.Prelude.{MatchOption}
-use Rattle.std.specs.Cmp.Lexicographic.{pointwise}
+use Rattle.std.specs.Cmp.Lexicographic.{pointwise, bytes_decides}
 use Rattle.std.specs.Map.{lookup}
-use Rattle.std.proofs.Math.Seq.{drop-cons}
+use Rattle.std.proofs.Math.Seq.{get_or-append_seam}
 use Rattle.std.proofs.lemmas.Cmp.{nat_list_eq_equiv}
+use Rattle.std.proofs.lemmas.List.{get_or_append_left}
 use Rattle.std.proofs.lemmas.Option.{slice_get-get_or, get_or_from_slice_get}
 use Rattle.jade_syntax.specs.Abstract.{Name}
 use Rattle.jade_syntax.specs.Numbering.{same_name}
@@ -15,6 +17,9 @@ same_bytes [] [] = refl
 same_bytes [] (b ∷ y) = refl
 same_bytes (a ∷ x) [] = refl
 same_bytes (a ∷ x) (b ∷ y) = ap (λ t. nat_eq a b && t) (same_bytes x y)
+
+same_from : (x y : Name) → same_name x y ≡ true → x ≡ y
+same_from x y h = (bytes_decides x y).0 (sym (same_bytes x y) ∙ h)
 
 abbrev Key : Type 0
 Key = Bor (List ℕ)
@@ -27,31 +32,76 @@ module _ {V : Type 0} where
   first_of x pairs = lookup (same_name x.now) (map named pairs)
 
   -- the place that was found of a name
-  pub at_place : {pairs some : List (Key × V)} {places : List (Key × ℕ)} (x : Key) (j : ℕ) → IsIndexed pairs some places → Some j ≡ place_of x places → StandsAt pairs (first_of x some) j
-  at_place {pairs} {some} x j h e =
-      let P : Option ℕ → Type 0 = λ o. MatchOption o (first_of x some ≡ None) (StandsAt pairs (first_of x some)) in
+  pub at_place : {pairs : List (Key × V)} {places : List (Key × ℕ)} (x : Key) (j : ℕ) → IsIndexed pairs places → Some j ≡ place_of x places → StandsAt pairs (first_of x pairs) j
+  at_place {pairs} {places} x j h e =
+      let P : Option ℕ → Type 0 = λ o. MatchOption o (first_of x pairs ≡ None) (StandsAt pairs (first_of x pairs)) in
       subst P (sym e) (h.at x)
 
-  pub value_there : {pairs some : List (Key × V)} {places : List (Key × ℕ)} (x : Key) (j : ℕ) (p : Key × V) → IsIndexed pairs some places → Some j ≡ place_of x places → p ≡ get_or pairs j p → Some p.1 ≡ first_of x some
+  pub value_there : {pairs : List (Key × V)} {places : List (Key × ℕ)} (x : Key) (j : ℕ) (p : Key × V) → IsIndexed pairs places → Some j ≡ place_of x places → p ≡ get_or pairs j p → Some p.1 ≡ first_of x pairs
   value_there {pairs} x j p h e g =
       let there = at_place x j h e in
       sym (there.is p (slice_get-get_or pairs j p there.within ∙ ap Some (sym g)))
 
-  -- one more name, which stands before the others
-  pub indexed_before : (pairs : List (Key × V)) (i j : ℕ) (p : Key × V) (places more : List (Key × ℕ)) → suc i ≡ j → i < length pairs → p ≡ get_or pairs i p
-      → IsIndexed pairs (drop j pairs) places → ((x : Key) → place_of x more ≡ cond (pointwise nat_eq p.0.now x.now) (Some i) (place_of x places)) → IsIndexed pairs (drop i pairs) more
-  indexed_before pairs i j p places more n lt g h u = record { at = λ x. at x }
-    where
-      opens : (x : Key) → first_of x (drop i pairs) ≡ cond (pointwise nat_eq p.0.now x.now) (Some p.1) (first_of x (drop (suc i) pairs))
-      opens x =
-          ap (first_of x) (drop-cons pairs i p lt ∙ ap (λ y. y ∷ drop (suc i) pairs) (sym g))
-          ∙ ap (λ b. cond b (Some p.1) (first_of x (drop (suc i) pairs))) (same_bytes x.now p.0.now ∙ nat_list_eq_equiv.symm x.now p.0.now)
+  or_first : (b : Bool) (v : V) (r c : Option V) → option_or (cond b (Some v) r) c ≡ cond b (Some v) (option_or r c)
+  or_first true v r c = refl
+  or_first false v r c = refl
 
-      by_cases : (b : Bool) (x : Key) → MatchOption (cond b (Some i) (place_of x places)) (cond b (Some p.1) (first_of x (drop (suc i) pairs)) ≡ None) (StandsAt pairs (cond b (Some p.1) (first_of x (drop (suc i) pairs))))
-      by_cases true x = record { within = lt; is = λ q e. ap (λ y. Some y.1) (g ∙ get_or_from_slice_get pairs i q p e) }
-      by_cases false x = let Q : ℕ → Type 0 = λ k. IsIndexed pairs (drop k pairs) places in (let r : Q (suc i) = subst Q (sym n) h in r).at x
+  first_both : (x : Key) (pairs : List (Key × V)) (p : Key × V) → first_of x (pairs ++ p ∷ []) ≡ option_or (first_of x pairs) (first_of x (p ∷ []))
+  first_both x [] p = refl
+  first_both x (q ∷ pairs) p = ap (λ r. cond (same_name x.now q.0.now) (Some q.1) r) (first_both x pairs p) ∙ sym (or_first (same_name x.now q.0.now) q.1 (first_of x pairs) (first_of x (p ∷ [])))
 
-      at : (x : Key) → MatchOption (place_of x more) (first_of x (drop i pairs) ≡ None) (StandsAt pairs (first_of x (drop i pairs)))
-      at x =
-          let P : Option ℕ → Option V → Type 0 = λ o v. MatchOption o (v ≡ None) (StandsAt pairs v) in
-          subst (λ o. P o (first_of x (drop i pairs))) (sym (u x)) (subst (λ v. P (cond (pointwise nat_eq p.0.now x.now) (Some i) (place_of x places)) v) (sym (opens x)) (by_cases (pointwise nat_eq p.0.now x.now) x))
+  -- one more pair, after the others
+  module _ (pairs : List (Key × V)) (p : Key × V) where
+    abbrev grown : List (Key × V)
+    grown = pairs ++ p ∷ []
+
+    abbrev Found : Key → Option ℕ → List (Key × V) → Type 0
+    Found x o ps = MatchOption o (first_of x ps ≡ None) (StandsAt ps (first_of x ps))
+
+    still_there : (x : Key) (j : ℕ) → StandsAt pairs (first_of x pairs) j → StandsAt grown (first_of x grown) j
+    still_there x j h =
+        let q = get_or pairs j p in
+        let same : first_of x pairs ≡ Some q.1 = h.is q (slice_get-get_or pairs j p h.within) in
+        record {
+          within = omega (arith, length-append pairs (p ∷ []), h.within);
+          is = λ r e. first_both x pairs p ∙ ap (λ o. option_or o (first_of x (p ∷ []))) same
+              ∙ ap (λ y. Some y.1) (sym (get_or_append_left pairs (p ∷ []) p j h.within) ∙ get_or_from_slice_get grown j r p e);
+        }
+
+    -- another name
+    beside : (x : Key) (o : Option ℕ) → same_name x.now p.0.now ≡ false → Found x o pairs → Found x o grown
+    beside x None e h = first_both x pairs p ∙ ap (λ r. option_or r (first_of x (p ∷ []))) h ∙ ap (λ b. cond b (Some p.1) None) e
+    beside x (Some j) e h = still_there x j h
+
+    -- a name that has its place already
+    pub indexed_still : {places : List (Key × ℕ)} → is_some (place_of p.0 places) ≡ true → IsIndexed pairs places → IsIndexed grown places
+    indexed_still {places} known h = record { at = λ x. by_test x (same_name x.now p.0.now) refl } where
+      there : (x : Key) (o : Option ℕ) → is_some o ≡ true → Found x o pairs → Found x o grown
+      there x None e g = absurd (cc)
+      there x (Some j) e g = still_there x j g
+
+      by_test : (x : Key) (b : Bool) → same_name x.now p.0.now ≡ b → Found x (place_of x places) grown
+      by_test x true e = there x (place_of x places) (ap (λ y. is_some (lookup (λ k. pointwise nat_eq y k.now) places)) (same_from x.now p.0.now e) ∙ known) (h.at x)
+      by_test x false e = beside x (place_of x places) e (h.at x)
+
+    -- a new name, whose place is the last
+    pub indexed_more : {places more : List (Key × ℕ)} (n : ℕ) → n ≡ length pairs → is_some (place_of p.0 places) ≡ false → ((x : Key) → place_of x more ≡ cond (pointwise nat_eq p.0.now x.now) (Some n) (place_of x places))
+        → IsIndexed pairs places → IsIndexed grown more
+    indexed_more {places} {more} n last new u h = record { at = λ x. let P : Option ℕ → Type 0 = λ o. Found x o grown in subst P (sym (u x)) (by_test x (pointwise nat_eq p.0.now x.now) (turned x)) } where
+      turned : (x : Key) → same_name x.now p.0.now ≡ pointwise nat_eq p.0.now x.now
+      turned x = same_bytes x.now p.0.now ∙ nat_list_eq_equiv.symm x.now p.0.now
+
+      nowhere : (x : Key) (o : Option ℕ) → is_some o ≡ false → Found x o pairs → first_of x pairs ≡ None
+      nowhere x None e g = g
+      nowhere x (Some j) e g = absurd (cc)
+
+      by_test : (x : Key) (b : Bool) → same_name x.now p.0.now ≡ b → Found x (cond b (Some n) (place_of x places)) grown
+      by_test x true e =
+          let absent : first_of x pairs ≡ None = nowhere x (place_of x places) (ap (λ y. is_some (lookup (λ k. pointwise nat_eq y k.now) places)) (same_from x.now p.0.now e) ∙ new) (h.at x) in
+          let at_last : get_or grown n p ≡ p = ap (λ k. get_or grown k p) last ∙ get_or-append_seam pairs p [] p in
+          record {
+            within = omega (arith, length-append pairs (p ∷ []), last);
+            is = λ r f. first_both x pairs p ∙ ap (λ o. option_or o (first_of x (p ∷ []))) absent ∙ ap (λ b. cond b (Some p.1) None) e
+                ∙ ap (λ y. Some y.1) (sym at_last ∙ get_or_from_slice_get grown n r p f);
+          }
+      by_test x false e = beside x (place_of x places) e (h.at x)

@@ -1,11 +1,10 @@
 -- The variables of a body in scope, kept with the newest last, and the names behind them.
-use Rattle.std.proofs.Common.{◌≡◌, ℕ, suc, ◌+◌, ◌-◌, ◌≤◌, List, [], ◌∷◌, ◌++◌, Some, refl, ap, sym, ◌∙◌, take, drop, length, arith, cond, true, false}
-use Rattle.std.specs.Prelude.{map, reverse, slice_index_or, if◌then◌else◌, unwrap_or, Bool}
+use Rattle.std.proofs.Common.{◌≡◌, ℕ, suc, ◌+◌, ◌≤◌, List, [], ◌∷◌, ◌++◌, Some, refl, ap, sym, ◌∙◌, take, length, arith, cond, true, false}
+use Rattle.std.specs.Prelude.{map, if◌then◌else◌, unwrap_or, Bool}
 use Rattle.std.specs.List.{slice_get}
 use Rattle.std.specs.Map.{lookup}
-use Rattle.std.proofs.lemmas.List.{take_more, map-append, reverse-append, length-reverse, length-map, length-take, take-append-drop, length-drop}
+use Rattle.std.proofs.lemmas.List.{take_more, map-append, length-map, length-take}
 use Rattle.std.proofs.lemmas.Option.{slice_get_within, get_or_from_slice_get}
-use Rattle.std.proofs.Math.Seq.{drop-append_seam}
 use Rattle.jade_syntax.specs.declared.stands.Stand.{Stand}
 use Rattle.jade_syntax.specs.declared.stands.Stand.TheVariants.{Slot}
 use Rattle.jade_syntax.specs.declared.tree.Named.{Named}
@@ -13,15 +12,7 @@ use Rattle.jade_syntax.specs.Abstract.{Name}
 use Rattle.jade_syntax.specs.Numbering.{Scope, same_name, stand_of, slotted, parameters}
 use Rattle.jade_types.specs.declared.numbers.body.Variable.{Variable}
 use Rattle.jade_types.specs.Bodies.{InBody, as_scope, with_variable}
-use Rattle.jade_types.specs.Variables.{slot_of, in_scope}
-
-scope_both : (xs ys : List Variable) → in_scope (xs ++ ys) ≡ in_scope ys ++ in_scope xs
-scope_both xs ys = ap reverse (map-append slot_of xs ys) ∙ reverse-append (map slot_of xs) (map slot_of ys)
-
-newest : (vs : List Variable) (i j : ℕ) (v : Variable) → i + 1 ≡ j → j ≤ length vs → v ≡ slice_index_or vs i v → in_scope (take j vs) ≡ slot_of v ∷ in_scope (take i vs)
-newest vs i j v h lt e =
-    ap (λ k. in_scope (take k vs)) (sym h)
-    ∙ ap in_scope (take_more vs i v (omega arith)) ∙ scope_both (take i vs) (slice_index_or vs i v ∷ []) ∙ ap (λ x. slot_of x ∷ in_scope (take i vs)) (sym e)
+use Rattle.jade_types.specs.Variables.{in_scope}
 
 -- no variables are left
 pub stand_behind : (x : Name) (vs : List Variable) (items : Scope) (n : ℕ) → n ≤ 0 → stand_of x (in_scope (take n vs) ++ items) ≡ stand_of x items
@@ -35,18 +26,6 @@ stand_item x (i ∷ items) = by_cases (same_name x i.0) (stand_item x items) whe
       → unwrap_or (cond b (Some i.1) (lookup (same_name x) items)) (Slot 0) ≡ (if b then i.1 else stand_of x (as_scope items))
   by_cases true h = refl
   by_cases false h = h
-
-length_scope : (vs : List Variable) → length (in_scope vs) ≡ length vs
-length_scope vs = length-reverse (map slot_of vs) ∙ simp length-map
-
--- the oldest stay
-pub left_with : (vs : List Variable) (n : ℕ) → in_scope (take n vs) ≡ drop (length (in_scope vs) - n) (in_scope vs)
-left_with vs n =
-    let parts = ap in_scope (sym (take-append-drop n vs)) ∙ scope_both (take n vs) (drop n vs) in
-    let many : length (in_scope (drop n vs)) ≡ length (in_scope vs) - n = length_scope (drop n vs) ∙ length-drop n vs ∙ ap (λ k. k - n) (sym (length_scope vs)) in
-    sym (drop-append_seam (in_scope (drop n vs)) (in_scope (take n vs)))
-    ∙ ap (λ k. drop k (in_scope (drop n vs) ++ in_scope (take n vs))) many
-    ∙ ap (drop (length (in_scope vs) - n)) (sym parts)
 
 parameters_more : (n : ℕ) (xs : List Name) (x : Name) (scope : Scope) → parameters n (xs ++ x ∷ []) scope ≡ slotted x (n + length xs) (parameters n xs scope)
 parameters_more n [] x scope = let e : n ≡ n + 0 = omega arith in ap (λ k. slotted x k scope) e

@@ -15,7 +15,7 @@ pub record StandsAt {V : Type 0} (pairs : List (Bor (List ℕ) × V)) (value : O
   pub within : place < length pairs
   pub is : (p : Bor (List ℕ) × V) → slice_get pairs place ≡ Some p → value ≡ Some p.1
 
--- where the first of each name stands, of some of the pairs
-pub record IsIndexed {V : Type 0} (pairs some : List (Bor (List ℕ) × V)) (places : List (Bor (List ℕ) × ℕ)) : Type 0 where
-  pub at : (x : Bor (List ℕ)) → let first = lookup (same_name x.now) (map named some) in
+-- where the first of each name stands
+pub record IsIndexed {V : Type 0} (pairs : List (Bor (List ℕ) × V)) (places : List (Bor (List ℕ) × ℕ)) : Type 0 where
+  pub at : (x : Bor (List ℕ)) → let first = lookup (same_name x.now) (map named pairs) in
       MatchOption (lookup (λ k. pointwise nat_eq x.now k.now) places) (first ≡ None) (StandsAt pairs first)

@@ -1,12 +1,9 @@
--- The names in scope, as code keeps them: locals, the newest last, and a table of the items' names.
-use Rattle.std.specs.Prelude.{◌≡◌, nat_eq, List, ◌++◌, map, reverse}
-use Rattle.std.specs.Option.{option_map}
-use Rattle.std.specs.Cmp.Lexicographic.{pointwise}
-use Rattle.indexmap.specs.IndexMap.{get_by}
+-- The names in scope, as code keeps them: locals, the newest last, and the items by name.
+use Rattle.std.specs.Prelude.{List, ◌++◌, map, reverse}
 use Rattle.jade_syntax.specs.Abstract.{Name}
-use Rattle.jade_syntax.specs.StaticFaults.{Names, Known, known, found}
+use Rattle.jade_syntax.specs.StaticFaults.{Names, Known, known}
 use Rattle.jade_types.specs.declared.faults.names.Bound.{Bound}
-use Rattle.jade_types.specs.declared.faults.names.ItemNames.{ItemNames}
+use Rattle.jade_types.specs.declared.faults.names.Meaning.{Meaning}
 use Rattle.jade_types.specs.Meanings.{meant}
 
 -- the locals in scope, and the items
@@ -26,6 +23,6 @@ local_name b = known b.name.now (meant b.meaning)
 abbrev pub local_names : List Bound → Names
 local_names bs = reverse (map local_name bs)
 
--- a table tells what each name stands for among these
-pub record Tells (table : ItemNames) (names : Names) : Type 0 where
-  pub by : (x : Name) → option_map meant (get_by (λ k. pointwise nat_eq x k.now) table.known) ≡ found x names
+-- the items by name as names in scope
+abbrev pub as_names : List (Name × Meaning) → Names
+as_names items = map (λ i. known i.0 (meant i.1)) items

@@ -27,7 +27,7 @@ pub(crate) fn first_fault(alloc: Global, program: &Program) -> Result<Option<Sta
 {
     let mut notes = Notes::none();
     let known = visit_items(alloc, &mut notes, &program.items)?;
-    let mut scope = Scope::of(alloc, &program.items, &known);
+    let mut scope = Scope::of(alloc, &known);
     visit_block(&mut notes, &mut scope, &program.main)?;
     Ok(notes.first)
 }

@@ -1,9 +1,8 @@
 //! The names of items with what they are, found by a name.
 
-ghost use Rattle.std.specs.Prelude.{◌≡◌, map, IfOk};
+ghost use Rattle.std.specs.Prelude.{◌≡◌, [], ◌∷◌, ◌++◌, OnOk};
 ghost use Rattle.std.specs.Map.{lookup};
 ghost use Rattle.jade_syntax.specs.Numbering.{same_name};
-ghost use Rattle.jade_types.specs.ItemMap.{named};
 
 use indexmap::IndexMap;
 use jade_base::Memory;
@@ -30,19 +29,36 @@ impl<'p, V: Drop> Model for ItemMap<'p, V> {
 
     ghost view = { λ m. map named m.pairs.items };
 
-    ghost invariant = { λ m. IsIndexed m.pairs.items m.pairs.items m.places.entries };
+    ghost invariant = { λ m. IsIndexed m.pairs.items m.places.entries };
 }
 
 impl<'p, V: Copy + Drop> ItemMap<'p, V> {
-    /// The names of some items, in declared order.
-    pub(crate) fn of(alloc: Global, pairs: Vec<(&'p [u8], V)>) -> Result<ItemMap<'p, V>, Memory>
-        ensures { IfOk result (λ m. m ≡ map named pairs.entry.items) }
+    /// The names of no items. It takes no memory.
+    pub(crate) fn none(alloc: Global) -> ItemMap<'p, V>
+        ensures { result ≡ [] }
     {
-        let mut places = IndexMap::new(alloc);
-        for i in (0..pairs.len()).rev() {
-            places.insert(pairs[i].0, i)?;
+        ItemMap {
+            pairs: Vec::new(alloc),
+            places: IndexMap::new(alloc),
         }
-        Ok(ItemMap { pairs, places })
+    }
+
+    /// One more item, after the others.
+    pub(crate) fn declare(&mut self, name: &'p [u8], value: V) -> Result<(), Memory>
+        ensures { OnOk result (self.new ≡ self.old ++ (name.now, value) ∷ []) }
+    {
+        let place = self.pairs.len();
+        self.pairs.push((name, value))?;
+        if self.places.contains_key(name) {
+            return Ok(());
+        }
+        match self.places.insert(name, place) {
+            Ok(_) => Ok(()),
+            Err(_) => {
+                self.pairs.truncate(place);
+                Err(Memory)
+            }
+        }
     }
 
     /// What the first item of a name is. It takes no memory.

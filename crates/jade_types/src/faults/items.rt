@@ -7,10 +7,11 @@ ghost use Rattle.jade_syntax.specs.Objects.{amount};
 ghost use Rattle.jade_syntax.specs.StaticFaults.{Amounts, amount_sites, item_names, item_place, item_sites, counted, keeps_totals, exceeds};
 ghost use Rattle.jade_types.specs.Counted.{left_of, Leaves, Behind, PassedItem};
 ghost use Rattle.jade_types.specs.Noted.{Noted};
-ghost use Rattle.jade_types.specs.Scoped.{Tells};
+ghost use Rattle.jade_types.specs.Scoped.{as_names};
 
-use crate::faults::names::{ItemNames, name_of};
+use crate::faults::names::{Meaning, meaning_of, name_of};
 use crate::faults::notes::Notes;
+use crate::item_map::ItemMap;
 use jade_base::{Memory, Pos};
 use jade_syntax::StaticKind;
 use jade_syntax::tree::{Item, Items, Number};
@@ -186,18 +187,19 @@ fn visit_amounts(notes: &mut Notes, item: &Item)
 /// Goes through one item more.
 fn visit_item<'p>(
     notes: &mut Notes,
-    known: &mut ItemNames<'p>,
+    known: &mut ItemMap<'p, Meaning>,
     room: &mut Room,
     item: &'p Item,
 ) -> Result<(), Memory>
     ensures { (before : List ItemOf) → Behind before known.old room.old → OnOk result (PassedItem notes.old notes.new before item.now known.new room.new) }
 {
     let pos = place_of(item);
-    notes.declares(pos, known.found(name_of(item)).is_some());
+    let name = name_of(item).bytes();
+    notes.declares(pos, known.get(name).is_some());
     let exceeds = room.count(item);
     notes.note_when(pos, exceeds, StaticKind::Size);
     visit_amounts(notes, item);
-    known.declare(item)
+    known.declare(name, meaning_of(item))
 }
 
 /// Goes through the items, and gives their names.
@@ -205,11 +207,11 @@ pub(crate) fn visit_items<'p>(
     alloc: Global,
     notes: &mut Notes,
     items: &'p Items,
-) -> Result<ItemNames<'p>, Memory>
+) -> Result<ItemMap<'p, Meaning>, Memory>
     ensures noted { OnOk result (Noted notes.old notes.new (item_sites [] items.now)) }
-    ensures names { IfOk result (λ known. Tells known (item_names items.now)) }
+    ensures names { IfOk result (λ known. as_names known ≡ item_names items.now) }
 {
-    let mut known = ItemNames::none(alloc);
+    let mut known = ItemMap::none(alloc);
     let mut room = Room::whole();
     for i in 0..items.len() {
         visit_item(notes, &mut known, &mut room, items.at(i))?;

@@ -1,15 +1,15 @@
 //! What names stand for.
 
-ghost use Rattle.std.specs.Prelude.{◌≡◌, [], ◌∷◌, ◌++◌, ◌-◌, length, drop, OnOk};
+ghost use Rattle.std.specs.Prelude.{◌≡◌, [], ◌∷◌, ◌-◌, length, drop, OnOk};
 ghost use Rattle.std.specs.Option.{option_map};
-ghost use Rattle.jade_syntax.specs.StaticFaults.{Names, known, found, misuse, wrong_use, kind_of_name, item_known, item_names};
+ghost use Rattle.jade_syntax.specs.StaticFaults.{known, found, misuse, wrong_use, kind_of_name, item_known};
 ghost use Rattle.jade_types.specs.Meanings.{meant, used};
-ghost use Rattle.jade_types.specs.Scoped.{Tells, in_scope};
+ghost use Rattle.jade_types.specs.Scoped.{as_names, in_scope};
 
-use indexmap::IndexMap;
+use crate::item_map::ItemMap;
 use jade_base::Memory;
 use jade_syntax::name::same_name;
-use jade_syntax::tree::{Item, Items, ValueKind};
+use jade_syntax::tree::{Item, ValueKind};
 use jade_syntax::{Name, StaticKind};
 use std::alloc::Global;
 use std::marker::Model;
@@ -99,48 +99,13 @@ pub(crate) fn name_of(item: &Item) -> &Name
 }
 
 /// What an item's name stands for.
-fn meaning_of(item: &Item) -> Meaning
+pub(crate) fn meaning_of(item: &Item) -> Meaning
     ensures { meant result ≡ (item_known item.now).meaning }
 {
     match item {
         Item::Input { .. } => Meaning::Input,
         Item::Single { .. } => Meaning::Single,
         Item::Family { .. } => Meaning::Family,
-    }
-}
-
-/// What the names of some items stand for: the first item of a name counts.
-#[derive(Drop)]
-pub(crate) struct ItemNames<'p> {
-    known: IndexMap<&'p [u8], Meaning>,
-}
-
-impl<'p> ItemNames<'p> {
-    /// The names of no items. It takes no memory.
-    pub(crate) fn none(alloc: Global) -> ItemNames<'p>
-        ensures { Tells result [] }
-    {
-        ItemNames {
-            known: IndexMap::new(alloc),
-        }
-    }
-
-    /// What a name stands for, if it is that of an item.
-    pub(crate) fn found(&self, name: &Name) -> Option<Meaning>
-        ensures { (names : Names) → Tells self.now names → option_map meant result ≡ found name.now names }
-    {
-        self.known.get(name.bytes()).copied()
-    }
-
-    /// The names of one more item.
-    pub(crate) fn declare(&mut self, item: &'p Item) -> Result<(), Memory>
-        ensures { (names : Names) → Tells self.old names → OnOk result (Tells self.new (names ++ item_known item.now ∷ [])) }
-    {
-        let bytes = name_of(item).bytes();
-        if !self.known.contains_key(bytes) {
-            self.known.insert(bytes, meaning_of(item))?;
-        }
-        Ok(())
     }
 }
 
@@ -156,31 +121,25 @@ pub(crate) struct Bound<'p> {
 #[derive(Drop)]
 pub(crate) struct Scope<'p, 'k> {
     locals: Vec<Bound<'p>>,
-    items: &'p Items,
-    known: &'k ItemNames<'p>,
+    items: &'k ItemMap<'p, Meaning>,
 }
 
 impl<'p, 'k> Model for Scope<'p, 'k> {
-    ghost use Rattle.jade_syntax.specs.StaticFaults.{item_names};
-    ghost use Rattle.jade_types.specs.Scoped.{Scoped, local_names, Tells};
+    ghost use Rattle.jade_types.specs.Scoped.{Scoped, local_names, as_names};
 
     ghost Value = { Scoped };
 
-    ghost view = { λ s. record { locals = local_names s.locals.items; items = item_names s.items.now } };
-
-    ghost invariant = { λ s. Tells s.known.now (item_names s.items.now) };
+    ghost view = { λ s. record { locals = local_names s.locals.items; items = as_names s.items.now } };
 }
 
 impl<'p, 'k> Scope<'p, 'k> {
     /// The names of all items, with no locals. It takes no memory.
-    pub(crate) fn of(alloc: Global, items: &'p Items, known: &'k ItemNames<'p>) -> Scope<'p, 'k>
-        requires { Tells known.now (item_names items.now) }
-        ensures { result ≡ record { locals = []; items = item_names items.now } }
+    pub(crate) fn of(alloc: Global, items: &'k ItemMap<'p, Meaning>) -> Scope<'p, 'k>
+        ensures { result ≡ record { locals = []; items = as_names items.now } }
     {
         Scope {
             locals: Vec::new(alloc),
             items,
-            known,
         }
     }
 
@@ -191,7 +150,6 @@ impl<'p, 'k> Scope<'p, 'k> {
         Scope {
             locals: Vec::new(*self.locals.allocator()),
             items: self.items,
-            known: self.known,
         }
     }
 
@@ -240,7 +198,7 @@ impl<'p, 'k> Scope<'p, 'k> {
     {
         match self.found_local(name) {
             Some(meaning) => Some(meaning),
-            None => self.known.found(name),
+            None => self.items.get(name.bytes()),
         }
     }
 }

@@ -1,9 +1,10 @@
 //! The faults of statements.
 
-ghost use Rattle.std.specs.Prelude.{◌≡◌, [], ◌∷◌, map, OnOk, IfOk, Some};
-ghost use Rattle.jade_syntax.specs.Placed.{Local, Assign, Store, Declare};
-ghost use Rattle.jade_syntax.specs.PlacedImage.{term, reference, object, phrase, block, mentioned};
-ghost use Rattle.jade_syntax.specs.StaticFaults.{given, Declares, needed, mention_sites, parameters};
+ghost use Rattle.std.specs.Prelude.{◌≡◌, [], ◌∷◌, ◌++◌, map, OnOk, IfOk};
+ghost use Rattle.jade_syntax.specs.declared.tree.ValueKind.TheVariants.{Int};
+ghost use Rattle.jade_syntax.specs.Placed.{Local, Assign, Store};
+ghost use Rattle.jade_syntax.specs.PlacedImage.{term, reference, phrase, block, mentioned};
+ghost use Rattle.jade_syntax.specs.StaticFaults.{Turns, Declares, known, given, needed, mention_sites, parameters, block_sites};
 ghost use Rattle.jade_types.specs.Noted.{Noted};
 ghost use Rattle.jade_types.specs.Passed.{Passed, PassedBlock};
 ghost use Rattle.jade_types.specs.Scoped.{in_scope};
@@ -84,6 +85,22 @@ fn visit_names<'p, 'k>(
     Ok(body)
 }
 
+/// Goes through the declaration of a loop's variable, and the bounds.
+fn visit_bounds(
+    notes: &mut Notes,
+    scope: &Scope<'_, '_>,
+    name: &Name,
+    pos: Pos,
+    low: &Expr,
+    high: &Expr,
+)
+    ensures { Noted notes.old notes.new (Declares name.now pos (in_scope scope.now) ∷ (needed Int (in_scope scope.now) (term low.now) ++ needed Int (in_scope scope.now) (term high.now))) }
+{
+    visit_declared(notes, scope, name, pos);
+    visit_needed(notes, scope, ValueKind::Int, low);
+    visit_needed(notes, scope, ValueKind::Int, high);
+}
+
 #[cycle(statement)]
 fn visit_statement<'p, 'k>(
     notes: &mut Notes,
@@ -98,15 +115,9 @@ fn visit_statement<'p, 'k>(
             name,
             pos,
             value,
-        } => visit_local(notes, scope, *kind, name, *pos, value),
-        Statement::Assign { name, pos, value } => {
-            visit_assign(notes, scope, name, *pos, value);
-            Ok(())
-        }
-        Statement::Store { target, value } => {
-            visit_store(notes, scope, target, value);
-            Ok(())
-        }
+        } => visit_local(notes, scope, *kind, name, *pos, value)?,
+        Statement::Assign { name, pos, value } => visit_assign(notes, scope, name, *pos, value),
+        Statement::Store { target, value } => visit_store(notes, scope, target, value),
         Statement::If {
             test,
             then,
@@ -115,8 +126,8 @@ fn visit_statement<'p, 'k>(
             visit_needed(notes, scope, ValueKind::Bool, test);
             visit_block(notes, scope, then)?;
             match otherwise {
-                None => Ok(()),
-                Some(block) => visit_block(notes, scope, block),
+                None => {}
+                Some(block) => visit_block(notes, scope, block)?,
             }
         }
         Statement::For {
@@ -126,31 +137,43 @@ fn visit_statement<'p, 'k>(
             high,
             body,
         } => {
-            visit_declared(notes, scope, name, *pos);
-            visit_needed(notes, scope, ValueKind::Int, low);
-            visit_needed(notes, scope, ValueKind::Int, high);
-            let len = scope.len();
-            scope.bind(name, Meaning::Turns)?;
-            visit_block(notes, scope, body)?;
-            scope.leave(len);
-            Ok(())
+            visit_bounds(notes, scope, name, *pos, low, high);
+            visit_turns(notes, scope, name, body)?;
         }
         Statement::Withonly {
-            pos: _,
             section,
             names,
             body,
+            ..
         } => {
             visit_block(notes, scope, section)?;
             let mut inner = visit_names(notes, scope, names)?;
-            visit_block(notes, &mut inner, body)
+            visit_block(notes, &mut inner, body)?;
         }
-        Statement::With { pos: _, section } => visit_block(notes, scope, section),
+        Statement::With { section, .. } => visit_block(notes, scope, section)?,
         Statement::Declare { object, .. } => {
             visit_object(notes, scope, &object.name, object.pos, &object.member);
-            Ok(())
         }
     }
+    Ok(())
+}
+
+/// Goes through the body of a loop, whose variable ends with it.
+#[cycle(statement)]
+fn visit_turns<'p, 'k>(
+    notes: &mut Notes,
+    scope: &mut Scope<'p, 'k>,
+    name: &'p Name,
+    turns: &'p Block,
+) -> Result<(), Memory>
+    ensures noted { OnOk result (Noted notes.old notes.new (block_sites scope.old.items (known name.now Turns ∷ in_scope scope.old) (block turns.now))) }
+    ensures scope { OnOk result (scope.new ≡ scope.old) }
+{
+    let len = scope.len();
+    scope.bind(name, Meaning::Turns)?;
+    visit_block(notes, scope, turns)?;
+    scope.leave(len);
+    Ok(())
 }
 
 /// Goes through the statements of a block, whose locals end with it.

@@ -63,7 +63,7 @@ pub(crate) fn number_items<'p>(
     ensures stands { OnOk result (Puts stands.old stands.new (stands_alone (declared items.now))) }
     ensures names { IfOk result (λ map. as_scope map ≡ declared items.now) }
 {
-    let mut pairs = Vec::new(alloc);
+    let mut names = ItemMap::none(alloc);
     let mut counts = Counts {
         inputs: 0,
         objects: 0,
@@ -72,7 +72,7 @@ pub(crate) fn number_items<'p>(
         let item = items.at(i);
         let stand = counts.count(item)?;
         put(stands, stand)?;
-        pairs.push((name_of(item).bytes(), stand))?;
+        names.declare(name_of(item).bytes(), stand)?;
     }
-    ItemMap::of(alloc, pairs)
+    Ok(names)
 }

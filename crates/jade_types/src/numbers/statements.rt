@@ -6,7 +6,7 @@ ghost use Rattle.jade_syntax.specs.declared.tree.ValueKind.{ValueKind};
 ghost use Rattle.jade_syntax.specs.Abstract.{Local, Assign, Store};
 ghost use Rattle.jade_syntax.specs.Image.{expression, reference, action, block as actions_of, object as place_of};
 ghost use Rattle.jade_syntax.specs.Numbering.{expression_stands, name_stands, place_stands};
-ghost use Rattle.jade_types.specs.Bodies.{Puts, Goes, GoesRound, GoesAll, names_in};
+ghost use Rattle.jade_types.specs.Bodies.{Puts, Goes, GoesRound, GoesAll, names_in, created_in, all_in};
 
 use crate::numbers::body::Body;
 use crate::numbers::expressions::{number_cell, number_expr, number_member, number_name, put};
@@ -113,9 +113,7 @@ fn number_statement<'p>(
             ..
         } => {
             number_block(body, stands, section)?;
-            number_names(body, stands, names)?;
-            let mut created = body.created(names)?;
-            number_block(&mut created, stands, task)
+            number_task(body, stands, names, task)
         }
         Statement::With { section, .. } => number_block(body, stands, section),
         Statement::Declare { object, .. } => number_object(body, stands, object),
@@ -138,6 +136,21 @@ fn number_turns<'p>(
     number_block(body, stands, turns)?;
     body.leave(outer);
     Ok(())
+}
+
+/// Goes through the names that a task is handed, and its body, whose variables they are.
+#[cycle(statement)]
+fn number_task<'p>(
+    body: &Body<'_, 'p>,
+    stands: &mut Stands,
+    names: &'p NameList,
+    task: &'p Block,
+) -> Result<(), Memory>
+    ensures { let xs = map (λ n. n.name) names.now in OnOk result (Puts stands.old stands.new (name_stands (names_in body.now) xs ++ (all_in (created_in body.now xs) (actions_of task.now)).stands)) }
+{
+    number_names(body, stands, names)?;
+    let mut created = body.created(names)?;
+    number_block(&mut created, stands, task)
 }
 
 /// Goes through the statements of a block, whose variables end with it.

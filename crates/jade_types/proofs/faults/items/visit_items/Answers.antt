@@ -1,9 +1,10 @@
-use Rattle.std.proofs.Common.{take, arith}
+use Rattle.std.proofs.Common.{ap, take, arith}
+use Rattle.jade_types.specs.Scoped.{as_names}
 use Rattle.jade_types.proofs.Counting.{items_none, items_more, items_end}
 use Rattle.jade_types.proofs.faults.items.visit_items.Goals as goal
 
 pub loop-i-init : goal.loop-i-init
-loop-i-init c = items_none c.args.notes.now c.args.items.now _ _ c.none-known.ensures c.whole-room.ensures
+loop-i-init c = items_none c.args.notes.now c.args.items.now _ _ (ap as_names c.none-known.ensures) c.whole-room.ensures
 
 pub loop-i-preserved : goal.loop-i-preserved
 loop-i-preserved c =
