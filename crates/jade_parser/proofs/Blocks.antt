@@ -4,9 +4,10 @@ use Rattle.std.specs.List.{flat_map}
 use Rattle.std.proofs.lemmas.List.{map-append}
 use Rattle.jade_parser.specs.Spelled.{Tokens, Parts, tokens_of, fixed, Fixed}
 use Rattle.jade_parser.specs.Machine.{Must, Body, Stack, goes, is_sign}
-use Rattle.jade_parser.specs.declared.Place.{Place}
+use Rattle.jade_syntax.specs.declared.shapes.place.Place.{Place}
+use Rattle.jade_syntax.specs.Shapes.{all_placed}
 use Rattle.jade_parser.specs.declared.Sign.TheVariants.{LeftBrace, RightBrace, ElseWord}
-use Rattle.jade_parser.specs.Statements.{braced, all_in}
+use Rattle.jade_parser.specs.Statements.{braced}
 
 -- `else` does not come next
 abbrev pub NotElse : Tokens → Type 0
@@ -27,24 +28,24 @@ both true b e = (refl, e)
 both false b e = absurd (cc)
 
 module _ {S : Type 0} (tok : S → Parts) (shape : S → Place → Bool) (ok : (s : S) (c : Place) → shape s c ≡ true → Goes c (tok s)) where
-  statements_begin : (c : Place) (xs : List S) (rest : Tokens) → all_in c (map shape xs) ≡ true → NotElse rest → NotElse (tokens_of (flat_map (λ t. t) (map tok xs)) ++ rest)
+  statements_begin : (c : Place) (xs : List S) (rest : Tokens) → all_placed c (map shape xs) ≡ true → NotElse rest → NotElse (tokens_of (flat_map (λ t. t) (map tok xs)) ++ rest)
   statements_begin c [] rest e n = n
   statements_begin c (x ∷ xs) rest e n =
-      let p = both (shape x c) (all_in c (map shape xs)) e in
+      let p = both (shape x c) (all_placed c (map shape xs)) e in
       rw (split_tokens (tok x) (flat_map (λ t. t) (map tok xs)) rest) ((ok x c p.0).begins (tokens_of (flat_map (λ t. t) (map tok xs)) ++ rest) (statements_begin c xs rest p.1 n))
 
-  statements_go : (c : Place) (xs : List S) (st : Stack) (rest : Tokens) → all_in c (map shape xs) ≡ true → NotElse rest
+  statements_go : (c : Place) (xs : List S) (st : Stack) (rest : Tokens) → all_placed c (map shape xs) ≡ true → NotElse rest
       → goes (tokens_of (flat_map (λ t. t) (map tok xs)) ++ rest) (Body c ∷ st) ≡ length (flat_map (λ t. t) (map tok xs)) + goes rest (Body c ∷ st)
   statements_go c [] st rest e n = omega arith
   statements_go c (x ∷ xs) st rest e n =
-      let p = both (shape x c) (all_in c (map shape xs)) e in
+      let p = both (shape x c) (all_placed c (map shape xs)) e in
       let a = (ok x c p.0).by st (tokens_of (flat_map (λ t. t) (map tok xs)) ++ rest) (statements_begin c xs rest p.1 n) in
       let b = statements_go c xs st rest p.1 n in
       let d = ap (λ l. goes l (Body c ∷ st)) (split_tokens (tok x) (flat_map (λ t. t) (map tok xs)) rest) in
       omega (arith, a, b, d, length-append (tok x) (flat_map (λ t. t) (map tok xs)))
 
   -- a block from its brace to its brace
-  pub block_goes : (c : Place) (xs : List S) (st : Stack) (rest : Tokens) → all_in c (map shape xs) ≡ true
+  pub block_goes : (c : Place) (xs : List S) (st : Stack) (rest : Tokens) → all_placed c (map shape xs) ≡ true
       → goes (tokens_of (braced (map tok xs)) ++ rest) (Must LeftBrace ∷ Body c ∷ st) ≡ length (braced (map tok xs)) + goes rest st
   block_goes c xs st rest e =
       let b = statements_go c xs st (Fixed RightBrace ∷ rest) e refl in

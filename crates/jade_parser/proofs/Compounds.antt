@@ -1,15 +1,17 @@
 -- Blocks, and the statements that hold blocks.
-use Rattle.std.proofs.Common.{◌≡◌, ℕ, ◌+◌, ◌≤◌, Bool, true, false, ◌&&◌, List, [], ◌∷◌, ◌++◌, Some, None, refl, ap, sym, ◌∙◌, length, drop, map, arith, append_assoc, append-nil}
-use Rattle.std.specs.List.{flat_map}
-use Rattle.std.proofs.lemmas.List.Folds.{flat_map-map}
+use Rattle.std.proofs.Common.{◌≡◌, ℕ, ◌+◌, ◌≤◌, Bool, true, ◌&&◌, List, [], ◌∷◌, ◌++◌, Some, None, refl, ap, sym, ◌∙◌, length, drop, arith, append_assoc, append-nil}
+use Rattle.std.specs.List.{flat_map, list_all}
+use Rattle.std.proofs.lemmas.List.Folds.{flat_map-map, list_all-append}
 use Rattle.std.proofs.lemmas.List.Concat.{flat_map-append}
 use Rattle.jade_base.specs.declared.place.Pos.{Pos}
 use Rattle.jade_syntax.specs.declared.tree.Expr.{Expr}
 use Rattle.jade_syntax.specs.declared.tree.Named.{Named}
 use Rattle.jade_syntax.specs.declared.tree.Statement.{Statement, fold_out-Statement}
 use Rattle.jade_syntax.specs.declared.tree.Statement.TheVariants.{If, For, Withonly, With, Assign, outs-If, outs-For, outs-Withonly, outs-With}
-use Rattle.jade_parser.specs.declared.Place.{Place}
-use Rattle.jade_parser.specs.declared.Place.TheVariants.{Main, Section, Amends}
+use Rattle.jade_syntax.specs.declared.shapes.place.Place.{Place}
+use Rattle.jade_syntax.specs.declared.shapes.place.Place.TheVariants.{Main, Section, Amends}
+use Rattle.jade_syntax.specs.Shapes.{is_placed}
+use Rattle.jade_syntax.proofs.Placing.{placed_opens}
 use Rattle.jade_parser.specs.declared.Sign.{Sign}
 use Rattle.jade_parser.specs.declared.Sign.TheVariants.{LeftBrace, RightBrace, LeftParen, RightParen, IfWord, ElseWord, ForWord, InWord, DotDot, WithonlyWord, DoWord, WithWord, ContWord, Semicolon}
 use Rattle.jade_parser.specs.declared.Seen.{Seen}
@@ -18,7 +20,7 @@ use Rattle.jade_parser.specs.declared.begins.Begin.{Begin}
 use Rattle.jade_parser.specs.declared.begins.Begin.TheVariants as begin
 use Rattle.jade_parser.specs.Spelled.{Tokens, Fixed, Called, Parts, fixed, marked, outer, AllValid}
 use Rattle.jade_parser.specs.Machine.{Stack, Must, NameIs, Names, Body, Else, goes, counted, expr_in, statement_sign}
-use Rattle.jade_parser.specs.Statements.{statement_parts, block_parts, name_parts, at_statement, at_shape, shaped, all_in}
+use Rattle.jade_parser.specs.Statements.{statement_parts, block_parts, name_parts, at_statement}
 use Rattle.jade_parser.specs.Reads.{Passes, Stops, Whole, OnStop, OnOther, kinds, head_sign, place_at}
 use Rattle.jade_parser.specs.Parts.{Any, Fits, FitsAll, ReadIn, RefusalIn, LongIn, OuterIn}
 use Rattle.jade_parser.specs.Forms.{Came, NoHead, ended, named_list}
@@ -85,16 +87,8 @@ block_open b = fixed LeftBrace ∷ [] ++ flat_map statement_parts b
 both_true : (a b : Bool) → a ≡ true → b ≡ true → (a && b) ≡ true
 both_true a b p q = rw (p, q) refl
 
-halves : (a b : Bool) → (a && b) ≡ true → (a ≡ true) × (b ≡ true)
-halves true b e = (refl, e)
-halves false b e = absurd (cc)
-
-more_fit : (c : Place) (b : List Statement) (s : Statement) → all_in c (map shaped b) ≡ true → shaped s c ≡ true → all_in c (map shaped (b ++ s ∷ [])) ≡ true
-more_fit c [] s p q = both_true (shaped s c) true q refl
-more_fit c (x ∷ xs) s p q = let r = halves (shaped x c) (all_in c (map shaped xs)) p in both_true (shaped x c) (all_in c (map shaped (xs ++ s ∷ []))) r.0 (more_fit c xs s r.1 q)
-
 all_fit : (c : Place) (b : List Statement) (s : Statement) → FitsAll c b → Fits c s → FitsAll c (b ++ s ∷ [])
-all_fit c b s f g = record { is = more_fit c b s f.is g.is }
+all_fit c b s f g = record { is = list_all-append (is_placed c) b (s ∷ []) ∙ both_true (list_all (is_placed c) b) (is_placed c s && true) f.is (both_true (is_placed c s) true g.is refl) }
 
 none_fit : (c : Place) → FitsAll c []
 none_fit c = record { is = refl }
@@ -133,10 +127,10 @@ if_some : (t : Expr) (b o : List Statement) → statement_parts (If t b (Some o)
 if_some t b o = fold_out-Statement Parts at_statement (If t b (Some o)) ∙ rw (outs-If t b (Some o)) (simp flat_map-map)
 
 none_fits : (c : Place) (t : Expr) (b : List Statement) → FitsAll c b → Fits c (If t b None)
-none_fits c t b f = record { is = ap (λ g. g c) (fold_out-Statement (Place → Bool) at_shape (If t b None)) ∙ rw (outs-If t b None) (both_true (all_in c (map shaped b)) true f.is refl) }
+none_fits c t b f = record { is = placed_opens c (If t b None) ∙ rw (outs-If t b None) (both_true (list_all (is_placed c) b) true f.is refl) }
 
 some_fits : (c : Place) (t : Expr) (b o : List Statement) → FitsAll c b → FitsAll c o → Fits c (If t b (Some o))
-some_fits c t b o f g = record { is = ap (λ h. h c) (fold_out-Statement (Place → Bool) at_shape (If t b (Some o))) ∙ rw (outs-If t b (Some o)) (both_true (all_in c (map shaped b)) (all_in c (map shaped o)) f.is g.is) }
+some_fits c t b o f g = record { is = placed_opens c (If t b (Some o)) ∙ rw (outs-If t b (Some o)) (both_true (list_all (is_placed c) b) (list_all (is_placed c) o) f.is g.is) }
 
 module _ (all : List Seen) (start : ℕ) (c : Place) (w : Whole all start (Body c ∷ []) (start + 1) (if_in c) (fixed IfWord ∷ [])) where
   pub test_refused : (e : Stop) → OnStop e (RefusalIn Any outer all (start + 1) expr_in) (LongIn Any outer all (start + 1)) → Halts c all start e
@@ -202,7 +196,7 @@ for_is : (n : List ℕ) (p : Pos) (l h : Expr) (b : List Statement) → statemen
 for_is n p l h b = fold_out-Statement Parts at_statement (For n p l h b) ∙ rw (outs-For n p l h b) (simp flat_map-map)
 
 for_fits : (c : Place) (n : List ℕ) (p : Pos) (l h : Expr) (b : List Statement) → FitsAll c b → Fits c (For n p l h b)
-for_fits c n p l h b f = record { is = ap (λ g. g c) (fold_out-Statement (Place → Bool) at_shape (For n p l h b)) ∙ rw (outs-For n p l h b) f.is }
+for_fits c n p l h b f = record { is = placed_opens c (For n p l h b) ∙ rw (outs-For n p l h b) f.is }
 
 -- what may follow `for`, and then the name
 abbrev some_range : Parts
@@ -296,7 +290,7 @@ withonly_is : (p : Pos) (s : List Statement) (ns : List Named) (b : List Stateme
 withonly_is p s ns b = fold_out-Statement Parts at_statement (Withonly p s ns b) ∙ rw (outs-Withonly p s ns b) (simp flat_map-map)
 
 withonly_fits : (p : Pos) (s : List Statement) (ns : List Named) (b : List Statement) → FitsAll Section s → FitsAll Main b → Fits Main (Withonly p s ns b)
-withonly_fits p s ns b f g = record { is = ap (λ h. h Main) (fold_out-Statement (Place → Bool) at_shape (Withonly p s ns b)) ∙ rw (outs-Withonly p s ns b) (both_true (all_in Section (map shaped s)) (all_in Main (map shaped b)) f.is g.is) }
+withonly_fits p s ns b f g = record { is = placed_opens Main (Withonly p s ns b) ∙ rw (outs-Withonly p s ns b) (both_true (list_all (is_placed Section) s) (list_all (is_placed Main) b) f.is g.is) }
 
 section_so : (w x : Parts) → w ++ x ++ do_word ++ paren ++ [] ++ fixed RightParen ∷ [] ++ block_parts [] ≡ w ++ (x ++ (fixed DoWord ∷ fixed LeftParen ∷ fixed RightParen ∷ block_parts []))
 section_so w x = simp (append_assoc, append-nil)
@@ -375,7 +369,7 @@ with_is : (p : Pos) (s : List Statement) → statement_parts (With p s) ≡ mark
 with_is p s = fold_out-Statement Parts at_statement (With p s) ∙ rw (outs-With p s) (simp flat_map-map)
 
 with_fits : (p : Pos) (s : List Statement) → FitsAll Amends s → Fits Main (With p s)
-with_fits p s f = record { is = ap (λ h. h Main) (fold_out-Statement (Place → Bool) at_shape (With p s)) ∙ rw (outs-With p s) f.is }
+with_fits p s f = record { is = placed_opens Main (With p s) ∙ rw (outs-With p s) f.is }
 
 cont_so : (w x y z : Parts) → w ++ x ++ y ++ z ≡ w ++ (x ++ (y ++ z))
 cont_so w x y z = simp append_assoc

@@ -1,5 +1,5 @@
 -- The tokens of each tree tell their numbers within their outermost expression.
-use Rattle.std.proofs.Common.{◌≡◌, ℕ, ◌+◌, Bool, true, false, List, [], ◌∷◌, ◌++◌, Option, Some, None, refl, ap, sym, ◌∙◌}
+use Rattle.std.proofs.Common.{◌≡◌, ℕ, Bool, true, false, List, [], ◌∷◌, ◌++◌, Option, Some, None, refl}
 use Rattle.std.specs.List.{flat_map}
 use Rattle.std.proofs.lemmas.List.Folds.{flat_map-map}
 use Rattle.jade_base.specs.declared.place.Pos.{Pos}
@@ -12,7 +12,7 @@ use Rattle.jade_syntax.specs.declared.tree.ProductOp.TheVariants.{Times, Over, R
 use Rattle.jade_syntax.specs.declared.tree.UnaryOp.{UnaryOp}
 use Rattle.jade_syntax.specs.declared.tree.UnaryOp.TheVariants.{Negative, Not}
 use Rattle.jade_syntax.specs.declared.tree.Atom.{Atom, fold-roll-Atom, map-Atom}
-use Rattle.jade_syntax.specs.declared.tree.Atom.TheOpen.{Atom-F, AndExpr-F, CellRef-F, Compare-F, Expr-F, Product-F, Sum-F, Unary-F}
+use Rattle.jade_syntax.specs.declared.tree.Atom.TheOpen.{Atom-F, CellRef-F, Compare-F}
 use Rattle.jade_syntax.specs.declared.tree.AndExpr.{AndExpr, fold-roll-AndExpr}
 use Rattle.jade_syntax.specs.declared.tree.CellRef.{CellRef, fold-roll-CellRef, map-CellRef}
 use Rattle.jade_syntax.specs.declared.tree.Compare.{Compare, fold-roll-Compare, map-Compare}

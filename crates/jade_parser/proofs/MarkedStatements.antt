@@ -1,5 +1,5 @@
 -- The tokens of statements tell their numbers within their outermost expressions.
-use Rattle.std.proofs.Common.{◌≡◌, ℕ, ◌+◌, List, [], ◌∷◌, ◌++◌, Option, Some, None, refl, ap, sym, ◌∙◌, map}
+use Rattle.std.proofs.Common.{◌≡◌, ℕ, List, [], ◌∷◌, ◌++◌, Option, Some, None, refl, ap, map}
 use Rattle.std.specs.List.{flat_map}
 use Rattle.jade_base.specs.declared.place.Pos.{Pos}
 use Rattle.jade_syntax.specs.declared.tree.Expr.{Expr}
@@ -13,8 +13,8 @@ use Rattle.jade_syntax.specs.declared.tree.DeclareWord.TheVariants.{Rd, Wr, RdWr
 use Rattle.jade_syntax.specs.declared.tree.Statement.{Statement, map-Statement, fold-roll-Statement, ind-Statement}
 use Rattle.jade_syntax.specs.declared.tree.Statement.TheOpen.{Statement-F}
 use Rattle.jade_parser.specs.declared.Sign.TheVariants.{LeftBracket, RightBracket, LeftParen, RightParen, LeftBrace, RightBrace, Becomes, Semicolon, Comma, DotDot, IfWord, ElseWord, ForWord, InWord, WithonlyWord, WithWord, DoWord, ContWord, MainWord}
-use Rattle.jade_parser.specs.Spelled.{Part, Parts, Fixed, Called, plain, fixed, marked, bracketed, outer, expr_parts}
-use Rattle.jade_parser.specs.Statements.{kind_word, declare_word, outer_index, object_parts, target_parts, braced, more_names, name_parts, else_parts, at_statement, statement_parts, block_parts}
+use Rattle.jade_parser.specs.Spelled.{Parts, Fixed, Called, plain, fixed, marked, bracketed, outer, expr_parts}
+use Rattle.jade_parser.specs.Statements.{kind_word, declare_word, outer_index, object_parts, target_parts, braced, name_parts, else_parts, at_statement, statement_parts, block_parts}
 use Rattle.jade_syntax.specs.declared.tree.Item.{Item}
 use Rattle.jade_syntax.specs.declared.tree.Item.TheVariants.{Input, Single, Family}
 use Rattle.jade_syntax.specs.declared.tree.Program.{Program}

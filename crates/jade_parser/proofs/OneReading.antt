@@ -1,10 +1,10 @@
 -- Tokens are read in one way: as a program's, or as refused at one place.
-use Rattle.std.proofs.Common.{◌≡◌, ℕ, zero, suc, ◌+◌, ◌<◌, ◌≤◌, Bool, true, false, ◌&&◌, nat_le, List, [], ◌∷◌, ◌++◌, refl, ap, sym, ◌∙◌, subst, map, take, length, arith, append_assoc, append-nil, length-append}
+use Rattle.std.proofs.Common.{◌≡◌, ℕ, zero, suc, ◌+◌, ◌<◌, ◌≤◌, Bool, true, false, ◌&&◌, nat_le, List, [], ◌∷◌, ◌++◌, refl, ap, sym, ◌∙◌, map, take, length, arith, append_assoc, append-nil, length-append}
 use Rattle.std.specs.List.{list_all}
-use Rattle.std.proofs.lemmas.List.{map-append, length-map, take_at, take_all, length-take-le, take-append-drop}
+use Rattle.std.proofs.lemmas.List.{map-append, length-map, take_at, take_all, length-take-le}
 use Rattle.std.proofs.lemmas.List.Folds.{list_all-append, list_all-map}
 use Rattle.jade_syntax.specs.declared.tree.Program.{Program}
-use Rattle.jade_parser.specs.Spelled.{Token, Tokens, Part, Parts, tokens_of, is_valid, AllValid, AllShort}
+use Rattle.jade_parser.specs.Spelled.{Tokens, Part, Parts, tokens_of, is_valid, AllShort}
 use Rattle.jade_parser.specs.Kinds.{token_bytes, token_of_bytes}
 use Rattle.jade_parser.specs.Programs.{program_parts}
 use Rattle.jade_lexer.specs.Lexemes.{TokenList}
@@ -13,7 +13,7 @@ use Rattle.jade_parser.specs.declared.ParseError.TheVariants.{Token as AtToken, 
 use Rattle.jade_parser.specs.Grammar.{bytes_of, texts, place_of, IsProgram, IsReading, IsBegun, IsBegunShort, IsRefused, IsTooLong, IsRefusal}
 use Rattle.jade_parser.specs.OneReading.{SameRefusal, IsMemory}
 use Rattle.jade_parser.proofs.Known.{back, both_true}
-use Rattle.jade_parser.proofs.Marking.{Standing, Before, marks, after, role, stands_after, nths, marks_append, Goes}
+use Rattle.jade_parser.proofs.Marking.{Standing, Before, marks, after, role, stands_after, nths, marks_append}
 use Rattle.jade_parser.proofs.MarkedStatements.{program_goes}
 
 -- numbers of tokens, none past the 256th

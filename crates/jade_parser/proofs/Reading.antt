@@ -85,5 +85,5 @@ none_valid = record { is = refl }
 
 pub lift : (e : Stop) (P Q : ℕ → Type 0) → ((k : ℕ) → P k → Q k) → OnToken e P → OnToken e Q
 lift (AtToken k) P Q h p = h k p
-lift (Long k) P Q h p = tt
+lift (Long k) P Q h p = p
 lift Memory P Q h p = tt

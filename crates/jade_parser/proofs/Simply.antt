@@ -8,10 +8,12 @@ use Rattle.jade_syntax.specs.declared.tree.ValueKind.{ValueKind}
 use Rattle.jade_syntax.specs.declared.tree.DeclareWord.{DeclareWord}
 use Rattle.jade_syntax.specs.declared.tree.Statement.{fold_out-Statement}
 use Rattle.jade_syntax.specs.declared.tree.Statement.TheVariants.{Local, Assign, Store, Declare, outs-Local, outs-Assign, outs-Store, outs-Declare}
+use Rattle.jade_syntax.specs.Shapes.{declares, is_main}
+use Rattle.jade_syntax.proofs.Placing.{placed_opens}
 use Rattle.jade_parser.specs.Spelled.{Token, Tokens, Fixed, Called, Counted, Odd, Part, Parts, AllValid, plain, fixed, marked, outer}
-use Rattle.jade_parser.specs.Machine.{Stack, goes, Must, NameIs, Named, Body, Second, expr_in, declares, is_main, is_sign}
-use Rattle.jade_parser.specs.Statements.{statement_parts, at_statement, at_shape, kind_word, declare_word, word_sign, target_parts}
-use Rattle.jade_parser.specs.declared.Place.{Place}
+use Rattle.jade_parser.specs.Machine.{Stack, goes, Must, NameIs, Named, Body, Second, expr_in, is_sign}
+use Rattle.jade_parser.specs.Statements.{statement_parts, at_statement, kind_word, declare_word, target_parts}
+use Rattle.jade_syntax.specs.declared.shapes.place.Place.{Place}
 use Rattle.jade_parser.specs.declared.Sign.TheVariants.{LeftParen, RightParen, LeftBracket, RightBracket, Semicolon, Becomes}
 use Rattle.jade_parser.specs.declared.Seen.{Seen}
 use Rattle.jade_parser.specs.declared.Stop.{Stop}
@@ -43,7 +45,7 @@ local_is : (k : ValueKind) (n : List ℕ) (p : Pos) (x : Expr) → statement_par
 local_is k n p x = fold_out-Statement Parts at_statement (Local k n p x) ∙ rw (outs-Local k n p x) refl
 
 local_fits : (c : Place) (k : ValueKind) (n : List ℕ) (p : Pos) (x : Expr) → Fits c (Local k n p x)
-local_fits c k n p x = record { is = ap (λ f. f c) (fold_out-Statement (Place → Bool) at_shape (Local k n p x)) ∙ rw (outs-Local k n p x) refl }
+local_fits c k n p x = record { is = placed_opens c (Local k n p x) ∙ rw (outs-Local k n p x) refl }
 
 abbrev local_in : Place → Stack
 local_in c = NameIs ∷ Must Becomes ∷ expr_in ++ Must Semicolon ∷ Body c ∷ []
@@ -87,19 +89,19 @@ local_read all start at next end c k n p x is w q r v =
 declare_is : (k : DeclareWord) (p : Pos) (x : ObjectRef) → statement_parts (Declare k p x) ≡ marked (declare_word k) p ∷ declared x
 declare_is k p x = fold_out-Statement Parts at_statement (Declare k p x) ∙ rw (outs-Declare k p x) refl
 
-declare_fits : (c : Place) (k : DeclareWord) (p : Pos) (x : ObjectRef) → declares c (word_sign k) ≡ true → Fits c (Declare k p x)
-declare_fits c k p x h = record { is = ap (λ f. f c) (fold_out-Statement (Place → Bool) at_shape (Declare k p x)) ∙ rw (outs-Declare k p x) h }
+declare_fits : (c : Place) (k : DeclareWord) (p : Pos) (x : ObjectRef) → declares c k ≡ true → Fits c (Declare k p x)
+declare_fits c k p x h = record { is = placed_opens c (Declare k p x) ∙ rw (outs-Declare k p x) h }
 
 abbrev declared_in : Stack
 declared_in = Must LeftParen ∷ NameIs ∷ Second ∷ Must RightParen ∷ Must Semicolon ∷ []
 
-pub declare_refused : (all : List Seen) (start : ℕ) (c : Place) (k : DeclareWord) (e : Stop) → declares c (word_sign k) ≡ true → Whole all start (Body c ∷ []) (start + 1) (Must LeftParen ∷ NameIs ∷ Second ∷ Must RightParen ∷ Must Semicolon ∷ Body c ∷ []) (marked (declare_word k) (place_at all start) ∷ [])
+pub declare_refused : (all : List Seen) (start : ℕ) (c : Place) (k : DeclareWord) (e : Stop) → declares c k ≡ true → Whole all start (Body c ∷ []) (start + 1) (Must LeftParen ∷ NameIs ∷ Second ∷ Must RightParen ∷ Must Semicolon ∷ Body c ∷ []) (marked (declare_word k) (place_at all start) ∷ [])
     → OnStop e (RefusalIn Any declared all (start + 1) declared_in) (LongIn Any declared all (start + 1)) → OnStop e (RefusalIn (Fits c) statement_parts all start (Body c ∷ [])) (LongIn (Fits c) statement_parts all start)
 declare_refused all start c k e h w o =
     after (Fits c) Any statement_parts declared all start (start + 1) (Body c ∷ []) declared_in (Body c ∷ []) (marked (declare_word k) (place_at all start) ∷ []) (λ y. Declare k (place_at all start) y) [] e
     (λ y. declare_is k (place_at all start) y ∙ ap (λ l. marked (declare_word k) (place_at all start) ∷ l) (sym (append-nil (declared y)))) (λ y _. declare_fits c k (place_at all start) y h) (record { is = refl }) (came_marked w) o
 
-pub declare_read : (all : List Seen) (start end : ℕ) (c : Place) (k : DeclareWord) (p : Pos) (x : ObjectRef) → p ≡ place_at all start → declares c (word_sign k) ≡ true → Whole all start (Body c ∷ []) (start + 1) (Must LeftParen ∷ NameIs ∷ Second ∷ Must RightParen ∷ Must Semicolon ∷ Body c ∷ []) (marked (declare_word k) (place_at all start) ∷ [])
+pub declare_read : (all : List Seen) (start end : ℕ) (c : Place) (k : DeclareWord) (p : Pos) (x : ObjectRef) → p ≡ place_at all start → declares c k ≡ true → Whole all start (Body c ∷ []) (start + 1) (Must LeftParen ∷ NameIs ∷ Second ∷ Must RightParen ∷ Must Semicolon ∷ Body c ∷ []) (marked (declare_word k) (place_at all start) ∷ [])
     → Came all (start + 1) declared_in end [] (declared x) → ReadIn (Fits c) statement_parts all start (Body c ∷ []) end (Body c ∷ []) (Declare k p x)
 declare_read all start end c k p x is h w v = rw is (
     read_in (Fits c) statement_parts all start (start + 1) end (Body c ∷ []) (Body c ∷ []) (marked (declare_word k) (place_at all start) ∷ declared x) (Declare k (place_at all start) x) (declare_is k (place_at all start) x) (declare_fits c k (place_at all start) x h) (omega arith) v.whole.reads.forward
@@ -111,7 +113,7 @@ pub assign_is : (n : List ℕ) (p : Pos) (x : Expr) → statement_parts (Assign 
 assign_is n p x = fold_out-Statement Parts at_statement (Assign n p x) ∙ rw (outs-Assign n p x) refl
 
 pub assign_fits : (c : Place) (n : List ℕ) (p : Pos) (x : Expr) → Fits c (Assign n p x)
-assign_fits c n p x = record { is = ap (λ f. f c) (fold_out-Statement (Place → Bool) at_shape (Assign n p x)) ∙ rw (outs-Assign n p x) refl }
+assign_fits c n p x = record { is = placed_opens c (Assign n p x) ∙ rw (outs-Assign n p x) refl }
 
 pub assign_refused : (all : List Seen) (start next : ℕ) (c : Place) (n : List ℕ) (p : Pos) (e : Stop) → Came all start (Body c ∷ []) next (expr_in ++ Must Semicolon ∷ Body c ∷ []) (marked (Called n) p ∷ fixed Becomes ∷ [])
     → OnStop e (RefusalIn Any (ended Semicolon) all next (expr_in ++ Must Semicolon ∷ [])) (LongIn Any (ended Semicolon) all next) → OnStop e (RefusalIn (Fits c) statement_parts all start (Body c ∷ [])) (LongIn (Fits c) statement_parts all start)
@@ -142,7 +144,7 @@ store_is n p o i x =
     (ap (λ l. ((l ++ fixed Becomes ∷ []) ++ outer x) ++ fixed Semicolon ∷ []) (target_is n p o i) ∙ append_assoc (stored n p (o, i) ++ fixed Becomes ∷ []) (outer x) (fixed Semicolon ∷ []))
 
 store_fits : (c : Place) (t : CellRef) (x : Expr) → is_main c ≡ true → Fits c (Store t x)
-store_fits c t x h = record { is = ap (λ f. f c) (fold_out-Statement (Place → Bool) at_shape (Store t x)) ∙ rw (outs-Store t x) h }
+store_fits c t x h = record { is = placed_opens c (Store t x) ∙ rw (outs-Store t x) h }
 
 abbrev store_in : Place → Stack
 store_in c = expr_in ++ Must RightBracket ∷ Second ∷ Must Becomes ∷ expr_in ++ Must Semicolon ∷ Body c ∷ []

@@ -3,9 +3,13 @@ use Rattle.std.proofs.Common.{◌≡◌, ℕ, zero, suc, ◌+◌, ◌<◌, ◌�
 use Rattle.std.specs.List.{list_all}
 use Rattle.std.proofs.lemmas.List.{get_or-map, length-map, drop_all}
 use Rattle.jade_base.specs.declared.place.Pos.{Pos}
+use Rattle.jade_syntax.specs.declared.name.NameError.{NameError}
+use Rattle.jade_syntax.specs.declared.name.NameError.TheVariants.{Shape, Memory as NoMemory}
+use Rattle.jade_syntax.specs.Names.{is_name}
+use Rattle.jade_syntax.specs.Refusals.{IsNameRefusal}
 use Rattle.jade_parser.specs.Spelled.{Token, Tokens, Fixed, Called, Counted, Odd, marked, fixed, sum_sign, product_sign, relation_sign, unary_sign}
 use Rattle.jade_parser.specs.Machine.{Need, Rest, First, Must, Stack, goes, sum_in, product_in, same_sign}
-use Rattle.jade_parser.specs.Reads.{kinds, place_at, KeptAt, is_known, token_of, head_sign, Reads, Passes, Whole, Stops, NoUnary}
+use Rattle.jade_parser.specs.Reads.{kinds, place_at, KeptAt, is_known, Known, token_of, head_sign, Reads, Passes, Whole, Stops, NoUnary}
 use Rattle.jade_parser.specs.Ops.{sum_of, product_of, relation_of, unary_of}
 use Rattle.jade_parser.specs.declared.Seen.{Seen}
 use Rattle.jade_parser.specs.declared.Kind.{Kind}
@@ -519,6 +523,15 @@ pub called_taken : (xs : List Seen) (at : ℕ) (d : Seen) (b : _) (ys zs : Stack
 called_taken xs at d b ys zs lt e step =
     let h : drop at (kinds xs) ≡ Called b.now ∷ drop (at + 1) (kinds xs) = here xs at d lt ∙ rw e refl in
     record { reads = called_reads xs at b.now lt h; passes = record { by = λ st. rw h (let k = step (drop (at + 1) (kinds xs)) st in omega (arith, k)) } }
+
+-- what stands as a name among known tokens is one
+pub called_known : {xs : List Seen} {a b : ℕ} {ys zs : Stack} {n : List ℕ} {p : Pos} → Whole xs a ys b zs (marked (Called n) p ∷ []) → Known xs → is_name n ≡ true
+called_known {xs} {a} {b} {ys} {zs} {n} {p} w k = (both (is_name n) true (w.reads.valid k).is).0
+
+-- a name is not refused for its shape
+pub never_shape : (n : List ℕ) (e : NameError) → is_name n ≡ true → IsNameRefusal n e → e ≡ Shape → ⊥
+never_shape n Shape v r k = absurd (cc)
+never_shape n NoMemory v r k = absurd (cc)
 
 -- a number, where a number may stand
 pub counted_taken : (xs : List Seen) (at : ℕ) (d : Seen) (v : ℤ) (ys zs : Stack) → at < length xs → (get_or xs at d).kind ≡ KCounted v

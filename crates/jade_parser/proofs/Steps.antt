@@ -22,9 +22,9 @@ use Rattle.jade_parser.specs.Machine.{Stack, Need, Rest, Second, Must, unary_in,
 use Rattle.jade_parser.specs.declared.Seen.{Seen}
 use Rattle.jade_parser.specs.declared.Stop.{Stop}
 use Rattle.jade_parser.specs.declared.Stop.TheVariants.{Token as AtToken, Long, Memory}
-use Rattle.jade_parser.specs.Reads.{place_at, Stops, Whole, Refusal, OnToken, OnStop, OnOther, closed, head_sign, kinds}
+use Rattle.jade_parser.specs.Reads.{place_at, Stops, Passes, Whole, Refusal, OnToken, OnStop, OnOther, closed, head_sign, kinds}
 use Rattle.jade_parser.proofs.Spelling.{unary_opens, group_made}
-use Rattle.jade_parser.proofs.Reading.{whole_none, whole_on, whole_under, refusal_under, refused_on, lift, reads_none, none_valid}
+use Rattle.jade_parser.proofs.Reading.{whole_past, whole_none, whole_on, whole_under, refusal_under, refused_on, lift, reads_none, none_valid}
 use Rattle.jade_parser.proofs.Standing.{takes_marked}
 
 pub residual : {T : Type 0} (r : Result T Stop) (e : Stop) (P : T → Type 0) (Q : Stop → Type 0) → IsErrAnd r (λ y. y ≡ e) → Q e → MatchResult r P Q
@@ -87,7 +87,7 @@ closed_first all start closer e le o = lift e (Refusal expr_parts all start expr
 
 only_token : (e : Stop) (P : ℕ → Type 0) → OnStop e P (λ k. ⊥) → OnToken e P
 only_token (AtToken k) P o = o
-only_token (Long k) P o = elim o [ ]
+only_token (Long k) P o = o
 only_token Memory P o = tt
 
 -- after the expression another token than the closing one stands
@@ -131,6 +131,10 @@ pub cell_both : (all : List Seen) (start next at then end : ℕ) (n : List ℕ) 
     → Whole all next (expr_in ++ Must RightBracket ∷ []) at [] (closed RightBracket x) → Whole all at (Second ∷ []) then (expr_in ++ Must RightBracket ∷ []) (fixed LeftBracket ∷ [])
     → Whole all then (expr_in ++ Must RightBracket ∷ []) end [] (closed RightBracket y) → Whole all start unary_in end [] (cell_parts (roll-CellRef (record { name = n; pos = p; family = Some x; cell = y })))
 cell_both all start next at then end n p x y w q step r = rw (member_made n p x y) (whole_on (whole_on w (whole_under (Second ∷ []) q)) (whole_on step r))
+
+pub cell_alone : (all : List Seen) (start next at : ℕ) (n : List ℕ) (p : Pos) (x : Expr) → Whole all start (Need ∷ []) next (expr_in ++ Must RightBracket ∷ Second ∷ []) (marked (Called n) p ∷ fixed LeftBracket ∷ [])
+    → Whole all next (expr_in ++ Must RightBracket ∷ []) at [] (closed RightBracket x) → Passes all at (Second ∷ []) at [] → Whole all start unary_in at [] (cell_parts (roll-CellRef (record { name = n; pos = p; family = None; cell = x })))
+cell_alone all start next at n p x w q none = rw (single_made n p x) (whole_past (whole_on w (whole_under (Second ∷ []) q)) none)
 
 abbrev pub truth_sign : Bool → Sign
 truth_sign true = TrueWord

@@ -78,7 +78,8 @@ module _ (ts : TokenList) (all : List Seen) (seen : IsSeen ts.lexemes all) where
       let c : length (map token_of_bytes (texts ts)) ≡ length (texts ts) = length-map (texts ts) _ in
       omega arith
 
-  seen_known : Known all
+  -- each token that was seen may stand in a program, or is odd
+  pub seen_known : Known all
   seen_known = record { is = rw seen_as (all_known (texts ts)) }
 
   first_read : (k : ℕ) (ps : Parts) → Reads all 0 k ps → bytes_of ps ≡ take k (texts ts)

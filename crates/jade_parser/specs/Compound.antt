@@ -1,16 +1,17 @@
 -- What a parser of a statement of a block promises.
 use Rattle.std.specs.Prelude.{◌≡◌, ℕ, true, ◌+◌, List, [], ◌∷◌, ◌++◌, Option, Result, MatchOption, MatchResult}
 use Rattle.jade_syntax.specs.declared.tree.Statement.{Statement}
-use Rattle.jade_parser.specs.declared.Place.{Place}
-use Rattle.jade_parser.specs.declared.Place.TheVariants.{Main, Section, Amends}
+use Rattle.jade_syntax.specs.declared.shapes.place.Place.{Place}
+use Rattle.jade_syntax.specs.declared.shapes.place.Place.TheVariants.{Main, Section, Amends}
+use Rattle.jade_syntax.specs.Shapes.{declares}
 use Rattle.jade_parser.specs.declared.Seen.{Seen}
 use Rattle.jade_parser.specs.declared.Stop.{Stop}
 use Rattle.jade_parser.specs.declared.begins.Begin.{Begin}
 use Rattle.jade_parser.specs.declared.begins.Begin.TheVariants.{Local, If, For, Withonly, With, Declare, Closing, Nothing}
 use Rattle.jade_parser.specs.declared.Sign.TheVariants.{LeftBrace, RightBrace, LeftParen, RightParen, InWord, DotDot, DoWord, ContWord, Semicolon, Becomes, IfWord, ForWord, WithonlyWord, WithWord}
 use Rattle.jade_parser.specs.Spelled.{Fixed, plain, fixed, marked}
-use Rattle.jade_parser.specs.Machine.{Stack, Must, NameIs, Names, Second, Body, Else, expr_in, declares}
-use Rattle.jade_parser.specs.Statements.{statement_parts, kind_word, declare_word, word_sign}
+use Rattle.jade_parser.specs.Machine.{Stack, Must, NameIs, Names, Second, Body, Else, expr_in}
+use Rattle.jade_parser.specs.Statements.{statement_parts, kind_word, declare_word}
 use Rattle.jade_parser.specs.Reads.{Whole, Stops, OnStop, place_at}
 use Rattle.jade_parser.specs.Parts.{Fits, ReadIn, RefusalIn, LongIn}
 
@@ -22,12 +23,15 @@ block_in c = Must LeftBrace ∷ Body c ∷ []
 abbrev pub if_in : Place → Stack
 if_in c = expr_in ++ Must LeftBrace ∷ Body c ∷ Else c ∷ Body c ∷ []
 
+-- the same after `for`
 abbrev pub for_in : Place → Stack
 for_in c = NameIs ∷ Must InWord ∷ expr_in ++ Must DotDot ∷ expr_in ++ Must LeftBrace ∷ Body c ∷ Body c ∷ []
 
+-- the same after `withonly`
 abbrev pub withonly_in : Stack
 withonly_in = Must LeftBrace ∷ Body Section ∷ Must DoWord ∷ Must LeftParen ∷ Names ∷ Must LeftBrace ∷ Body Main ∷ Body Main ∷ []
 
+-- the same after `with`
 abbrev pub with_in : Stack
 with_in = Must LeftBrace ∷ Body Amends ∷ Must ContWord ∷ Must Semicolon ∷ Body Main ∷ []
 
@@ -39,7 +43,7 @@ BeginAt c all at For = Whole all at (Body c ∷ []) (at + 1) (for_in c) (fixed F
 BeginAt c all at Withonly = (c ≡ Main) × Whole all at (Body Main ∷ []) (at + 1) withonly_in (marked (Fixed WithonlyWord) (place_at all at) ∷ [])
 BeginAt c all at With = (c ≡ Main) × Whole all at (Body Main ∷ []) (at + 1) with_in (marked (Fixed WithWord) (place_at all at) ∷ [])
 BeginAt c all at (Declare w) =
-    (declares c (word_sign w) ≡ true) × Whole all at (Body c ∷ []) (at + 1) (Must LeftParen ∷ NameIs ∷ Second ∷ Must RightParen ∷ Must Semicolon ∷ Body c ∷ []) (marked (declare_word w) (place_at all at) ∷ [])
+    (declares c w ≡ true) × Whole all at (Body c ∷ []) (at + 1) (Must LeftParen ∷ NameIs ∷ Second ∷ Must RightParen ∷ Must Semicolon ∷ Body c ∷ []) (marked (declare_word w) (place_at all at) ∷ [])
 BeginAt c all at Closing = Whole all at (Body c ∷ []) (at + 1) [] (fixed RightBrace ∷ [])
 BeginAt c all at Nothing = Stops all at (Body c ∷ []) at
 

@@ -35,6 +35,7 @@ abbrev pub first_index : Option Expr → Expr → Parts
 first_index None c = ended RightBracket c
 first_index (Some o) c = ended RightBracket o ++ bracketed (outer c)
 
+-- the indexes of a target, the first bracket left out
 abbrev pub indexes : Option Expr × Expr → Parts
 indexes p = first_index p.0 p.1
 

@@ -71,6 +71,7 @@ pub record IsTooLong (ts : List (List ℕ)) (k : ℕ) : Type 0 where
   pub short : AllShort read
   pub too_many : last.nth ≡ 257
 
+-- the place of a token of a list, or another where there is none
 abbrev pub place_or : List TokenAt → ℕ → Pos → Pos
 place_or [] k end = end
 place_or (t ∷ ts) zero end = t.pos
@@ -80,11 +81,13 @@ place_or (t ∷ ts) (suc k) end = place_or ts k end
 abbrev pub place_of : TokenList → ℕ → Pos
 place_of ts k = place_or ts.lexemes k ts.end
 
+-- the tokens are refused at a place: that of the first refused token, or of the end
 pub record IsRefusedAt (ts : TokenList) (p : Pos) : Type 0 where
   pub number : ℕ
   pub refused : IsRefused (texts ts) number
   pub at : p ≡ place_of ts number
 
+-- an outermost expression is too long at a place: that of its 257th token
 pub record IsTooLongAt (ts : TokenList) (p : Pos) : Type 0 where
   pub number : ℕ
   pub too_long : IsTooLong (texts ts) number

@@ -108,14 +108,17 @@ abbrev pub sign_among : List Sign → List ℕ → Option Sign
 sign_among [] bytes = None
 sign_among (s ∷ signs) bytes = if same_name bytes (sign_bytes s) then Some s else sign_among signs bytes
 
+-- the first of two that is there
 abbrev pub first_of : Option Sign → Option Sign → Option Sign
 first_of (Some s) later = Some s
 first_of None later = later
 
+-- the first sign of some groups that has these bytes
 abbrev pub sign_in : List (List Sign) → List ℕ → Option Sign
 sign_in [] bytes = None
 sign_in (signs ∷ groups) bytes = first_of (sign_among signs bytes) (sign_in groups bytes)
 
+-- the words and symbols of the language
 abbrev pub all_signs : List (List Sign)
 all_signs = item_signs ∷ statement_signs ∷ access_signs ∷ change_signs ∷ bracket_signs ∷ mark_signs ∷ relation_signs ∷ operator_signs ∷ []
 
@@ -147,6 +150,7 @@ has_needless_zero (b ∷ c ∷ bytes) = b == 48
 abbrev pub is_counted : List ℕ → Bool
 is_counted bytes = is_small_run bytes && not (has_needless_zero bytes)
 
+-- these bytes write this number
 pub record IsNumber (bytes : List ℕ) (v : ℤ) : Type 0 where
   pub counted : is_counted bytes ≡ true
   pub value : v ≡ ℤ.pos (value_after 0 bytes)
@@ -155,6 +159,7 @@ pub record IsNumber (bytes : List ℕ) (v : ℤ) : Type 0 where
 abbrev pub plain_token : List ℕ → Token
 plain_token bytes = if is_free bytes then Called bytes else (if is_counted bytes then Counted (ℤ.pos (value_after 0 bytes)) else Odd)
 
+-- the sign, where there is one, and else what is plain
 abbrev pub sign_or : Option Sign → Token → Token
 sign_or (Some s) plain = Fixed s
 sign_or None plain = plain

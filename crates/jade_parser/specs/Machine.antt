@@ -1,11 +1,15 @@
 -- What may still come.
 use Rattle.std.specs.Prelude.{ℕ, ◌+◌, ◌==◌, Bool, true, false, ◌&&◌, cond, List, [], ◌∷◌, ◌++◌, Option, Some, None}
-use Rattle.jade_parser.specs.declared.Place.{Place}
-use Rattle.jade_parser.specs.declared.Place.TheVariants.{Main, Section, Amends}
+use Rattle.jade_syntax.specs.declared.shapes.place.Place.{Place}
+use Rattle.jade_syntax.specs.declared.shapes.place.Place.TheVariants.{Main, Section, Amends}
+use Rattle.jade_syntax.specs.declared.tree.DeclareWord.{DeclareWord}
+use Rattle.jade_syntax.specs.Shapes.{declares, is_main}
 use Rattle.jade_parser.specs.declared.Sign.{Sign}
 use Rattle.jade_parser.specs.declared.Sign.TheVariants.{EqualSign, UnequalSign, LessSign, LessEqualSign, GreaterSign, GreaterEqualSign, PlusSign, MinusSign, TimesSign, OverSign, PercentSign, NotSign, TrueWord, FalseWord, LeftBracket, RightBracket, LeftParen, RightParen, AndSign, OrSign, Semicolon, Becomes, LeftBrace, RightBrace, IfWord, ElseWord, ForWord, InWord, DotDot, IntWord, BoolWord, WithonlyWord, WithWord, DoWord, ContWord, Comma, RdWord, WrWord, RdWrWord, DfRdWord, DfWrWord, DfRdWrWord, NoRdWord, NoWrWord, NoRdWrWord, InputWord, ObjectWord, ObjectsWord, MainWord, Colon}
+use Rattle.jade_parser.specs.Ops.{declare_of}
 use Rattle.jade_parser.specs.Spelled.{Token, Tokens, Fixed, Called, Counted, Odd}
 
+-- What is asked for: an operand (`Need`); what goes on with a chain of a level (`Rest`), a first or a second index or an `else`, each of which may fail to come; a sign; a name; the statements of a block up to its brace; what follows the name that begins a statement; the names of a `do` list, or more of them; a number; items up to `main`
 pub data Symbol : Type 0 where
   Need : Symbol
   Rest : ℕ → Symbol
@@ -21,6 +25,7 @@ pub data Symbol : Type 0 where
   NumberIs : Symbol
   Items : Symbol
 
+-- what is asked for, the next first
 abbrev pub Stack : Type 0
 Stack = List Symbol
 
@@ -42,27 +47,34 @@ sign_rank AndSign = 4
 sign_rank OrSign = 5
 sign_rank s = 6
 
+-- the same of a token; what is no operator goes on with no chain
 abbrev pub rank : Token → ℕ
 rank (Fixed s) = sign_rank s
 rank (Called n) = 6
 rank (Counted v) = 6
 rank Odd = 6
 
+-- an operand with its signs
 abbrev pub unary_in : Stack
 unary_in = Need ∷ []
 
+-- a product
 abbrev pub product_in : Stack
 product_in = Need ∷ Rest 1 ∷ []
 
+-- a sum
 abbrev pub sum_in : Stack
 sum_in = Need ∷ Rest 1 ∷ Rest 2 ∷ []
 
+-- a comparison
 abbrev pub compare_in : Stack
 compare_in = Need ∷ Rest 1 ∷ Rest 2 ∷ Rest 3 ∷ []
 
+-- a chain of `&&`
 abbrev pub and_in : Stack
 and_in = Need ∷ Rest 1 ∷ Rest 2 ∷ Rest 3 ∷ Rest 4 ∷ []
 
+-- an expression
 abbrev pub expr_in : Stack
 expr_in = Need ∷ Rest 1 ∷ Rest 2 ∷ Rest 3 ∷ Rest 4 ∷ Rest 5 ∷ []
 
@@ -77,6 +89,7 @@ asks (Fixed OverSign) = product_in
 asks (Fixed PercentSign) = product_in
 asks t = sum_in
 
+-- what is asked for after a token that stands where an operand is asked for
 abbrev pub need : Token → Stack → Option Stack
 need (Counted v) st = Some st
 need (Called n) st = Some (First ∷ st)
@@ -88,6 +101,7 @@ need (Fixed LeftParen) st = Some (expr_in ++ Must RightParen ∷ st)
 need (Fixed s) st = None
 need Odd st = None
 
+-- two signs are one
 abbrev pub same_sign : Sign → Sign → Bool
 same_sign TrueWord TrueWord = true
 same_sign FalseWord FalseWord = true
@@ -141,28 +155,19 @@ same_sign MainWord MainWord = true
 same_sign Colon Colon = true
 same_sign a b = false
 
+-- a token is this sign
 abbrev pub is_sign : Sign → Token → Bool
 is_sign s (Fixed t) = same_sign s t
 is_sign s (Called n) = false
 is_sign s (Counted v) = false
 is_sign s Odd = false
 
--- the words that declare, in a section and in amends
-abbrev pub declares : Place → Sign → Bool
-declares Section RdWord = true
-declares Section WrWord = true
-declares Section RdWrWord = true
-declares Section DfRdWord = true
-declares Section DfWrWord = true
-declares Section DfRdWrWord = true
-declares Amends RdWord = true
-declares Amends WrWord = true
-declares Amends RdWrWord = true
-declares Amends NoRdWord = true
-declares Amends NoWrWord = true
-declares Amends NoRdWrWord = true
-declares c s = false
+-- a declaration may stand there, where this is its word
+abbrev pub declares_with : Place → Option DeclareWord → Bool
+declares_with c None = false
+declares_with c (Some w) = declares c w
 
+-- what is asked for after a sign that stands where a statement may begin
 abbrev pub statement_sign : Place → Sign → Stack → Option Stack
 statement_sign c RightBrace st = Some st
 statement_sign c IntWord st = Some (NameIs ∷ Must Becomes ∷ expr_in ++ Must Semicolon ∷ Body c ∷ st)
@@ -171,26 +176,30 @@ statement_sign c IfWord st = Some (expr_in ++ Must LeftBrace ∷ Body c ∷ Else
 statement_sign c ForWord st = Some (NameIs ∷ Must InWord ∷ expr_in ++ Must DotDot ∷ expr_in ++ Must LeftBrace ∷ Body c ∷ Body c ∷ st)
 statement_sign Main WithonlyWord st = Some (Must LeftBrace ∷ Body Section ∷ Must DoWord ∷ Must LeftParen ∷ Names ∷ Must LeftBrace ∷ Body Main ∷ Body Main ∷ st)
 statement_sign Main WithWord st = Some (Must LeftBrace ∷ Body Amends ∷ Must ContWord ∷ Must Semicolon ∷ Body Main ∷ st)
-statement_sign c s st = cond (declares c s) (Some (Must LeftParen ∷ NameIs ∷ Second ∷ Must RightParen ∷ Must Semicolon ∷ Body c ∷ st)) None
+statement_sign c s st = cond (declares_with c (declare_of s)) (Some (Must LeftParen ∷ NameIs ∷ Second ∷ Must RightParen ∷ Must Semicolon ∷ Body c ∷ st)) None
 
+-- the same of a token: a name begins a statement too
 abbrev pub statement : Place → Token → Stack → Option Stack
 statement c (Fixed s) st = statement_sign c s st
 statement c (Called n) st = Some (Named c ∷ Body c ∷ st)
 statement c (Counted v) st = None
 statement c Odd st = None
 
+-- a name and nothing else
 abbrev pub name_only : Token → Stack → Option Stack
 name_only (Called n) st = Some st
 name_only (Fixed s) st = None
 name_only (Counted v) st = None
 name_only Odd st = None
 
+-- a number and nothing else
 abbrev pub number_only : Token → Stack → Option Stack
 number_only (Counted v) st = Some st
 number_only (Fixed s) st = None
 number_only (Called n) st = None
 number_only Odd st = None
 
+-- what is asked for after a token that stands where an item or `main` may
 abbrev pub item : Token → Stack → Option Stack
 item (Fixed InputWord) st = Some (NameIs ∷ Must Semicolon ∷ Items ∷ st)
 item (Fixed ObjectWord) st = Some (NameIs ∷ Must Colon ∷ NumberIs ∷ Must Semicolon ∷ Items ∷ st)
@@ -198,23 +207,22 @@ item (Fixed ObjectsWord) st = Some (NameIs ∷ Must LeftBracket ∷ NumberIs ∷
 item (Fixed MainWord) st = Some (Must LeftBrace ∷ Body Main ∷ st)
 item t st = None
 
-abbrev pub is_main : Place → Bool
-is_main Main = true
-is_main Section = false
-is_main Amends = false
-
+-- after the name that begins a statement: an assignment, or in a body a store
 abbrev pub after_name : Place → Token → Stack → Option Stack
 after_name c t st =
     cond (is_sign Becomes t) (Some (expr_in ++ Must Semicolon ∷ st))
     (cond (is_main c && is_sign LeftBracket t) (Some (expr_in ++ Must RightBracket ∷ Second ∷ Must Becomes ∷ expr_in ++ Must Semicolon ∷ st)) None)
 
+-- the first name of a `do` list, or its end
 abbrev pub names_begin : Token → Stack → Option Stack
 names_begin (Called n) st = Some (MoreNames ∷ st)
 names_begin t st = cond (is_sign RightParen t) (Some st) None
 
+-- a comma and one more name, or the end
 abbrev pub names_go : Token → Stack → Option Stack
 names_go t st = cond (is_sign Comma t) (Some (NameIs ∷ MoreNames ∷ st)) (cond (is_sign RightParen t) (Some st) None)
 
+-- what is asked for after a token, and nothing where it is refused
 abbrev pub feed : Stack → Token → Option Stack
 feed [] t = None
 feed (Need ∷ st) t = need t st
@@ -248,6 +256,7 @@ ended (MoreNames ∷ st) = 0
 ended (NumberIs ∷ st) = 0
 ended (Items ∷ st) = 0
 
+-- one token more, where it was not refused
 abbrev pub counted : (Stack → ℕ) → Option Stack → ℕ
 counted f None = 0
 counted f (Some st) = 1 + f st

@@ -1,7 +1,7 @@
--- The operators.
+-- What the signs of operators and of declarations are in a tree.
 use Rattle.std.specs.Prelude.{Option, Some, None}
 use Rattle.jade_parser.specs.declared.Sign.{Sign}
-use Rattle.jade_parser.specs.declared.Sign.TheVariants.{EqualSign, UnequalSign, LessSign, LessEqualSign, GreaterSign, GreaterEqualSign, PlusSign, MinusSign, TimesSign, OverSign, PercentSign, NotSign}
+use Rattle.jade_parser.specs.declared.Sign.TheVariants.{EqualSign, UnequalSign, LessSign, LessEqualSign, GreaterSign, GreaterEqualSign, PlusSign, MinusSign, TimesSign, OverSign, PercentSign, NotSign, RdWord, WrWord, RdWrWord, DfRdWord, DfWrWord, DfRdWrWord, NoRdWord, NoWrWord, NoRdWrWord}
 use Rattle.jade_syntax.specs.declared.tree.Relation.{Relation}
 use Rattle.jade_syntax.specs.declared.tree.Relation.TheVariants.{Equal, Unequal, Less, LessEqual, Greater, GreaterEqual}
 use Rattle.jade_syntax.specs.declared.tree.SumOp.{SumOp}
@@ -10,18 +10,23 @@ use Rattle.jade_syntax.specs.declared.tree.ProductOp.{ProductOp}
 use Rattle.jade_syntax.specs.declared.tree.ProductOp.TheVariants.{Times, Over, Remainder}
 use Rattle.jade_syntax.specs.declared.tree.UnaryOp.{UnaryOp}
 use Rattle.jade_syntax.specs.declared.tree.UnaryOp.TheVariants.{Negative, Not}
+use Rattle.jade_syntax.specs.declared.tree.DeclareWord.{DeclareWord}
+use Rattle.jade_syntax.specs.declared.tree.DeclareWord.TheVariants.{Rd, Wr, RdWr, DfRd, DfWr, DfRdWr, NoRd, NoWr, NoRdWr}
 
+-- the operator of a sum
 abbrev pub sum_of : Sign → Option SumOp
 sum_of PlusSign = Some Plus
 sum_of MinusSign = Some Minus
 sum_of s = None
 
+-- the operator of a product
 abbrev pub product_of : Sign → Option ProductOp
 product_of TimesSign = Some Times
 product_of OverSign = Some Over
 product_of PercentSign = Some Remainder
 product_of s = None
 
+-- a relation
 abbrev pub relation_of : Sign → Option Relation
 relation_of EqualSign = Some Equal
 relation_of UnequalSign = Some Unequal
@@ -31,7 +36,21 @@ relation_of GreaterSign = Some Greater
 relation_of GreaterEqualSign = Some GreaterEqual
 relation_of s = None
 
+-- a sign before an operand
 abbrev pub unary_of : Sign → Option UnaryOp
 unary_of MinusSign = Some Negative
 unary_of NotSign = Some Not
 unary_of s = None
+
+-- the word of a declaration
+abbrev pub declare_of : Sign → Option DeclareWord
+declare_of RdWord = Some Rd
+declare_of WrWord = Some Wr
+declare_of RdWrWord = Some RdWr
+declare_of DfRdWord = Some DfRd
+declare_of DfWrWord = Some DfWr
+declare_of DfRdWrWord = Some DfRdWr
+declare_of NoRdWord = Some NoRd
+declare_of NoWrWord = Some NoWr
+declare_of NoRdWrWord = Some NoRdWr
+declare_of s = None

@@ -1,22 +1,23 @@
 -- What a parser of statements promises.
-use Rattle.std.specs.Prelude.{◌≡◌, ℕ, ◌+◌, ◌<◌, true, List, [], ◌∷◌, map, Result, MatchResult, ◌++◌}
+use Rattle.std.specs.Prelude.{◌≡◌, ℕ, ◌+◌, ◌<◌, true, List, [], ◌∷◌, Result, MatchResult, ◌++◌}
+use Rattle.std.specs.List.{list_all}
 use Rattle.jade_syntax.specs.declared.tree.Statement.{Statement}
 use Rattle.jade_syntax.specs.declared.tree.Expr.{Expr}
 use Rattle.jade_parser.specs.Spelled.{Part, Parts, AllValid, AllShort, outer}
 use Rattle.jade_parser.specs.Machine.{Stack, expr_in}
-use Rattle.jade_parser.specs.Statements.{shaped, all_in}
-use Rattle.jade_parser.specs.declared.Place.{Place}
+use Rattle.jade_syntax.specs.declared.shapes.place.Place.{Place}
+use Rattle.jade_syntax.specs.Shapes.{is_placed}
 use Rattle.jade_parser.specs.declared.Seen.{Seen}
 use Rattle.jade_parser.specs.declared.Stop.{Stop}
 use Rattle.jade_parser.specs.Reads.{Reads, Stops, Whole, OnStop, Known}
 
 -- the statement may stand there
 pub record Fits (c : Place) (s : Statement) : Type 0 where
-  pub is : shaped s c ≡ true
+  pub is : is_placed c s ≡ true
 
 -- each statement may stand there
 pub record FitsAll (c : Place) (b : List Statement) : Type 0 where
-  pub is : all_in c (map shaped b) ≡ true
+  pub is : list_all (is_placed c) b ≡ true
 
 -- every tree
 pub record Any {X : Type 0} (x : X) : Type 0 where
@@ -33,6 +34,7 @@ pub record BegunIn {X : Type 0} (P : X → Type 0) (f : X → Parts) (all : List
   pub valid : AllValid more
   pub short : AllShort read
 
+-- such a tree is refused at k: the machine stops there, and what stands before begins such a tree
 pub record RefusalIn {X : Type 0} (P : X → Type 0) (f : X → Parts) (all : List Seen) (a : ℕ) (xs : Stack) (k : ℕ) : Type 0 where
   pub stops : Stops all a xs k
   pub begun : BegunIn P f all a k
@@ -50,6 +52,7 @@ pub record LongIn {X : Type 0} (P : X → Type 0) (f : X → Parts) (all : List 
   pub short : AllShort read
   pub too_many : last.nth ≡ 257
 
+-- such a tree was read
 pub record ReadIn {X : Type 0} (P : X → Type 0) (f : X → Parts) (all : List Seen) (a : ℕ) (xs : Stack) (b : ℕ) (ys : Stack) (tree : X) : Type 0 where
   pub whole : Whole all a xs b ys (f tree)
   pub fits : P tree

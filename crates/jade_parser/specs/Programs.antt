@@ -9,7 +9,7 @@ use Rattle.jade_parser.specs.declared.Seen.{Seen}
 use Rattle.jade_parser.specs.declared.Stop.{Stop}
 use Rattle.jade_parser.specs.declared.Sign.{Sign}
 use Rattle.jade_parser.specs.declared.Sign.TheVariants.{InputWord, ObjectWord, ObjectsWord, MainWord, LeftBracket, RightBracket, LeftBrace, Colon, Semicolon}
-use Rattle.jade_parser.specs.declared.Place.TheVariants.{Main}
+use Rattle.jade_syntax.specs.declared.shapes.place.Place.TheVariants.{Main}
 use Rattle.jade_parser.specs.declared.items.Opening.{Opening}
 use Rattle.jade_parser.specs.declared.items.Opening.TheVariants as opening
 use Rattle.jade_parser.specs.Spelled.{Parts, Called, fixed, marked, number_part}
@@ -48,9 +48,11 @@ opening_of ObjectsWord = opening.Family
 opening_of MainWord = opening.Body
 opening_of s = opening.Nothing
 
+-- a size and its semicolon
 abbrev pub size_in : Stack
 size_in = Must Colon ∷ NumberIs ∷ Must Semicolon ∷ []
 
+-- the number of members
 abbrev pub count_in : Stack
 count_in = Must LeftBracket ∷ NumberIs ∷ Must RightBracket ∷ []
 

@@ -13,15 +13,18 @@ use Rattle.jade_parser.specs.declared.Sign.{Sign}
 use Rattle.jade_parser.specs.declared.Stop.{Stop}
 use Rattle.jade_parser.specs.declared.Stop.TheVariants.{Token as AtToken, Long, Memory}
 
+-- what a kind of the code is
 abbrev pub token_of : Kind → Token
 token_of (KFixed s) = Fixed s
 token_of (KCalled n) = Called n.now
 token_of (KCounted v) = Counted v
 token_of KOdd = Odd
 
+-- the tokens that were seen
 abbrev pub kinds : List Seen → Tokens
 kinds xs = map (λ x. token_of x.kind) xs
 
+-- their places
 abbrev pub places : List Seen → List Pos
 places xs = map (λ x. x.pos) xs
 
@@ -32,9 +35,11 @@ is_known (Called n) = is_valid (Called n)
 is_known (Counted v) = is_valid (Counted v)
 is_known Odd = true
 
+-- no token that was seen is a name that is none, or a number that is none
 pub record Known (all : List Seen) : Type 0 where
   pub is : list_all is_known (kinds all) ≡ true
 
+-- the sign that stands first, if one does
 abbrev pub head_sign : Tokens → Option Sign
 head_sign [] = None
 head_sign (Fixed s ∷ ts) = Some s
@@ -48,6 +53,7 @@ pos_in [] at = record { line = 0; column = 0 }
 pos_in (p ∷ ps) zero = p
 pos_in (p ∷ ps) (suc at) = pos_in ps at
 
+-- the place of a token that was seen
 abbrev pub place_at : List Seen → ℕ → Pos
 place_at all at = pos_in (places all) at
 
@@ -73,9 +79,11 @@ pub record Reads (all : List Seen) (start end : ℕ) (ps : Parts) : Type 0 where
 abbrev pub place : List Seen → ℕ → Stack → ℕ
 place all at st = at + goes (drop at (kinds all)) st
 
+-- from a on, where xs is asked for first, the machine stops where it does from b on with ys first
 pub record Passes (all : List Seen) (a : ℕ) (xs : Stack) (b : ℕ) (ys : Stack) : Type 0 where
   pub by : (st : Stack) → place all a (xs ++ st) ≡ place all b (ys ++ st)
 
+-- from a on, where xs is asked for first, the machine stops at k
 pub record Stops (all : List Seen) (a : ℕ) (xs : Stack) (k : ℕ) : Type 0 where
   pub by : (st : Stack) → place all a (xs ++ st) ≡ k
 
@@ -93,13 +101,15 @@ pub record Whole (all : List Seen) (a : ℕ) (xs : Stack) (b : ℕ) (ys : Stack)
   pub reads : Reads all a b ps
   pub passes : Passes all a xs b ys
 
+-- a tree is refused at k: the machine stops there, and what stands before begins such a tree
 pub record Refusal {X : Type 0} (f : X → Parts) (all : List Seen) (a : ℕ) (xs : Stack) (k : ℕ) : Type 0 where
   pub stops : Stops all a xs k
   pub begun : Begun f all a k
 
+-- what a refused token means, where none is the 257th of an expression; want of memory says nothing
 abbrev pub OnToken : Stop → (ℕ → Type 0) → Type 0
 OnToken (AtToken k) P = P k
-OnToken (Long k) P = ⊤
+OnToken (Long k) P = ⊥
 OnToken Memory P = ⊤
 
 -- what a refused token and what a 257th token mean; want of memory says nothing
@@ -116,6 +126,7 @@ OnOther e all at xs = OnStop e (λ k. (k ≡ at) × Stops all at xs at) (λ k. �
 abbrev pub Parsed : {X : Type 0} (f : X → Parts) (all : List Seen) (a : ℕ) (xs : Stack) → Result (X × ℕ) Stop → Type 0
 Parsed f all a xs r = MatchResult r (λ p. Whole all a xs p.1 [] (f p.0)) (λ e. OnToken e (Refusal f all a xs))
 
+-- an expression and the sign that closes it
 abbrev pub closed : Sign → Expr → Parts
 closed s e = expr_parts e ++ fixed s ∷ []
 

@@ -27,5 +27,6 @@ pub record RefusedAt (all : List Seen) (k : ℕ) : Type 0 where
   pub no_more : k < length all → Nowhere (take (k + 1) (kinds all))
   pub no_end : Never (kinds all)
 
+-- the token with a number is the 257th of an outermost expression
 abbrev pub TooLongAt : List Seen → ℕ → Type 0
 TooLongAt all k = LongIn Proper program_parts all 0 k

@@ -1,7 +1,6 @@
--- The parts of a statement, and where it may stand.
-use Rattle.std.specs.Prelude.{Bool, true, ◌&&◌, List, [], ◌∷◌, ◌++◌, Option, Some, None}
+-- The parts of a statement.
+use Rattle.std.specs.Prelude.{List, [], ◌∷◌, ◌++◌, Option, Some, None}
 use Rattle.std.specs.List.{flat_map}
-use Rattle.jade_parser.specs.declared.Sign.{Sign}
 use Rattle.jade_syntax.specs.declared.tree.ValueKind.{ValueKind}
 use Rattle.jade_syntax.specs.declared.tree.ValueKind.TheVariants.{Int, Bool as BoolKind}
 use Rattle.jade_syntax.specs.declared.tree.DeclareWord.{DeclareWord}
@@ -14,14 +13,13 @@ use Rattle.jade_syntax.specs.declared.tree.CellRef.{CellRef, out-CellRef}
 use Rattle.jade_syntax.specs.declared.tree.Expr.{Expr}
 use Rattle.jade_syntax.specs.declared.tree.Named.{Named}
 use Rattle.jade_parser.specs.Spelled.{Token, Fixed, Called, Parts, plain, fixed, marked, bracketed, outer}
-use Rattle.jade_parser.specs.declared.Place.{Place}
-use Rattle.jade_parser.specs.declared.Place.TheVariants.{Main, Section, Amends}
-use Rattle.jade_parser.specs.Machine.{declares, is_main}
 
+-- the word of a kind
 abbrev pub kind_word : ValueKind → Token
 kind_word Int = Fixed IntWord
 kind_word BoolKind = Fixed BoolWord
 
+-- the word of a declaration
 abbrev pub declare_word : DeclareWord → Token
 declare_word Rd = Fixed RdWord
 declare_word Wr = Fixed WrWord
@@ -35,10 +33,12 @@ declare_word NoRdWr = Fixed NoRdWrWord
 
 -- ---- statements
 
+-- the index of a target or of a declared object, where there is one
 abbrev pub outer_index : Option Expr → Parts
 outer_index None = []
 outer_index (Some e) = bracketed (outer e)
 
+-- a declared object
 abbrev pub object_parts : ObjectRef → Parts
 object_parts o = marked (Called o.name) o.pos ∷ outer_index o.member
 
@@ -46,20 +46,25 @@ object_parts o = marked (Called o.name) o.pos ∷ outer_index o.member
 abbrev pub target_parts : CellRef → Parts
 target_parts c = marked (Called (out-CellRef c).name) (out-CellRef c).pos ∷ (outer_index (out-CellRef c).family ++ bracketed (outer (out-CellRef c).cell))
 
+-- a block, by its statements
 abbrev pub braced : List Parts → Parts
 braced parts = fixed LeftBrace ∷ [] ++ flat_map (λ t. t) parts ++ fixed RightBrace ∷ []
 
+-- each name with the comma before it
 abbrev pub more_names : List Named → Parts
 more_names ns = flat_map (λ n. fixed Comma ∷ marked (Called n.name) n.pos ∷ []) ns
 
+-- names with commas between them
 abbrev pub name_parts : List Named → Parts
 name_parts [] = []
 name_parts (n ∷ ns) = marked (Called n.name) n.pos ∷ more_names ns
 
+-- the other branch, where there is one
 abbrev pub else_parts : Option (List Parts) → Parts
 else_parts None = []
 else_parts (Some b) = fixed ElseWord ∷ braced b
 
+-- a statement, by those within it
 abbrev pub at_statement : Statement-F Parts → Parts
 at_statement (Statement-F.Local kind name pos value) = plain (kind_word kind) ∷ marked (Called name) pos ∷ fixed Becomes ∷ [] ++ outer value ++ fixed Semicolon ∷ []
 at_statement (Statement-F.Assign name pos value) = marked (Called name) pos ∷ fixed Becomes ∷ [] ++ outer value ++ fixed Semicolon ∷ []
@@ -72,12 +77,15 @@ at_statement (Statement-F.Withonly pos section names body) =
 at_statement (Statement-F.With pos section) = marked (Fixed WithWord) pos ∷ [] ++ braced section ++ fixed ContWord ∷ [] ++ fixed Semicolon ∷ []
 at_statement (Statement-F.Declare word pos object) = marked (declare_word word) pos ∷ fixed LeftParen ∷ [] ++ object_parts object ++ fixed RightParen ∷ [] ++ fixed Semicolon ∷ []
 
+-- the parts of a statement
 abbrev pub statement_parts : Statement → Parts
 statement_parts = fold-Statement Parts at_statement
 
+-- the parts of a block
 abbrev pub block_parts : List Statement → Parts
 block_parts b = fixed LeftBrace ∷ [] ++ flat_map statement_parts b ++ fixed RightBrace ∷ []
 
+-- the other branch, where there is one, as a tree
 abbrev pub else_block : Option (List Statement) → Parts
 else_block None = []
 else_block (Some b) = fixed ElseWord ∷ [] ++ block_parts b
@@ -94,36 +102,3 @@ opened (Statement-F.Withonly pos section names body) =
     marked (Fixed WithonlyWord) pos ∷ [] ++ block_parts section ++ fixed DoWord ∷ [] ++ fixed LeftParen ∷ [] ++ name_parts names ++ fixed RightParen ∷ [] ++ block_parts body
 opened (Statement-F.With pos section) = marked (Fixed WithWord) pos ∷ [] ++ block_parts section ++ fixed ContWord ∷ [] ++ fixed Semicolon ∷ []
 opened (Statement-F.Declare word pos object) = marked (declare_word word) pos ∷ fixed LeftParen ∷ [] ++ object_parts object ++ fixed RightParen ∷ [] ++ fixed Semicolon ∷ []
-
--- the statements stand where the grammar has them
-abbrev pub word_sign : DeclareWord → Sign
-word_sign Rd = RdWord
-word_sign Wr = WrWord
-word_sign RdWr = RdWrWord
-word_sign DfRd = DfRdWord
-word_sign DfWr = DfWrWord
-word_sign DfRdWr = DfRdWrWord
-word_sign NoRd = NoRdWord
-word_sign NoWr = NoWrWord
-word_sign NoRdWr = NoRdWrWord
-
-abbrev pub all_in : Place → List (Place → Bool) → Bool
-all_in c [] = true
-all_in c (p ∷ ps) = p c && all_in c ps
-
-abbrev pub other_in : Place → Option (List (Place → Bool)) → Bool
-other_in c None = true
-other_in c (Some ps) = all_in c ps
-
-abbrev pub at_shape : Statement-F (Place → Bool) → Place → Bool
-at_shape (Statement-F.Local kind name pos value) c = true
-at_shape (Statement-F.Assign name pos value) c = true
-at_shape (Statement-F.Store target value) c = is_main c
-at_shape (Statement-F.If test then otherwise) c = all_in c then && other_in c otherwise
-at_shape (Statement-F.For name pos low high body) c = all_in c body
-at_shape (Statement-F.Withonly pos section names body) c = is_main c && (all_in Section section && all_in Main body)
-at_shape (Statement-F.With pos section) c = is_main c && all_in Amends section
-at_shape (Statement-F.Declare w pos object) c = declares c (word_sign w)
-
-abbrev pub shaped : Statement → Place → Bool
-shaped = fold-Statement (Place → Bool) at_shape

@@ -1,9 +1,11 @@
 //! What a word begins where a statement may stand.
 
 ghost use Rattle.std.specs.Prelude.{◌≡◌};
-ghost use Rattle.jade_parser.specs.Begins.{section_word, amends_word, declare_of, main_only, begin_of};
+ghost use Rattle.jade_parser.specs.Ops.{declare_of};
+ghost use Rattle.jade_parser.specs.Begins.{declaration_of, main_only, begin_of};
 
-use crate::{Place, Sign};
+use crate::Sign;
+use jade_syntax::shapes::place::{Place, declares};
 use jade_syntax::tree::{DeclareWord, ValueKind};
 
 /// What a word begins: a statement, the end of the block, or nothing.
@@ -19,9 +21,9 @@ pub enum Begin {
     Nothing,
 }
 
-/// A word that declares in the section of a `withonly`.
-fn section_word(sign: Sign) -> Option<DeclareWord>
-    ensures { result ≡ section_word sign }
+/// The word of a declaration.
+fn declare_of(sign: Sign) -> Option<DeclareWord>
+    ensures { result ≡ declare_of sign }
 {
     match sign {
         Sign::RdWord => Some(DeclareWord::Rd),
@@ -30,18 +32,6 @@ fn section_word(sign: Sign) -> Option<DeclareWord>
         Sign::DfRdWord => Some(DeclareWord::DfRd),
         Sign::DfWrWord => Some(DeclareWord::DfWr),
         Sign::DfRdWrWord => Some(DeclareWord::DfRdWr),
-        _ => None,
-    }
-}
-
-/// A word that declares in that of a `with`.
-fn amends_word(sign: Sign) -> Option<DeclareWord>
-    ensures { result ≡ amends_word sign }
-{
-    match sign {
-        Sign::RdWord => Some(DeclareWord::Rd),
-        Sign::WrWord => Some(DeclareWord::Wr),
-        Sign::RdWrWord => Some(DeclareWord::RdWr),
         Sign::NoRdWord => Some(DeclareWord::NoRd),
         Sign::NoWrWord => Some(DeclareWord::NoWr),
         Sign::NoRdWrWord => Some(DeclareWord::NoRdWr),
@@ -49,14 +39,19 @@ fn amends_word(sign: Sign) -> Option<DeclareWord>
     }
 }
 
-/// A word that declares there.
-fn declare_of(place: Place, sign: Sign) -> Option<DeclareWord>
-    ensures { result ≡ declare_of place sign }
+/// A declaration, where one with this word may stand.
+fn declaration_of(place: Place, word: Option<DeclareWord>) -> Begin
+    ensures { result ≡ declaration_of place word }
 {
-    match place {
-        Place::Main => None,
-        Place::Section => section_word(sign),
-        Place::Amends => amends_word(sign),
+    match word {
+        Some(word) => {
+            if declares(place, word) {
+                Begin::Declare(word)
+            } else {
+                Begin::Nothing
+            }
+        }
+        None => Begin::Nothing,
     }
 }
 
@@ -83,9 +78,6 @@ pub fn begin_of(place: Place, sign: Sign) -> Begin
         Sign::ForWord => Begin::For,
         Sign::WithonlyWord => main_only(place, Begin::Withonly),
         Sign::WithWord => main_only(place, Begin::With),
-        _ => match declare_of(place, sign) {
-            Some(word) => Begin::Declare(word),
-            None => Begin::Nothing,
-        },
+        _ => declaration_of(place, declare_of(sign)),
     }
 }

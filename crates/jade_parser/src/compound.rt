@@ -1,13 +1,13 @@
 //! Blocks, and the statements that hold blocks.
 
 ghost use Rattle.std.specs.Prelude.{◌≡◌, ◌+◌, ◌≤◌, [], ◌∷◌, drop, length, None, MatchOption};
-ghost use Rattle.jade_parser.specs.Reads.{Whole, head_sign, kinds, place_at};
+ghost use Rattle.jade_parser.specs.Reads.{Known, Whole, head_sign, kinds, place_at};
 ghost use Rattle.jade_parser.specs.Parts.{ParsedIn, Fits, FitsAll};
 ghost use Rattle.jade_parser.specs.Machine.{Body};
 ghost use Rattle.jade_parser.specs.Spelled.{Fixed, fixed, marked};
 ghost use Rattle.jade_parser.specs.Statements.{statement_parts, block_parts};
 ghost use Rattle.jade_parser.specs.Compound.{block_in, if_in, for_in, withonly_in, with_in, BeginAt, StatementAt};
-ghost use Rattle.jade_parser.specs.declared.Place.TheVariants.{Main};
+ghost use Rattle.jade_syntax.specs.declared.shapes.place.Place.TheVariants.{Main};
 ghost use Rattle.jade_parser.specs.declared.Sign.TheVariants.{IfWord, ForWord, WithonlyWord, WithWord};
 
 use crate::begins::{Begin, begin_of};
@@ -16,7 +16,8 @@ use crate::names::name_at;
 use crate::outer::parse_outer;
 use crate::pieces::{is_at, parse_ended, parse_names};
 use crate::simple::{parse_declare, parse_local, parse_named};
-use crate::{Place, Seen, Sign, Stop};
+use crate::{Seen, Sign, Stop};
+use jade_syntax::shapes::place::Place;
 use jade_syntax::tree::{Block, Statement};
 use std::alloc::Global;
 
@@ -37,9 +38,9 @@ pub fn parse_block(
     tokens: &[Seen<'_>],
     start: usize,
     place: Place,
-    depth: usize,
 ) -> Result<(Block, usize), Stop>
-    requires { start ≤ length tokens.now }
+    requires within { start ≤ length tokens.now }
+    requires known { Known tokens.now }
     ensures { ParsedIn (FitsAll place) block_parts tokens.now start (block_in place) [] result }
 {
     let mut at = match expect(tokens, start, Sign::LeftBrace) {
@@ -48,7 +49,7 @@ pub fn parse_block(
     };
     let mut all = Block::empty(alloc);
     'statements: loop {
-        match parse_statement(alloc, tokens, at, place, depth) {
+        match parse_statement(alloc, tokens, at, place) {
             Ok(None) => return Ok((all, at + 1)),
             Ok(Some((next, after))) => match all.push(next) {
                 Ok(()) => at = after,
@@ -67,42 +68,21 @@ fn parse_statement(
     tokens: &[Seen<'_>],
     start: usize,
     place: Place,
-    depth: usize,
 ) -> Result<Option<(Statement, usize)>, Stop>
-    requires { start ≤ length tokens.now }
+    requires within { start ≤ length tokens.now }
+    requires known { Known tokens.now }
     ensures { StatementAt place tokens.now start result }
 {
     match begin_at(tokens, start, place) {
-        None => {
-            let read = parse_named(alloc, tokens, start, place, depth)?;
-            Ok(Some(read))
-        }
+        None => parse_named(alloc, tokens, start, place).map(Some),
         Some(Begin::Closing) => Ok(None),
         Some(Begin::Nothing) => Err(Stop::Token(start)),
-        Some(Begin::Local(kind)) => {
-            let read = parse_local(alloc, tokens, start, kind, place, depth)?;
-            Ok(Some(read))
-        }
-        Some(Begin::Declare(word)) => {
-            let read = parse_declare(alloc, tokens, start, word, place, depth)?;
-            Ok(Some(read))
-        }
-        Some(Begin::If) => {
-            let read = parse_if(alloc, tokens, start, place, depth)?;
-            Ok(Some(read))
-        }
-        Some(Begin::For) => {
-            let read = parse_for(alloc, tokens, start, place, depth)?;
-            Ok(Some(read))
-        }
-        Some(Begin::Withonly) => {
-            let read = parse_withonly(alloc, tokens, start, depth)?;
-            Ok(Some(read))
-        }
-        Some(Begin::With) => {
-            let read = parse_with(alloc, tokens, start, depth)?;
-            Ok(Some(read))
-        }
+        Some(Begin::Local(kind)) => parse_local(alloc, tokens, start, kind, place).map(Some),
+        Some(Begin::Declare(word)) => parse_declare(alloc, tokens, start, word, place).map(Some),
+        Some(Begin::If) => parse_if(alloc, tokens, start, place).map(Some),
+        Some(Begin::For) => parse_for(alloc, tokens, start, place).map(Some),
+        Some(Begin::Withonly) => parse_withonly(alloc, tokens, start).map(Some),
+        Some(Begin::With) => parse_with(alloc, tokens, start).map(Some),
     }
 }
 
@@ -113,18 +93,15 @@ fn parse_if(
     tokens: &[Seen<'_>],
     start: usize,
     place: Place,
-    depth: usize,
 ) -> Result<(Statement, usize), Stop>
-    requires { Whole tokens.now start (Body place ∷ []) (start + 1) (if_in place) (fixed IfWord ∷ []) }
+    requires read { Whole tokens.now start (Body place ∷ []) (start + 1) (if_in place) (fixed IfWord ∷ []) }
+    requires known { Known tokens.now }
     ensures { ParsedIn (Fits place) statement_parts tokens.now start (Body place ∷ []) (Body place ∷ []) result }
 {
-    if depth == 0 {
-        return Err(Stop::Memory);
-    }
-    let (test, tested) = parse_outer(alloc, tokens, start + 1, depth)?;
-    let (then, at) = parse_block(alloc, tokens, tested, place, depth - 1)?;
+    let (test, tested) = parse_outer(alloc, tokens, start + 1)?;
+    let (then, at) = parse_block(alloc, tokens, tested, place)?;
     if is_at(tokens, at, Sign::ElseWord) {
-        let (other, end) = parse_block(alloc, tokens, at + 1, place, depth - 1)?;
+        let (other, end) = parse_block(alloc, tokens, at + 1, place)?;
         let otherwise = Some(other);
         Ok((
             Statement::If {
@@ -154,20 +131,17 @@ fn parse_for(
     tokens: &[Seen<'_>],
     start: usize,
     place: Place,
-    depth: usize,
 ) -> Result<(Statement, usize), Stop>
-    requires { Whole tokens.now start (Body place ∷ []) (start + 1) (for_in place) (fixed ForWord ∷ []) }
+    requires read { Whole tokens.now start (Body place ∷ []) (start + 1) (for_in place) (fixed ForWord ∷ []) }
+    requires known { Known tokens.now }
     ensures { ParsedIn (Fits place) statement_parts tokens.now start (Body place ∷ []) (Body place ∷ []) result }
 {
-    if depth == 0 {
-        return Err(Stop::Memory);
-    }
     let pos = pos_at(tokens, start + 1);
     let name = name_at(alloc, tokens, start + 1)?;
     let begun = expect(tokens, start + 2, Sign::InWord)?;
-    let (low, middle) = parse_ended(alloc, tokens, begun, Sign::DotDot, depth)?;
-    let (high, at) = parse_outer(alloc, tokens, middle, depth)?;
-    let (body, end) = parse_block(alloc, tokens, at, place, depth - 1)?;
+    let (low, middle) = parse_ended(alloc, tokens, begun, Sign::DotDot)?;
+    let (high, at) = parse_outer(alloc, tokens, middle)?;
+    let (body, end) = parse_block(alloc, tokens, at, place)?;
     Ok((
         Statement::For {
             name,
@@ -186,20 +160,17 @@ fn parse_withonly(
     alloc: Global,
     tokens: &[Seen<'_>],
     start: usize,
-    depth: usize,
 ) -> Result<(Statement, usize), Stop>
-    requires { Whole tokens.now start (Body Main ∷ []) (start + 1) withonly_in (marked (Fixed WithonlyWord) (place_at tokens.now start) ∷ []) }
+    requires read { Whole tokens.now start (Body Main ∷ []) (start + 1) withonly_in (marked (Fixed WithonlyWord) (place_at tokens.now start) ∷ []) }
+    requires known { Known tokens.now }
     ensures { ParsedIn (Fits Main) statement_parts tokens.now start (Body Main ∷ []) (Body Main ∷ []) result }
 {
-    if depth == 0 {
-        return Err(Stop::Memory);
-    }
     let pos = pos_at(tokens, start);
-    let (section, closed) = parse_block(alloc, tokens, start + 1, Place::Section, depth - 1)?;
+    let (section, closed) = parse_block(alloc, tokens, start + 1, Place::Section)?;
     let done = expect(tokens, closed, Sign::DoWord)?;
     let opened = expect(tokens, done, Sign::LeftParen)?;
     let (names, at) = parse_names(alloc, tokens, opened)?;
-    let (body, end) = parse_block(alloc, tokens, at, Place::Main, depth - 1)?;
+    let (body, end) = parse_block(alloc, tokens, at, Place::Main)?;
     Ok((
         Statement::Withonly {
             pos,
@@ -213,20 +184,13 @@ fn parse_withonly(
 
 /// A `with`, whose word was read.
 #[cycle(statement)]
-fn parse_with(
-    alloc: Global,
-    tokens: &[Seen<'_>],
-    start: usize,
-    depth: usize,
-) -> Result<(Statement, usize), Stop>
-    requires { Whole tokens.now start (Body Main ∷ []) (start + 1) with_in (marked (Fixed WithWord) (place_at tokens.now start) ∷ []) }
+fn parse_with(alloc: Global, tokens: &[Seen<'_>], start: usize) -> Result<(Statement, usize), Stop>
+    requires read { Whole tokens.now start (Body Main ∷ []) (start + 1) with_in (marked (Fixed WithWord) (place_at tokens.now start) ∷ []) }
+    requires known { Known tokens.now }
     ensures { ParsedIn (Fits Main) statement_parts tokens.now start (Body Main ∷ []) (Body Main ∷ []) result }
 {
-    if depth == 0 {
-        return Err(Stop::Memory);
-    }
     let pos = pos_at(tokens, start);
-    let (section, closed) = parse_block(alloc, tokens, start + 1, Place::Amends, depth - 1)?;
+    let (section, closed) = parse_block(alloc, tokens, start + 1, Place::Amends)?;
     let done = expect(tokens, closed, Sign::ContWord)?;
     let end = expect(tokens, done, Sign::Semicolon)?;
     Ok((Statement::With { pos, section }, end))

@@ -1,6 +1,6 @@
 ghost use Rattle.std.specs.Prelude.{◌≡◌, ℕ, ◌+◌, ◌<◌, ◌≤◌, [], ◌∷◌, ◌++◌, drop, length, MatchResult, Some};
 ghost use Rattle.std.specs.List.{flat_map};
-ghost use Rattle.jade_parser.specs.Reads.{Parsed, Whole, NoUnary, OnToken, closed, head_sign, kinds, place_at};
+ghost use Rattle.jade_parser.specs.Reads.{Known, Parsed, Whole, NoUnary, OnToken, closed, head_sign, kinds, place_at};
 ghost use Rattle.jade_parser.specs.Machine.{Need, First, Second, Must, expr_in, and_in, compare_in, sum_in, product_in, unary_in};
 ghost use Rattle.jade_parser.specs.Spelled.{expr_parts, and_parts, compare_parts, sum_parts, product_parts, unary_parts, atom_parts, cell_parts, sign_part, Called, marked, fixed};
 ghost use Rattle.jade_parser.specs.declared.Sign.TheVariants.{LeftBracket, RightBracket};
@@ -10,11 +10,11 @@ use crate::leaves::{
 };
 use crate::{Kind, Seen, Sign, Stop};
 use jade_base::Pos;
-use jade_syntax::Name;
 use jade_syntax::tree::{
     AndExpr, AndExprs, Atom, CellRef, Compare, Compares, Expr, Number, Product, Products, Signs,
     Sum, Unaries, Unary,
 };
+use jade_syntax::{Name, NameError};
 use std::alloc::Global;
 
 /// The signs in front of an atom.
@@ -39,16 +39,16 @@ pub(crate) fn parse_expr(
     alloc: Global,
     tokens: &[Seen<'_>],
     start: usize,
-    depth: usize,
 ) -> Result<(Expr, usize), Stop>
-    requires { start ≤ length tokens.now }
+    requires within { start ≤ length tokens.now }
+    requires known { Known tokens.now }
     ensures { Parsed expr_parts tokens.now start expr_in result }
 {
-    let (first, mut at) = parse_and(alloc, tokens, start, depth)?;
+    let (first, mut at) = parse_and(alloc, tokens, start)?;
     let mut rest = AndExprs::empty(alloc);
     'chain: while or_op(tokens, at) {
         let pos = pos_at(tokens, at);
-        let (next, after) = match parse_and(alloc, tokens, at + 1, depth) {
+        let (next, after) = match parse_and(alloc, tokens, at + 1) {
             Ok(read) => read,
             Err(e) => return Err(e),
         };
@@ -61,20 +61,16 @@ pub(crate) fn parse_expr(
 }
 
 #[cycle(expr)]
-fn parse_and(
-    alloc: Global,
-    tokens: &[Seen<'_>],
-    start: usize,
-    depth: usize,
-) -> Result<(AndExpr, usize), Stop>
-    requires { start ≤ length tokens.now }
+fn parse_and(alloc: Global, tokens: &[Seen<'_>], start: usize) -> Result<(AndExpr, usize), Stop>
+    requires within { start ≤ length tokens.now }
+    requires known { Known tokens.now }
     ensures { Parsed and_parts tokens.now start and_in result }
 {
-    let (first, mut at) = parse_compare(alloc, tokens, start, depth)?;
+    let (first, mut at) = parse_compare(alloc, tokens, start)?;
     let mut rest = Compares::empty(alloc);
     'chain: while and_op(tokens, at) {
         let pos = pos_at(tokens, at);
-        let (next, after) = match parse_compare(alloc, tokens, at + 1, depth) {
+        let (next, after) = match parse_compare(alloc, tokens, at + 1) {
             Ok(read) => read,
             Err(e) => return Err(e),
         };
@@ -87,21 +83,17 @@ fn parse_and(
 }
 
 #[cycle(expr)]
-fn parse_compare(
-    alloc: Global,
-    tokens: &[Seen<'_>],
-    start: usize,
-    depth: usize,
-) -> Result<(Compare, usize), Stop>
-    requires { start ≤ length tokens.now }
+fn parse_compare(alloc: Global, tokens: &[Seen<'_>], start: usize) -> Result<(Compare, usize), Stop>
+    requires within { start ≤ length tokens.now }
+    requires known { Known tokens.now }
     ensures { Parsed compare_parts tokens.now start compare_in result }
 {
-    let (left, at) = parse_sum(alloc, tokens, start, depth)?;
+    let (left, at) = parse_sum(alloc, tokens, start)?;
     match relation(tokens, at) {
         None => Ok((Compare { left, right: None }, at)),
         Some(op) => {
             let pos = pos_at(tokens, at);
-            let (right, after) = parse_sum(alloc, tokens, at + 1, depth)?;
+            let (right, after) = parse_sum(alloc, tokens, at + 1)?;
             Ok((
                 Compare {
                     left,
@@ -114,20 +106,16 @@ fn parse_compare(
 }
 
 #[cycle(expr)]
-fn parse_sum(
-    alloc: Global,
-    tokens: &[Seen<'_>],
-    start: usize,
-    depth: usize,
-) -> Result<(Sum, usize), Stop>
-    requires { start ≤ length tokens.now }
+fn parse_sum(alloc: Global, tokens: &[Seen<'_>], start: usize) -> Result<(Sum, usize), Stop>
+    requires within { start ≤ length tokens.now }
+    requires known { Known tokens.now }
     ensures { Parsed sum_parts tokens.now start sum_in result }
 {
-    let (first, mut at) = parse_product(alloc, tokens, start, depth)?;
+    let (first, mut at) = parse_product(alloc, tokens, start)?;
     let mut rest = Products::empty(alloc);
     'chain: while let Some(op) = sum_op(tokens, at) {
         let pos = pos_at(tokens, at);
-        let (next, after) = match parse_product(alloc, tokens, at + 1, depth) {
+        let (next, after) = match parse_product(alloc, tokens, at + 1) {
             Ok(read) => read,
             Err(e) => return Err(e),
         };
@@ -140,20 +128,16 @@ fn parse_sum(
 }
 
 #[cycle(expr)]
-fn parse_product(
-    alloc: Global,
-    tokens: &[Seen<'_>],
-    start: usize,
-    depth: usize,
-) -> Result<(Product, usize), Stop>
-    requires { start ≤ length tokens.now }
+fn parse_product(alloc: Global, tokens: &[Seen<'_>], start: usize) -> Result<(Product, usize), Stop>
+    requires within { start ≤ length tokens.now }
+    requires known { Known tokens.now }
     ensures { Parsed product_parts tokens.now start product_in result }
 {
-    let (first, mut at) = parse_unary(alloc, tokens, start, depth)?;
+    let (first, mut at) = parse_unary(alloc, tokens, start)?;
     let mut rest = Unaries::empty(alloc);
     'chain: while let Some(op) = product_op(tokens, at) {
         let pos = pos_at(tokens, at);
-        let (next, after) = match parse_unary(alloc, tokens, at + 1, depth) {
+        let (next, after) = match parse_unary(alloc, tokens, at + 1) {
             Ok(read) => read,
             Err(e) => return Err(e),
         };
@@ -166,37 +150,29 @@ fn parse_product(
 }
 
 #[cycle(expr)]
-fn parse_unary(
-    alloc: Global,
-    tokens: &[Seen<'_>],
-    start: usize,
-    depth: usize,
-) -> Result<(Unary, usize), Stop>
-    requires { start ≤ length tokens.now }
+fn parse_unary(alloc: Global, tokens: &[Seen<'_>], start: usize) -> Result<(Unary, usize), Stop>
+    requires within { start ≤ length tokens.now }
+    requires known { Known tokens.now }
     ensures { Parsed unary_parts tokens.now start unary_in result }
 {
     let (signs, at) = signs(alloc, tokens, start)?;
-    let (atom, after) = parse_atom(alloc, tokens, at, depth)?;
+    let (atom, after) = parse_atom(alloc, tokens, at)?;
     Ok((Unary { signs, atom }, after))
 }
 
 #[cycle(expr)]
-fn parse_atom(
-    alloc: Global,
-    tokens: &[Seen<'_>],
-    start: usize,
-    depth: usize,
-) -> Result<(Atom, usize), Stop>
+fn parse_atom(alloc: Global, tokens: &[Seen<'_>], start: usize) -> Result<(Atom, usize), Stop>
     requires within { start ≤ length tokens.now }
     requires no_sign { NoUnary tokens.now start }
+    requires known { Known tokens.now }
     ensures { Parsed atom_parts tokens.now start unary_in result }
 {
     if start < tokens.len() {
         let pos = tokens[start].pos;
         match tokens[start].kind {
             Kind::Counted(value) => Ok((Atom::Whole(Number { value, pos }), start + 1)),
-            Kind::Called(text) => parse_named(alloc, tokens, start, text, depth),
-            Kind::Fixed(sign) => parse_fixed(alloc, tokens, start, sign, depth),
+            Kind::Called(text) => parse_named(alloc, tokens, start, text),
+            Kind::Fixed(sign) => parse_fixed(alloc, tokens, start, sign),
             Kind::Odd => Err(Stop::Token(start)),
         }
     } else {
@@ -211,21 +187,18 @@ fn parse_fixed(
     tokens: &[Seen<'_>],
     start: usize,
     sign: Sign,
-    depth: usize,
 ) -> Result<(Atom, usize), Stop>
     requires here { Some sign ≡ head_sign (drop start (kinds tokens.now)) }
     requires no_sign { NoUnary tokens.now start }
+    requires known { Known tokens.now }
     ensures { Parsed atom_parts tokens.now start unary_in result }
 {
     match sign {
         Sign::TrueWord => Ok((Atom::Truth(true, pos_at(tokens, start)), start + 1)),
         Sign::FalseWord => Ok((Atom::Truth(false, pos_at(tokens, start)), start + 1)),
         Sign::LeftParen => {
-            if depth == 0 {
-                return Err(Stop::Memory);
-            }
             let pos = pos_at(tokens, start);
-            let (inner, at) = parse_closed(alloc, tokens, start + 1, Sign::RightParen, depth - 1)?;
+            let (inner, at) = parse_closed(alloc, tokens, start + 1, Sign::RightParen)?;
             match Box::new(alloc, inner) {
                 Ok(inner) => Ok((Atom::Group(pos, inner), at)),
                 Err(_) => Err(Stop::Memory),
@@ -242,12 +215,12 @@ pub(crate) fn parse_closed(
     tokens: &[Seen<'_>],
     start: usize,
     closer: Sign,
-    depth: usize,
 ) -> Result<(Expr, usize), Stop>
-    requires { start ≤ length tokens.now }
+    requires within { start ≤ length tokens.now }
+    requires known { Known tokens.now }
     ensures { Parsed (closed closer) tokens.now start (expr_in ++ Must closer ∷ []) result }
 {
-    let (inner, at) = parse_expr(alloc, tokens, start, depth)?;
+    let (inner, at) = parse_expr(alloc, tokens, start)?;
     let at = expect(tokens, at, closer)?;
     Ok((inner, at))
 }
@@ -259,18 +232,19 @@ fn parse_named(
     tokens: &[Seen<'_>],
     start: usize,
     text: &[u8],
-    depth: usize,
 ) -> Result<(Atom, usize), Stop>
-    requires { Whole tokens.now start (Need ∷ []) (start + 1) (First ∷ []) (marked (Called text.now) (place_at tokens.now start) ∷ []) }
+    requires read { Whole tokens.now start (Need ∷ []) (start + 1) (First ∷ []) (marked (Called text.now) (place_at tokens.now start) ∷ []) }
+    requires known { Known tokens.now }
     ensures { Parsed atom_parts tokens.now start unary_in result }
 {
     let pos = pos_at(tokens, start);
     let name = match Name::of(alloc, text) {
         Ok(name) => name,
-        Err(_) => return Err(Stop::Memory),
+        Err(NameError::Memory) => return Err(Stop::Memory),
+        Err(NameError::Shape) => unreachable!(),
     };
     if bracket(tokens, start + 1) {
-        let (cell, at) = parse_cell(alloc, tokens, start, name, pos, depth)?;
+        let (cell, at) = parse_cell(alloc, tokens, start, name, pos)?;
         match Box::new(alloc, cell) {
             Ok(cell) => Ok((Atom::Cell(cell), at)),
             Err(_) => Err(Stop::Memory),
@@ -288,17 +262,14 @@ fn parse_cell(
     start: usize,
     name: Name,
     pos: Pos,
-    depth: usize,
 ) -> Result<(CellRef, usize), Stop>
-    requires { Whole tokens.now start (Need ∷ []) (start + 2) (expr_in ++ Must RightBracket ∷ Second ∷ []) (marked (Called name) pos ∷ fixed LeftBracket ∷ []) }
+    requires read { Whole tokens.now start (Need ∷ []) (start + 2) (expr_in ++ Must RightBracket ∷ Second ∷ []) (marked (Called name) pos ∷ fixed LeftBracket ∷ []) }
+    requires known { Known tokens.now }
     ensures { Parsed cell_parts tokens.now start unary_in result }
 {
-    if depth == 0 {
-        return Err(Stop::Memory);
-    }
-    let (first, at) = parse_closed(alloc, tokens, start + 2, Sign::RightBracket, depth - 1)?;
+    let (first, at) = parse_closed(alloc, tokens, start + 2, Sign::RightBracket)?;
     if bracket(tokens, at) {
-        let (cell, at) = parse_closed(alloc, tokens, at + 1, Sign::RightBracket, depth - 1)?;
+        let (cell, at) = parse_closed(alloc, tokens, at + 1, Sign::RightBracket)?;
         Ok((
             CellRef {
                 name,

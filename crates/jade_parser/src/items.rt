@@ -1,7 +1,7 @@
 //! The items of a program, before its `main`.
 
 ghost use Rattle.std.specs.Prelude.{◌≡◌, ◌+◌, [], ◌∷◌, ◌++◌, ◌≤◌, length, MatchResult};
-ghost use Rattle.jade_parser.specs.Reads.{Whole};
+ghost use Rattle.jade_parser.specs.Reads.{Known, Whole};
 ghost use Rattle.jade_parser.specs.Parts.{ParsedIn, Any};
 ghost use Rattle.jade_parser.specs.Machine.{Must, NameIs, NumberIs, Items as ItemsIn};
 ghost use Rattle.jade_parser.specs.Spelled.{fixed};
@@ -64,7 +64,8 @@ fn parse_between(
 
 /// An input, whose word was read.
 fn parse_input(alloc: Global, tokens: &[Seen<'_>], start: usize) -> Result<(Item, usize), Stop>
-    requires { Whole tokens.now start (ItemsIn ∷ []) (start + 1) (NameIs ∷ Must Semicolon ∷ ItemsIn ∷ []) (fixed InputWord ∷ []) }
+    requires read { Whole tokens.now start (ItemsIn ∷ []) (start + 1) (NameIs ∷ Must Semicolon ∷ ItemsIn ∷ []) (fixed InputWord ∷ []) }
+    requires known { Known tokens.now }
     ensures { ParsedIn Any item_parts tokens.now start (ItemsIn ∷ []) (ItemsIn ∷ []) result }
 {
     let pos = pos_at(tokens, start + 1);
@@ -75,7 +76,8 @@ fn parse_input(alloc: Global, tokens: &[Seen<'_>], start: usize) -> Result<(Item
 
 /// A single object, whose word was read.
 fn parse_single(alloc: Global, tokens: &[Seen<'_>], start: usize) -> Result<(Item, usize), Stop>
-    requires { Whole tokens.now start (ItemsIn ∷ []) (start + 1) (NameIs ∷ size_in ++ ItemsIn ∷ []) (fixed ObjectWord ∷ []) }
+    requires read { Whole tokens.now start (ItemsIn ∷ []) (start + 1) (NameIs ∷ size_in ++ ItemsIn ∷ []) (fixed ObjectWord ∷ []) }
+    requires known { Known tokens.now }
     ensures { ParsedIn Any item_parts tokens.now start (ItemsIn ∷ []) (ItemsIn ∷ []) result }
 {
     let pos = pos_at(tokens, start + 1);
@@ -86,7 +88,8 @@ fn parse_single(alloc: Global, tokens: &[Seen<'_>], start: usize) -> Result<(Ite
 
 /// A family of objects, whose word was read.
 fn parse_family(alloc: Global, tokens: &[Seen<'_>], start: usize) -> Result<(Item, usize), Stop>
-    requires { Whole tokens.now start (ItemsIn ∷ []) (start + 1) (NameIs ∷ count_in ++ size_in ++ ItemsIn ∷ []) (fixed ObjectsWord ∷ []) }
+    requires read { Whole tokens.now start (ItemsIn ∷ []) (start + 1) (NameIs ∷ count_in ++ size_in ++ ItemsIn ∷ []) (fixed ObjectsWord ∷ []) }
+    requires known { Known tokens.now }
     ensures { ParsedIn Any item_parts tokens.now start (ItemsIn ∷ []) (ItemsIn ∷ []) result }
 {
     let pos = pos_at(tokens, start + 1);
@@ -109,7 +112,8 @@ fn parse_item(
     tokens: &[Seen<'_>],
     start: usize,
 ) -> Result<Option<(Item, usize)>, Stop>
-    requires { start ≤ length tokens.now }
+    requires within { start ≤ length tokens.now }
+    requires known { Known tokens.now }
     ensures { ItemAt tokens.now start result }
 {
     match opening_at(tokens, start) {
@@ -132,6 +136,7 @@ fn parse_item(
 
 /// The items and `main`, and the number of the token after it.
 pub fn parse_items(alloc: Global, tokens: &[Seen<'_>]) -> Result<(Items, usize), Stop>
+    requires { Known tokens.now }
     ensures { ParsedIn Any head_parts tokens.now 0 (ItemsIn ∷ []) body_in result }
 {
     let mut all = Items::empty(alloc);

@@ -1,5 +1,5 @@
 //! The parser: from the tokens of a text to the tree of its program, or to the first token that is
-//! refused.
+//! refused, or to the 257th token of an outermost expression.
 #![tactic(auto)]
 
 mod begins;
@@ -19,7 +19,8 @@ mod simple;
 use jade_base::Pos;
 pub use program::parse;
 
-/// A word or a symbol of the language.
+/// A word or a symbol of the language. The grammar's parts are made of signs, so that proofs of
+/// other crates name them.
 #[derive(Clone, Copy, Debug, PartialEq, Eq)]
 pub enum Sign {
     TrueWord,
@@ -76,7 +77,7 @@ pub enum Sign {
 
 /// What a token is. `Odd` is what stands in no program.
 #[derive(Clone, Copy)]
-pub enum Kind<'t> {
+pub(crate) enum Kind<'t> {
     Fixed(Sign),
     Called(&'t [u8]),
     Counted(i64),
@@ -85,23 +86,15 @@ pub enum Kind<'t> {
 
 /// A token as what it is, and its place.
 #[derive(Clone, Copy)]
-pub struct Seen<'t> {
+pub(crate) struct Seen<'t> {
     pub kind: Kind<'t>,
     pub pos: Pos,
-}
-
-/// Where a statement stands: in a body, in the section of a `withonly`, or in that of a `with`.
-#[derive(Clone, Copy, Debug, PartialEq, Eq)]
-pub enum Place {
-    Main,
-    Section,
-    Amends,
 }
 
 /// Why no tree was read: the number of the first refused token, or of the 257th token of an
 /// outermost expression, counted from 0, or want of memory.
 #[derive(Debug, Drop)]
-pub enum Stop {
+pub(crate) enum Stop {
     Token(usize),
     Long(usize),
     Memory,

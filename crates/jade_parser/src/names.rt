@@ -1,15 +1,16 @@
 ghost use Rattle.std.specs.Prelude.{◌≡◌, ◌+◌, [], ◌∷◌, MatchResult};
-ghost use Rattle.jade_parser.specs.Reads.{Whole, OnOther, place_at};
+ghost use Rattle.jade_parser.specs.Reads.{Known, Whole, OnOther, place_at};
 ghost use Rattle.jade_parser.specs.Machine.{NameIs, NumberIs};
 ghost use Rattle.jade_parser.specs.Spelled.{Called, marked, number_part};
 
 use crate::{Kind, Seen, Stop};
-use jade_syntax::Name;
 use jade_syntax::tree::Number;
+use jade_syntax::{Name, NameError};
 use std::alloc::Global;
 
 /// The name that stands at the place.
 pub fn name_at(alloc: Global, tokens: &[Seen<'_>], at: usize) -> Result<Name, Stop>
+    requires { Known tokens.now }
     ensures { MatchResult result (λ name. Whole tokens.now at (NameIs ∷ []) (at + 1) [] (marked (Called name) (place_at tokens.now at) ∷ [])) (λ e. OnOther e tokens.now at (NameIs ∷ [])) }
 {
     if at >= tokens.len() {
@@ -18,7 +19,8 @@ pub fn name_at(alloc: Global, tokens: &[Seen<'_>], at: usize) -> Result<Name, St
     match tokens[at].kind {
         Kind::Called(text) => match Name::of(alloc, text) {
             Ok(name) => Ok(name),
-            Err(_) => Err(Stop::Memory),
+            Err(NameError::Memory) => Err(Stop::Memory),
+            Err(NameError::Shape) => unreachable!(),
         },
         Kind::Fixed(_) => Err(Stop::Token(at)),
         Kind::Counted(_) => Err(Stop::Token(at)),

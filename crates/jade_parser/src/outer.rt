@@ -1,4 +1,5 @@
 ghost use Rattle.std.specs.Prelude.{◌≤◌, length};
+ghost use Rattle.jade_parser.specs.Reads.{Known};
 ghost use Rattle.jade_parser.specs.Parts.{ParsedOuter};
 
 use crate::expressions::parse_expr;
@@ -10,16 +11,12 @@ use std::alloc::Global;
 const EXPRESSION_LIMIT: usize = 256;
 
 /// An expression that lies in no other.
-pub fn parse_outer(
-    alloc: Global,
-    tokens: &[Seen<'_>],
-    start: usize,
-    depth: usize,
-) -> Result<(Expr, usize), Stop>
-    requires { start ≤ length tokens.now }
+pub fn parse_outer(alloc: Global, tokens: &[Seen<'_>], start: usize) -> Result<(Expr, usize), Stop>
+    requires within { start ≤ length tokens.now }
+    requires known { Known tokens.now }
     ensures { ParsedOuter tokens.now start result }
 {
-    match parse_expr(alloc, tokens, start, depth) {
+    match parse_expr(alloc, tokens, start) {
         Ok((x, at)) => {
             if at - start <= EXPRESSION_LIMIT {
                 Ok((x, at))
@@ -34,6 +31,7 @@ pub fn parse_outer(
                 Err(Stop::Long(start + EXPRESSION_LIMIT))
             }
         }
-        Err(_) => Err(Stop::Memory),
+        Err(Stop::Long(at)) => Err(Stop::Long(at)),
+        Err(Stop::Memory) => Err(Stop::Memory),
     }
 }

@@ -1,7 +1,7 @@
 //! The pieces of statements: expressions with what ends them, indexes, objects and lists of names.
 
 ghost use Rattle.std.specs.Prelude.{◌≡◌, ◌+◌, ◌≤◌, ◌<◌, [], ◌∷◌, ◌++◌, drop, length, Some, IsTrue, IsFalse};
-ghost use Rattle.jade_parser.specs.Reads.{head_sign, kinds, Whole};
+ghost use Rattle.jade_parser.specs.Reads.{Known, head_sign, kinds, Whole};
 ghost use Rattle.jade_parser.specs.Machine.{Must, NameIs, Names, Second, expr_in};
 ghost use Rattle.jade_parser.specs.Statements.{object_parts};
 ghost use Rattle.jade_parser.specs.Forms.{ParsedAs, NoHead, ended, indexes, declared, named_list};
@@ -31,12 +31,12 @@ pub fn parse_ended(
     tokens: &[Seen<'_>],
     start: usize,
     closer: Sign,
-    depth: usize,
 ) -> Result<(Expr, usize), Stop>
-    requires { start ≤ length tokens.now }
+    requires within { start ≤ length tokens.now }
+    requires known { Known tokens.now }
     ensures { ParsedAs (ended closer) tokens.now start (expr_in ++ Must closer ∷ []) result }
 {
-    let (inner, at) = match parse_outer(alloc, tokens, start, depth) {
+    let (inner, at) = match parse_outer(alloc, tokens, start) {
         Ok(read) => read,
         Err(e) => return Err(e),
     };
@@ -52,17 +52,17 @@ pub fn parse_indexes(
     alloc: Global,
     tokens: &[Seen<'_>],
     start: usize,
-    depth: usize,
 ) -> Result<((Option<Expr>, Expr), usize), Stop>
-    requires { start ≤ length tokens.now }
+    requires within { start ≤ length tokens.now }
+    requires known { Known tokens.now }
     ensures { ParsedAs indexes tokens.now start (expr_in ++ Must RightBracket ∷ Second ∷ []) result }
 {
-    let (first, at) = match parse_ended(alloc, tokens, start, Sign::RightBracket, depth) {
+    let (first, at) = match parse_ended(alloc, tokens, start, Sign::RightBracket) {
         Ok(read) => read,
         Err(e) => return Err(e),
     };
     if bracket(tokens, at) {
-        match parse_ended(alloc, tokens, at + 1, Sign::RightBracket, depth) {
+        match parse_ended(alloc, tokens, at + 1, Sign::RightBracket) {
             Ok((cell, at)) => Ok(((Some(first), cell), at)),
             Err(e) => Err(e),
         }
@@ -76,9 +76,9 @@ pub fn parse_object(
     alloc: Global,
     tokens: &[Seen<'_>],
     start: usize,
-    depth: usize,
 ) -> Result<(ObjectRef, usize), Stop>
-    requires { start ≤ length tokens.now }
+    requires within { start ≤ length tokens.now }
+    requires known { Known tokens.now }
     ensures { ParsedAs object_parts tokens.now start (NameIs ∷ Second ∷ []) result }
 {
     let pos = pos_at(tokens, start);
@@ -88,7 +88,7 @@ pub fn parse_object(
     };
     let at = start + 1;
     if bracket(tokens, at) {
-        match parse_ended(alloc, tokens, at + 1, Sign::RightBracket, depth) {
+        match parse_ended(alloc, tokens, at + 1, Sign::RightBracket) {
             Ok((member, at)) => Ok((
                 ObjectRef {
                     name,
@@ -116,16 +116,16 @@ pub fn parse_declared(
     alloc: Global,
     tokens: &[Seen<'_>],
     start: usize,
-    depth: usize,
 ) -> Result<(ObjectRef, usize), Stop>
-    requires { start ≤ length tokens.now }
+    requires within { start ≤ length tokens.now }
+    requires known { Known tokens.now }
     ensures { ParsedAs declared tokens.now start (Must LeftParen ∷ NameIs ∷ Second ∷ Must RightParen ∷ Must Semicolon ∷ []) result }
 {
     let opened = match expect(tokens, start, Sign::LeftParen) {
         Ok(at) => at,
         Err(e) => return Err(e),
     };
-    let (object, named) = match parse_object(alloc, tokens, opened, depth) {
+    let (object, named) = match parse_object(alloc, tokens, opened) {
         Ok(read) => read,
         Err(e) => return Err(e),
     };
@@ -145,7 +145,8 @@ pub fn parse_names(
     tokens: &[Seen<'_>],
     start: usize,
 ) -> Result<(NameList, usize), Stop>
-    requires { start ≤ length tokens.now }
+    requires within { start ≤ length tokens.now }
+    requires known { Known tokens.now }
     ensures { ParsedAs named_list tokens.now start (Names ∷ []) result }
 {
     let mut all = NameList::empty(alloc);

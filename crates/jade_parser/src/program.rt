@@ -3,26 +3,25 @@
 ghost use Rattle.std.specs.Prelude.{◌≡◌, MatchResult, IfOk, IfErr};
 ghost use Rattle.jade_parser.specs.Grammar.{IsReading, IsRefusal, place_of};
 ghost use Rattle.jade_parser.specs.Refused.{ReadAll, RefusedAt, TooLongAt};
-ghost use Rattle.jade_parser.specs.Reads.{OnStop};
+ghost use Rattle.jade_parser.specs.Reads.{Known, OnStop};
 
 use crate::compound::parse_block;
 use crate::items::parse_items;
 use crate::kinds::classified;
-use crate::{ParseError, Place, Seen, Stop};
+use crate::{ParseError, Seen, Stop};
 use jade_base::Pos;
 use jade_lexer::Tokens;
+use jade_syntax::shapes::place::Place;
 use jade_syntax::tree::Program;
 use std::alloc::Global;
 
-/// The most brackets that are open at once.
-const DEPTH_LIMIT: usize = 64;
-
 /// The program that the tokens are.
 fn parse_seen(alloc: Global, tokens: &[Seen<'_>]) -> Result<Program, Stop>
+    requires { Known tokens.now }
     ensures { MatchResult result (ReadAll tokens.now) (λ e. OnStop e (RefusedAt tokens.now) (TooLongAt tokens.now)) }
 {
     let (items, at) = parse_items(alloc, tokens)?;
-    let (main, at) = parse_block(alloc, tokens, at, Place::Main, DEPTH_LIMIT)?;
+    let (main, at) = parse_block(alloc, tokens, at, Place::Main)?;
     if at < tokens.len() {
         return Err(Stop::Token(at));
     }
@@ -40,7 +39,8 @@ fn place_of(tokens: &Tokens<'_>, at: usize) -> Pos
     }
 }
 
-/// The tree of the tokens, or the first token that is refused.
+/// The tree of the tokens, or the place of the first token that is refused, or of the 257th token of
+/// an outermost expression, or want of memory. Brackets may nest to any depth.
 pub fn parse(alloc: Global, tokens: &Tokens<'_>) -> Result<Program, ParseError>
     ensures read { IfOk result (IsReading tokens.now) }
     ensures refused { IfErr result (IsRefusal tokens.now) }

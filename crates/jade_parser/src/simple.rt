@@ -1,21 +1,23 @@
 //! Statements that hold no others: locals, assignments, stores and declarations.
 
 ghost use Rattle.std.specs.Prelude.{◌≡◌, ◌+◌, ◌≤◌, [], ◌∷◌, ◌++◌, drop, length, true, None};
-ghost use Rattle.jade_parser.specs.Reads.{head_sign, kinds, place_at, Whole};
-ghost use Rattle.jade_parser.specs.Machine.{Must, NameIs, Second, Body, expr_in, declares, is_main};
+ghost use Rattle.jade_parser.specs.Reads.{Known, head_sign, kinds, place_at, Whole};
+ghost use Rattle.jade_syntax.specs.Shapes.{declares, is_main};
+ghost use Rattle.jade_parser.specs.Machine.{Must, NameIs, Second, Body, expr_in};
 ghost use Rattle.jade_parser.specs.Spelled.{Called, plain, marked, fixed};
-ghost use Rattle.jade_parser.specs.Statements.{statement_parts, kind_word, declare_word, word_sign};
+ghost use Rattle.jade_parser.specs.Statements.{statement_parts, kind_word, declare_word};
 ghost use Rattle.jade_parser.specs.Parts.{ParsedIn, Fits};
 ghost use Rattle.jade_parser.specs.Forms.{Came};
-ghost use Rattle.jade_parser.specs.declared.Place.TheVariants.{Main};
+ghost use Rattle.jade_syntax.specs.declared.shapes.place.Place.TheVariants.{Main};
 ghost use Rattle.jade_parser.specs.declared.Sign.TheVariants.{LeftParen, RightParen, LeftBracket, RightBracket, Semicolon, Becomes};
 
 use crate::leaves::{expect, pos_at};
 use crate::names::name_at;
 use crate::pieces::{is_at, parse_declared, parse_ended, parse_indexes};
-use crate::{Place, Seen, Sign, Stop};
+use crate::{Seen, Sign, Stop};
 use jade_base::Pos;
 use jade_syntax::Name;
+use jade_syntax::shapes::place::Place;
 use jade_syntax::tree::{CellRef, DeclareWord, Statement, ValueKind};
 use std::alloc::Global;
 
@@ -26,9 +28,9 @@ pub fn parse_local(
     start: usize,
     kind: ValueKind,
     place: Place,
-    depth: usize,
 ) -> Result<(Statement, usize), Stop>
-    requires { Whole tokens.now start (Body place ∷ []) (start + 1) (NameIs ∷ Must Becomes ∷ expr_in ++ Must Semicolon ∷ Body place ∷ []) (plain (kind_word kind) ∷ []) }
+    requires read { Whole tokens.now start (Body place ∷ []) (start + 1) (NameIs ∷ Must Becomes ∷ expr_in ++ Must Semicolon ∷ Body place ∷ []) (plain (kind_word kind) ∷ []) }
+    requires known { Known tokens.now }
     ensures { ParsedIn (Fits place) statement_parts tokens.now start (Body place ∷ []) (Body place ∷ []) result }
 {
     let named = start + 1;
@@ -41,7 +43,7 @@ pub fn parse_local(
         Ok(at) => at,
         Err(e) => return Err(e),
     };
-    match parse_ended(alloc, tokens, at, Sign::Semicolon, depth) {
+    match parse_ended(alloc, tokens, at, Sign::Semicolon) {
         Ok((value, end)) => Ok((
             Statement::Local {
                 kind,
@@ -62,14 +64,14 @@ pub fn parse_declare(
     start: usize,
     word: DeclareWord,
     place: Place,
-    depth: usize,
 ) -> Result<(Statement, usize), Stop>
-    requires stands { declares place (word_sign word) ≡ true }
+    requires stands { declares place word ≡ true }
     requires read { Whole tokens.now start (Body place ∷ []) (start + 1) (Must LeftParen ∷ NameIs ∷ Second ∷ Must RightParen ∷ Must Semicolon ∷ Body place ∷ []) (marked (declare_word word) (place_at tokens.now start) ∷ []) }
+    requires known { Known tokens.now }
     ensures { ParsedIn (Fits place) statement_parts tokens.now start (Body place ∷ []) (Body place ∷ []) result }
 {
     let pos = pos_at(tokens, start);
-    match parse_declared(alloc, tokens, start + 1, depth) {
+    match parse_declared(alloc, tokens, start + 1) {
         Ok((object, end)) => Ok((Statement::Declare { word, pos, object }, end)),
         Err(e) => Err(e),
     }
@@ -84,13 +86,13 @@ fn parse_assign(
     name: Name,
     pos: Pos,
     place: Place,
-    depth: usize,
 ) -> Result<(Statement, usize), Stop>
     requires further { start + 1 ≤ next }
     requires read { Came tokens.now start (Body place ∷ []) next (expr_in ++ Must Semicolon ∷ Body place ∷ []) (marked (Called name) pos ∷ fixed Becomes ∷ []) }
+    requires known { Known tokens.now }
     ensures { ParsedIn (Fits place) statement_parts tokens.now start (Body place ∷ []) (Body place ∷ []) result }
 {
-    match parse_ended(alloc, tokens, next, Sign::Semicolon, depth) {
+    match parse_ended(alloc, tokens, next, Sign::Semicolon) {
         Ok((value, end)) => Ok((Statement::Assign { name, pos, value }, end)),
         Err(e) => Err(e),
     }
@@ -105,14 +107,14 @@ fn parse_store(
     name: Name,
     pos: Pos,
     place: Place,
-    depth: usize,
 ) -> Result<(Statement, usize), Stop>
     requires main { is_main place ≡ true }
     requires further { start + 1 ≤ next }
     requires read { Came tokens.now start (Body place ∷ []) next (expr_in ++ Must RightBracket ∷ Second ∷ Must Becomes ∷ expr_in ++ Must Semicolon ∷ Body place ∷ []) (marked (Called name) pos ∷ fixed LeftBracket ∷ []) }
+    requires known { Known tokens.now }
     ensures { ParsedIn (Fits place) statement_parts tokens.now start (Body place ∷ []) (Body place ∷ []) result }
 {
-    let ((family, cell), closed) = match parse_indexes(alloc, tokens, next, depth) {
+    let ((family, cell), closed) = match parse_indexes(alloc, tokens, next) {
         Ok(read) => read,
         Err(e) => return Err(e),
     };
@@ -120,7 +122,7 @@ fn parse_store(
         Ok(at) => at,
         Err(e) => return Err(e),
     };
-    match parse_ended(alloc, tokens, at, Sign::Semicolon, depth) {
+    match parse_ended(alloc, tokens, at, Sign::Semicolon) {
         Ok((value, end)) => {
             let target = CellRef {
                 name,
@@ -151,10 +153,10 @@ pub fn parse_named(
     tokens: &[Seen<'_>],
     start: usize,
     place: Place,
-    depth: usize,
 ) -> Result<(Statement, usize), Stop>
     requires within { start ≤ length tokens.now }
     requires no_sign { None ≡ head_sign (drop start (kinds tokens.now)) }
+    requires known { Known tokens.now }
     ensures { ParsedIn (Fits place) statement_parts tokens.now start (Body place ∷ []) (Body place ∷ []) result }
 {
     let pos = pos_at(tokens, start);
@@ -164,10 +166,10 @@ pub fn parse_named(
     };
     let at = start + 1;
     if is_at(tokens, at, Sign::Becomes) {
-        return parse_assign(alloc, tokens, start, at + 1, name, pos, place, depth);
+        return parse_assign(alloc, tokens, start, at + 1, name, pos, place);
     }
     if is_main(place) && is_at(tokens, at, Sign::LeftBracket) {
-        return parse_store(alloc, tokens, start, at + 1, name, pos, place, depth);
+        return parse_store(alloc, tokens, start, at + 1, name, pos, place);
     }
     Err(Stop::Token(at))
 }

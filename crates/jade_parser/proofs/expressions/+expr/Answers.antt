@@ -10,13 +10,13 @@ use Rattle.jade_parser.proofs.Reading.{whole_on, whole_under}
 use mir.Val.{SFits}
 use mir.Syntax.{w64}
 use Rattle.std.proofs.lemmas.Int.{to_z-of_z}
-use Rattle.jade_parser.proofs.Standing.{called_here, counted_here, head_fixed, nothing_here, odd_here, no_sign_here, within_here}
+use Rattle.jade_parser.proofs.Standing.{called_here, called_known, never_shape, counted_here, head_fixed, nothing_here, odd_here, no_sign_here, within_here}
 use Rattle.jade_parser.proofs.Chains.{chain_first, chain_more, chain_kept, chain_done}
-use Rattle.jade_parser.proofs.Steps.{residual, compare_first, compare_second, compare_both, unary_refused, closed_first, closed_second, atom_refused, whole_made, cell_first, cell_second, cell_both, truth_here, group_refused, group_read, named_refused}
+use Rattle.jade_parser.proofs.Steps.{residual, compare_first, compare_second, compare_both, unary_refused, closed_first, closed_second, atom_refused, whole_made, cell_first, cell_second, cell_both, cell_alone, truth_here, group_refused, group_read, named_refused}
 use Rattle.jade_parser.proofs.expressions.+expr.Goals as goal
 
 pub parse_and-returns-in_err-first : goal.parse_and-returns-in_err-first
-parse_and-returns-in_err-first t c = residual _ _ _ _ c.from_residual.ensures.1 (chain_first and_parts compare_parts compare_in 4 and_part (λ y ps. roll-AndExpr (record { first = y; rest = ps })) and_made _ _ _ c.requires c.in_err-first.ensures)
+parse_and-returns-in_err-first t c = residual _ _ _ _ c.from_residual.ensures.1 (chain_first and_parts compare_parts compare_in 4 and_part (λ y ps. roll-AndExpr (record { first = y; rest = ps })) and_made _ _ _ c.requires.within c.in_err-first.ensures)
 
 pub parse_and-returns-in-Err : goal.parse_and-returns-in-Err
 parse_and-returns-in-Err t c = chain_more and_parts compare_parts compare_in 4 and_part (λ y ps. roll-AndExpr (record { first = y; rest = ps })) and_made _ _ _ _ _ _ _ (λ y. (c.pos_at-pos.result, y)) _ (λ y. rw c.pos_at-pos.ensures refl) c.chain.invariant (c.and_op.ensures.yes c.chain-test.true) c.in-Err.ensures
@@ -28,10 +28,10 @@ pub parse_and-returns : goal.parse_and-returns
 parse_and-returns t c = chain_done and_parts compare_parts compare_in 4 and_part (λ y ps. roll-AndExpr (record { first = y; rest = ps })) and_made _ _ _ _ _ c.chain.invariant (c.and_op.ensures.no c.chain-test.false)
 
 pub parse_atom-parse_named-requires : goal.parse_atom-parse_named-requires
-parse_atom-parse_named-requires t c = (search rules, called_here _ _ _ _ c.if-start-tokens.true c.in-Called.is)
+parse_atom-parse_named-requires t c = (search rules, (called_here _ _ _ _ c.if-start-tokens.true c.in-Called.is, c.requires.known))
 
 pub parse_atom-parse_fixed-requires : goal.parse_atom-parse_fixed-requires
-parse_atom-parse_fixed-requires t c = (search rules, (head_fixed _ _ _ _ c.if-start-tokens.true c.in-Fixed.is, c.requires.no_sign))
+parse_atom-parse_fixed-requires t c = (search rules, (head_fixed _ _ _ _ c.if-start-tokens.true c.in-Fixed.is, (c.requires.no_sign, c.requires.known)))
 
 pub parse_atom-returns-in-Counted : goal.parse_atom-returns-in-Counted
 parse_atom-returns-in-Counted t c =
@@ -42,22 +42,22 @@ pub parse_atom-returns-else-start-tokens : goal.parse_atom-returns-else-start-to
 parse_atom-returns-else-start-tokens t c = atom_refused _ _ c.requires.within (nothing_here _ _ c.if-start-tokens.false)
 
 pub parse_cell-returns-in_err-first : goal.parse_cell-returns-in_err-first
-parse_cell-returns-in_err-first t c = residual _ _ _ _ c.from_residual.ensures.1 (cell_first _ _ _ _ c.args.pos _ c.requires c.in_err-first.ensures)
+parse_cell-returns-in_err-first t c = residual _ _ _ _ c.from_residual.ensures.1 (cell_first _ _ _ _ c.args.pos _ c.requires.read c.in_err-first.ensures)
 
 pub parse_cell-returns-in_err-cell : goal.parse_cell-returns-in_err-cell
-parse_cell-returns-in_err-cell t c = residual _ _ _ _ c.from_residual-in_err-cell.ensures.1 (cell_second _ _ _ _ _ _ c.args.pos _ _ c.requires c.in_ok-first.ensures (c.bracket.ensures.second c.if-bracket.true) c.in_err-cell.ensures)
+parse_cell-returns-in_err-cell t c = residual _ _ _ _ c.from_residual-in_err-cell.ensures.1 (cell_second _ _ _ _ _ _ c.args.pos _ _ c.requires.read c.in_ok-first.ensures (c.bracket.ensures.second c.if-bracket.true) c.in_err-cell.ensures)
 
 pub parse_cell-returns-in_ok-cell : goal.parse_cell-returns-in_ok-cell
-parse_cell-returns-in_ok-cell t c = cell_both _ _ _ _ _ _ _ _ _ _ c.requires c.in_ok-first.ensures (c.bracket.ensures.second c.if-bracket.true) c.in_ok-cell.ensures
+parse_cell-returns-in_ok-cell t c = cell_both _ _ _ _ _ _ _ _ _ _ c.requires.read c.in_ok-first.ensures (c.bracket.ensures.second c.if-bracket.true) c.in_ok-cell.ensures
 
 pub parse_closed-returns-in_err-inner : goal.parse_closed-returns-in_err-inner
-parse_closed-returns-in_err-inner t c = residual _ _ _ _ c.from_residual.ensures.1 (closed_first _ _ _ _ c.requires c.in_err-inner.ensures)
+parse_closed-returns-in_err-inner t c = residual _ _ _ _ c.from_residual.ensures.1 (closed_first _ _ _ _ c.requires.within c.in_err-inner.ensures)
 
 pub parse_closed-returns-in_err-at : goal.parse_closed-returns-in_err-at
 parse_closed-returns-in_err-at t c = residual _ _ _ _ c.from_residual-in_err-at.ensures.1 (closed_second _ _ _ _ _ _ c.in_ok-inner.ensures c.in_err-at.ensures)
 
 pub parse_compare-returns-in_err-left : goal.parse_compare-returns-in_err-left
-parse_compare-returns-in_err-left t c = residual _ _ _ _ c.from_residual.ensures.1 (compare_first _ _ _ c.requires c.in_err-left.ensures)
+parse_compare-returns-in_err-left t c = residual _ _ _ _ c.from_residual.ensures.1 (compare_first _ _ _ c.requires.within c.in_err-left.ensures)
 
 pub parse_compare-returns-in_err-right-in-Some : goal.parse_compare-returns-in_err-right-in-Some
 parse_compare-returns-in_err-right-in-Some t c = residual _ _ _ _ c.from_residual-in_err-right-in-Some.ensures.1 (compare_second _ _ _ _ _ _ _ _ c.in_ok-left.ensures c.in-Some.ensures c.in_err-right-in-Some.ensures)
@@ -66,7 +66,7 @@ pub parse_compare-returns-in_ok-right-in-Some : goal.parse_compare-returns-in_ok
 parse_compare-returns-in_ok-right-in-Some t c = rw c.pos_at-pos.ensures (compare_both _ _ _ _ _ _ _ _ _ c.in_ok-left.ensures c.in-Some.ensures c.in_ok-right-in-Some.ensures)
 
 pub parse_expr-returns-in_err-first : goal.parse_expr-returns-in_err-first
-parse_expr-returns-in_err-first t c = residual _ _ _ _ c.from_residual.ensures.1 (chain_first expr_parts and_parts and_in 5 or_part (λ y ps. roll-Expr (record { first = y; rest = ps })) expr_made _ _ _ c.requires c.in_err-first.ensures)
+parse_expr-returns-in_err-first t c = residual _ _ _ _ c.from_residual.ensures.1 (chain_first expr_parts and_parts and_in 5 or_part (λ y ps. roll-Expr (record { first = y; rest = ps })) expr_made _ _ _ c.requires.within c.in_err-first.ensures)
 
 pub parse_expr-returns-in-Err : goal.parse_expr-returns-in-Err
 parse_expr-returns-in-Err t c = chain_more expr_parts and_parts and_in 5 or_part (λ y ps. roll-Expr (record { first = y; rest = ps })) expr_made _ _ _ _ _ _ _ (λ y. (c.pos_at-pos.result, y)) _ (λ y. rw c.pos_at-pos.ensures refl) c.chain.invariant (c.or_op.ensures.yes c.chain-test.true) c.in-Err.ensures
@@ -96,7 +96,7 @@ pub parse_named-returns-in_err-cell : goal.parse_named-returns-in_err-cell
 parse_named-returns-in_err-cell t c = residual _ _ _ _ c.from_residual.ensures.1 (named_refused _ _ c.args.alloc _ c.in_err-cell.ensures)
 
 pub parse_product-returns-in_err-first : goal.parse_product-returns-in_err-first
-parse_product-returns-in_err-first t c = residual _ _ _ _ c.from_residual.ensures.1 (chain_first product_parts unary_parts unary_in 1 product_part (λ y ps. roll-Product (record { first = y; rest = ps })) product_made _ _ _ c.requires c.in_err-first.ensures)
+parse_product-returns-in_err-first t c = residual _ _ _ _ c.from_residual.ensures.1 (chain_first product_parts unary_parts unary_in 1 product_part (λ y ps. roll-Product (record { first = y; rest = ps })) product_made _ _ _ c.requires.within c.in_err-first.ensures)
 
 pub parse_product-returns-in-Err : goal.parse_product-returns-in-Err
 parse_product-returns-in-Err t c = chain_more product_parts unary_parts unary_in 1 product_part (λ y ps. roll-Product (record { first = y; rest = ps })) product_made _ _ _ _ _ _ _ (λ y. (c.in-Some.op, c.pos_at-pos.result, y)) _ (λ y. rw c.pos_at-pos.ensures refl) c.chain.invariant c.in-Some.ensures c.in-Err.ensures
@@ -108,7 +108,7 @@ pub parse_product-returns : goal.parse_product-returns
 parse_product-returns t c = chain_done product_parts unary_parts unary_in 1 product_part (λ y ps. roll-Product (record { first = y; rest = ps })) product_made _ _ _ _ _ c.chain.invariant c.in_default.ensures
 
 pub parse_sum-returns-in_err-first : goal.parse_sum-returns-in_err-first
-parse_sum-returns-in_err-first t c = residual _ _ _ _ c.from_residual.ensures.1 (chain_first sum_parts product_parts product_in 2 sum_part (λ y ps. roll-Sum (record { first = y; rest = ps })) sum_made _ _ _ c.requires c.in_err-first.ensures)
+parse_sum-returns-in_err-first t c = residual _ _ _ _ c.from_residual.ensures.1 (chain_first sum_parts product_parts product_in 2 sum_part (λ y ps. roll-Sum (record { first = y; rest = ps })) sum_made _ _ _ c.requires.within c.in_err-first.ensures)
 
 pub parse_sum-returns-in-Err : goal.parse_sum-returns-in-Err
 parse_sum-returns-in-Err t c = chain_more sum_parts product_parts product_in 2 sum_part (λ y ps. roll-Sum (record { first = y; rest = ps })) sum_made _ _ _ _ _ _ _ (λ y. (c.in-Some.op, c.pos_at-pos.result, y)) _ (λ y. rw c.pos_at-pos.ensures refl) c.chain.invariant c.in-Some.ensures c.in-Err.ensures
@@ -130,3 +130,9 @@ parse_atom-returns-in-Odd t c = atom_refused _ _ c.requires.within (odd_here _ _
 
 pub parse_closed-returns : goal.parse_closed-returns
 parse_closed-returns t c = whole_on (whole_under (Must c.args.closer ∷ []) c.in_ok-inner.ensures) c.in_ok-at.ensures
+
+pub parse_named-unreachable-requires : goal.parse_named-unreachable-requires
+parse_named-unreachable-requires t c = never_shape c.args.text.now _ (called_known c.requires.read c.requires.known) c.in-Err-Shape.ensures.refused c.in-Err-Shape.field-0-is
+
+pub parse_cell-returns-else-bracket : goal.parse_cell-returns-else-bracket
+parse_cell-returns-else-bracket t c = cell_alone _ _ _ _ _ _ _ c.requires.read c.in_ok-first.ensures (c.bracket.ensures.no_second c.if-bracket.false)

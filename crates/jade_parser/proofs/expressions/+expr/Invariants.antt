@@ -6,37 +6,37 @@ use Rattle.jade_parser.specs.Reads.{Whole}
 use Rattle.jade_parser.proofs.expressions.+expr.Given as goal
 
 abbrev pub decreases-parse_expr : goal.decreases-parse_expr
-decreases-parse_expr l = 20 * l.depth + 9
+decreases-parse_expr l = 20 * (length l.tokens.now - l.start) + 9
 
 abbrev pub decreases-parse_and : goal.decreases-parse_and
-decreases-parse_and l = 20 * l.depth + 8
+decreases-parse_and l = 20 * (length l.tokens.now - l.start) + 8
 
 abbrev pub decreases-parse_compare : goal.decreases-parse_compare
-decreases-parse_compare l = 20 * l.depth + 7
+decreases-parse_compare l = 20 * (length l.tokens.now - l.start) + 7
 
 abbrev pub decreases-parse_sum : goal.decreases-parse_sum
-decreases-parse_sum l = 20 * l.depth + 6
+decreases-parse_sum l = 20 * (length l.tokens.now - l.start) + 6
 
 abbrev pub decreases-parse_product : goal.decreases-parse_product
-decreases-parse_product l = 20 * l.depth + 5
+decreases-parse_product l = 20 * (length l.tokens.now - l.start) + 5
 
 abbrev pub decreases-parse_unary : goal.decreases-parse_unary
-decreases-parse_unary l = 20 * l.depth + 4
+decreases-parse_unary l = 20 * (length l.tokens.now - l.start) + 4
 
 abbrev pub decreases-parse_atom : goal.decreases-parse_atom
-decreases-parse_atom l = 20 * l.depth + 3
+decreases-parse_atom l = 20 * (length l.tokens.now - l.start) + 3
 
 abbrev pub decreases-parse_named : goal.decreases-parse_named
-decreases-parse_named l = 20 * l.depth + 2
+decreases-parse_named l = 20 * (length l.tokens.now - l.start) + 2
 
 abbrev pub decreases-parse_cell : goal.decreases-parse_cell
-decreases-parse_cell l = 20 * l.depth + 1
+decreases-parse_cell l = 20 * (length l.tokens.now - l.start) + 1
 
 abbrev pub decreases-parse_fixed : goal.decreases-parse_fixed
-decreases-parse_fixed l = 20 * l.depth + 1
+decreases-parse_fixed l = 20 * (length l.tokens.now - l.start) + 1
 
 abbrev pub decreases-parse_closed : goal.decreases-parse_closed
-decreases-parse_closed l = 20 * l.depth + 15
+decreases-parse_closed l = 20 * (length l.tokens.now - l.start) + 15
 
 abbrev pub invariant-parse_expr-chain : goal.invariant-parse_expr-chain
 invariant-parse_expr-chain l = Whole l.tokens l.fn.start expr_in l.at (Rest 5 ∷ []) (and_parts l.first ++ flat_map or_part l.rest)

@@ -1,5 +1,6 @@
-use Rattle.std.proofs.Common.{refl}
-use Rattle.jade_parser.proofs.Standing.{called_taken, stops_kind}
+use Rattle.std.proofs.Common.{refl, [], ◌∷◌}
+use Rattle.jade_parser.specs.Machine.{NameIs}
+use Rattle.jade_parser.proofs.Standing.{called_taken, called_known, never_shape, stops_kind}
 use Rattle.jade_parser.proofs.names.name_at.Goals as goal
 
 pub returns-in-Ok : goal.returns-in-Ok
@@ -13,3 +14,6 @@ returns-in-Counted c = stops_kind _ _ _ _ _ c.if-at-tokens.false c.in-Counted.is
 
 pub returns-in-Odd : goal.returns-in-Odd
 returns-in-Odd c = stops_kind _ _ _ _ _ c.if-at-tokens.false c.in-Odd.is (λ rest st. refl)
+
+pub unreachable-requires : goal.unreachable-requires
+unreachable-requires c = never_shape c.in-Called.text.now _ (called_known (called_taken _ _ _ _ (NameIs ∷ []) [] c.if-at-tokens.false c.in-Called.is (λ rest st. refl)) c.requires) c.in-Err-Shape.ensures.refused c.in-Err-Shape.field-0-is

@@ -2,7 +2,7 @@ use Rattle.jade_parser.proofs.Pieced.{paren_refused, inner_refused, closing_refu
 use Rattle.jade_parser.proofs.pieces.parse_declared.Goals as goal
 
 pub returns-in-Err : goal.returns-in-Err
-returns-in-Err c = paren_refused _ _ _ c.requires c.in-Err.ensures
+returns-in-Err c = paren_refused _ _ _ c.requires.within c.in-Err.ensures
 
 pub returns-in-Err-parse_object : goal.returns-in-Err-parse_object
 returns-in-Err-parse_object c = inner_refused _ _ _ _ c.in-Ok.ensures c.in-Err-parse_object.ensures

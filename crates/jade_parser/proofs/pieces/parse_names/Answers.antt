@@ -5,7 +5,7 @@ pub returns-then-is_at : goal.returns-then-is_at
 returns-then-is_at c = no_names _ _ _ c.empty-all.ensures (c.is_at.ensures.yes c.if-is_at.true)
 
 pub returns-in-Err : goal.returns-in-Err
-returns-in-Err c = names_refused _ _ _ c.requires (c.is_at.ensures.no c.if-is_at.false) c.in-Err.ensures
+returns-in-Err c = names_refused _ _ _ c.requires.within (c.is_at.ensures.no c.if-is_at.false) c.in-Err.ensures
 
 pub returns-then-not-is_at : goal.returns-then-not-is_at
 returns-then-not-is_at c = comma_refused _ _ _ _ c.names.invariant.0 (c.is_at-in-names.ensures.no c.names-test.true) (c.is_at-in-names-2.ensures.no c.if-not-is_at.true)

@@ -1,5 +1,5 @@
 use Rattle.std.proofs.Common.{◌≡◌, ◌+◌, true, sym, ◌∙◌}
-use Rattle.jade_parser.specs.Machine.{is_main}
+use Rattle.jade_syntax.specs.Shapes.{is_main}
 use Rattle.jade_parser.specs.Forms.{NoHead}
 use Rattle.jade_parser.specs.declared.Sign.TheVariants.{LeftBracket}
 use Rattle.jade_parser.proofs.Simply.{unnamed, assign_begun, store_begun, named_alone}
