@@ -6,4 +6,17 @@ pub mod Shown
 pub mod OneLevel
 pub mod OneTerm
 pub mod OneStatement
+pub mod Unmoved
 pub mod OneTree
+pub mod DepthOfTokens
+pub mod DepthOfParts
+pub mod DepthOfTerms
+pub mod DepthOfStatements
+pub mod DepthOfText
+pub mod ShapeOfParts
+pub mod ShapeOfTerms
+pub mod ShapeOfStatements
+pub mod ShapeOfProgram
+pub mod ShapeNotRefused
+pub mod ReadingIsShaped
+pub mod ReadingBack

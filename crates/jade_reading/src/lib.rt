@@ -1,4 +1,7 @@
-//! What is proved of the abstract syntax of a text, for whoever stands on it.
+//! What is proved of the trees that texts, tokens and printed texts read as.
 #![tactic(auto)]
 
 pub mod laws;
+pub mod round_trip;
+
+pub use round_trip::read_back;
