@@ -19,9 +19,9 @@ use denote.Bor.{Bor}
 use Rattle.jade_run.specs.declared.answer.Answer.{Answer as AnswerOf}
 use Rattle.jade_run.specs.declared.answer.ReadError.{ReadError}
 use Rattle.jade_run.specs.declared.answer.ReadError.TheVariants.{Refused as NotRead, Memory as Unread}
-use Rattle.jade_run.specs.Outcome.{IsOutcome, IsAnswered, IsGood, Shows, IsShown, IsTested, IsCommanded, IsNotRead, OnRefused, ReadsAs, RefusedAs, RefusedFor, IsAllowed, IsLimited, usage, too_long, run, serial, check, show, refused, answered, miscounted, good, not_good, shown, not_shown, unread, first_place, answer_status, input_count}
+use Rattle.jade_run.specs.Outcome.{IsOutcome, IsAnswered, IsGood, Shows, IsShown, IsTested, IsCommanded, IsNotRead, OnRefused, RefusedAs, RefusedFor, IsAllowed, IsLimited, usage, too_long, run, serial, check, show, refused, answered, miscounted, good, not_good, shown, not_shown, unread, first_place, answer_status, input_count}
 use Rattle.jade_run.specs.Texts.{usage_text, refused_text, numbers_text, ok_text}
-use Rattle.jade_run.specs.Words.{RunWords, SerialWords, SpellsExecution, AcceptsWords, RefusesWords, Asks, IsUsage, to_run, to_serial, to_check, to_show}
+use Rattle.jade_run.specs.Words.{SpellsExecution, AcceptsWords, RefusesWords, Asks, IsUsage, to_run, to_serial, to_check, to_show}
 use Rattle.jade_meaning.specs.Answer.{Answer, Faulted, Cells, answer}
 use Rattle.jade_syntax.specs.Image.{program}
 

@@ -1,7 +1,7 @@
 -- The first words of the commands, and words that are no command's.
-use Rattle.std.proofs.Common.{◌≡◌, ℕ, List, [], ◌∷◌, refl, sym, ◌∙◌, subst}
-use Rattle.std.specs.Prelude.{codes, ℤ}
-use Rattle.jade_run.specs.Words.{SpellsExecution, SpellsRun, RunWords, SerialWords, AcceptsWords, RefusesWords, to_run, to_serial, to_check, to_show, IsUsage, NoExecution, NoRun}
+use Rattle.std.proofs.Common.{◌≡◌, ℕ, List, ◌∷◌, sym, ◌∙◌, subst}
+use Rattle.std.specs.Prelude.{codes}
+use Rattle.jade_run.specs.Words.{SpellsExecution, SpellsRun, to_run, to_serial, to_check, to_show, IsUsage, NoExecution, NoRun}
 use Rattle.jade_run.specs.declared.words.WordsError.{WordsError}
 use Rattle.jade_run.specs.declared.words.WordsError.TheVariants.{Usage, Memory}
 

@@ -1,12 +1,11 @@
 -- Words and a text come to one text and one status.
-use Rattle.std.proofs.Common.{◌≡◌, ℕ, ◌<◌, ◌≤◌, ◌⊎◌, inl, inr, Bool, true, false, List, [], ◌∷◌, length, Some, refl, ap, sym, ◌∙◌, subst, arith}
-use Rattle.std.specs.Prelude.{codes, ◌&&◌, ℤ, None, map}
+use Rattle.std.proofs.Common.{◌≡◌, ℕ, ◌<◌, ◌≤◌, ◌⊎◌, inl, inr, true, List, [], ◌∷◌, length, Some, refl, ap, sym, ◌∙◌, subst, arith}
+use Rattle.std.specs.Prelude.{codes, ℤ, None, map}
 use Rattle.std.specs.List.{list_all}
-use Rattle.std.specs.Fmt.{decimal, signed_decimal}
+use Rattle.std.specs.Fmt.{signed_decimal}
 use Rattle.std.proofs.lemmas.Fmt.{decimal_injective, signed_decimal_injective}
 use Rattle.jade_syntax.specs.declared.tree.Program.{Program}
 use Rattle.jade_syntax.specs.Image.{program}
-use Rattle.jade_syntax.specs.Abstract.{AbstractProgram}
 use Rattle.jade_syntax.specs.Placed.{PlacedProgram}
 use Rattle.jade_syntax.specs.PlacedImage.{placed_program}
 use Rattle.jade_syntax.specs.Erased.{erased_program}
@@ -30,11 +29,11 @@ use Rattle.jade_parser.specs.declared.ParseError.TheVariants.{Token as AtToken, 
 use Rattle.jade_parser.specs.Grammar.{IsReading, IsRefusal, bytes_of}
 use Rattle.jade_parser.specs.Programs.{program_parts}
 use Rattle.jade_parser.specs.OneReading.{SameRefusal, IsMemory}
-use Rattle.jade_run.specs.Outcome.{IsOutcome, IsAnswered, IsGood, IsShown, IsTested, IsWrong, ReadsAs, RefusedAs, RefusedFor, SameOutcome, usage, too_long, run, serial, check, show, refused, answered, miscounted, good, not_good, shown, not_shown, unread, wrong, byte, number, deep, token, long, first_place, answer_text, answer_status, input_count}
+use Rattle.jade_run.specs.Outcome.{IsOutcome, IsAnswered, IsGood, IsShown, IsTested, ReadsAs, RefusedAs, RefusedFor, SameOutcome, usage, too_long, run, serial, check, show, refused, answered, miscounted, good, not_good, shown, not_shown, unread, wrong, byte, number, deep, token, long, first_place, answer_text, answer_status, input_count}
 use Rattle.jade_run.specs.Texts.{refused_text, usage_text, numbers_text, static_word}
 use Rattle.jade_run.proofs.Naming.{firsts, rests, two_names, run_serial, run_check, run_show, serial_check, serial_show, check_show, swapped}
 use Rattle.jade_run.proofs.Signed.{small, and_first, and_second}
-use Rattle.jade_run.specs.Words.{is_number, SpellsNumbers, SpellsExecution, SpellsRun, RunWords, SerialWords, CheckWords, ShowWords, AcceptsWords, RefusesWords, to_run, to_serial, to_check, to_show}
+use Rattle.jade_run.specs.Words.{is_number, SpellsExecution, RunWords, SerialWords, CheckWords, ShowWords, AcceptsWords, RefusesWords, to_run, to_serial, to_check, to_show}
 
 -- ---- words ask for one thing
 

@@ -1,7 +1,6 @@
 -- Numbers with their signs.
-use Rattle.std.proofs.Common.{◌≡◌, ℕ, zero, suc, ◌<◌, ◌≤◌, ◌^◌, Bool, true, false, ◌&&◌, ℤ, pos, negsuc, List, [], ◌∷◌, ◌++◌, length, map, take, Result, Ok, Some, refl, ap, sym, ◌∙◌, arith, w64, FitsSigned, to_z, of_z, rules, subst}
+use Rattle.std.proofs.Common.{◌≡◌, ℕ, zero, suc, ◌<◌, ◌≤◌, ◌^◌, Bool, true, false, ◌&&◌, ℤ, pos, negsuc, List, [], ◌∷◌, map, Result, Ok, Some, refl, ap, sym, ◌∙◌, arith, w64, FitsSigned, to_z, of_z}
 use Rattle.std.proofs.Math.Facts.{to_z-of_z}
-use Rattle.std.specs.Prelude.{nat_le}
 use Rattle.std.specs.Int.Signed.{mag}
 use borrow.Author.Rules.{sfits_of}
 use Rattle.std.specs.List.{list_all, slice_get}

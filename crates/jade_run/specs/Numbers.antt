@@ -3,6 +3,7 @@ use Rattle.std.specs.Prelude.{ℕ}
 use Rattle.jade_run.specs.declared.status.Status.{Status}
 use Rattle.jade_run.specs.declared.status.Status.TheVariants.{Good, Fault, Refused, Words, Numbers, Reading, Writing, Memory}
 
+-- 0 is success; each other status has its own number
 abbrev pub number_of_status : Status → ℕ
 number_of_status Good = 0
 number_of_status Fault = 1

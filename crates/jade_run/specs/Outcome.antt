@@ -36,6 +36,7 @@ abbrev pub answer_text : AbstractProgram → Answer → List ℕ
 answer_text p (Faulted path blame) = fault_text path blame
 answer_text p (Cells store) = objects_text (labels p.items) store
 
+-- the status of an answer
 abbrev pub answer_status : Answer → Status
 answer_status (Faulted path blame) = Fault
 answer_status (Cells store) = Good
@@ -115,6 +116,7 @@ pub data IsShown (bytes : List ℕ) (text : List ℕ) (status : Status) : Type 0
 abbrev pub IsLimited : Execution → Type 0
 IsLimited e = (1 ≤ e.limit) × (length e.numbers ≤ 64)
 
+-- what is asked of a command: the bounds of its numbers, where it executes
 abbrev pub IsAllowed : Command → Type 0
 IsAllowed (Run workers e) = IsLimited e
 IsAllowed (Serial e) = IsLimited e

@@ -10,6 +10,7 @@ use Rattle.jade_syntax.specs.Objects.{Label}
 use Rattle.jade_syntax.specs.declared.static_fault.StaticKind.{StaticKind}
 use Rattle.jade_syntax.specs.declared.static_fault.StaticKind.TheVariants as static
 
+-- a text and its line feed
 abbrev pub line_of : List ℕ → List ℕ
 line_of text = text ++ 10 ∷ []
 
@@ -51,9 +52,11 @@ fault_text path blame =
 abbrev pub refused_text : Pos → List ℕ → List ℕ
 refused_text p why = line_of (codes "refused " ++ place_text p ++ codes " " ++ why)
 
+-- what is written where the words are refused
 abbrev pub usage_text : List ℕ
 usage_text = line_of (codes "usage")
 
+-- what is written of a checked program
 abbrev pub ok_text : List ℕ
 ok_text = line_of (codes "ok")
 

@@ -88,10 +88,12 @@ abbrev pub NoNumbers : List (List ℕ) → WordsError → Type 0
 NoNumbers words Usage = (numbers : List ℤ) → SpellsNumbers words numbers → ⊥
 NoNumbers words Memory = Unit {0}
 
+-- no limit and numbers are spelled
 abbrev pub NoExecution : List (List ℕ) → WordsError → Type 0
 NoExecution words Usage = (limit : ℕ) (numbers : List ℤ) → SpellsExecution words limit numbers → ⊥
 NoExecution words Memory = Unit {0}
 
+-- no workers, limit and numbers are spelled
 abbrev pub NoRun : List (List ℕ) → WordsError → Type 0
 NoRun words Usage = (workers limit : ℕ) (numbers : List ℤ) → SpellsRun words workers limit numbers → ⊥
 NoRun words Memory = Unit {0}

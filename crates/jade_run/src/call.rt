@@ -18,7 +18,7 @@ use std::alloc::Global;
 const FIRST_PLACE: Pos = Pos { line: 1, column: 1 };
 
 /// Runs the command that the words after the program's name ask for: reads the text from the
-/// source where the command has one, writes what it comes to, and answers the status.
+/// source where they are those of a command, writes what it comes to, and answers the status.
 ///
 /// The words are tested first, then the length of the text, then the text. The whole text of the
 /// answer is built before its first byte is written.

@@ -1,7 +1,8 @@
 use jade_base::Path;
 
-/// What stands in the way of a task before it carries out an ask: a program that tests schedules
-/// may hold a task there. Asks are numbered from 0 for each task. No gate is passed yet, since one
+/// What stands in the way of a task before it carries out an ask, which is one event of its talk,
+/// a take of an object for instance: a program that tests schedules may hold a task there. Asks are
+/// numbered from 0 for each task. `jade_main` takes a gate and does not call it yet, since one
 /// thread runs the program.
 pub trait Gate: Sync {
     /// Lets the task at a path carry out its ask of this number.

@@ -4,7 +4,7 @@ ghost use Rattle.jade_run.specs.Numbers.{number_of_status};
 /// How a command ended. The number of a status is the one with which the program ends.
 #[derive(Clone, Copy, Debug, PartialEq, Eq)]
 pub enum Status {
-    /// The objects were written.
+    /// The objects were written, or `ok`, or the layout.
     Good,
     /// The serially first fault was written.
     Fault,

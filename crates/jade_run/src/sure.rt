@@ -10,9 +10,8 @@ use crate::status::Status;
 use jade_base::{SureSink, SureSource, Word};
 use std::alloc::Global;
 
-/// `jade_main` over a text in memory: where the words are good, the text is a program that can be
-/// run, and the sink has room for its answer, the status is `Good` or `Fault` as the answer says,
-/// or `Memory`. It is never `Reading`.
+/// `jade_main` over a text in memory: where the sink has room for the text of the outcome, the
+/// status is the outcome's, or `Memory`. It is never `Reading`.
 pub fn run_in_memory<R, G: Gate>(
     rt: &R,
     alloc: Global,

@@ -1,4 +1,4 @@
-use Rattle.std.proofs.Common.{◌≡◌, ap, Some}
+use Rattle.std.proofs.Common.{ap, Some}
 use Rattle.jade_run.proofs.Signed.{parse_gives, ok_is, read_back}
 use Rattle.jade_run.proofs.words.parsed_signed.Goals as goal
 
