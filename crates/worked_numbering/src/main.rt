@@ -1,0 +1,48 @@
+//! Checks a program, and prints what each of its names stands for, in text order.
+#![tactic(auto)]
+
+use jade_base::{ObjectId, StdSource, read_text};
+use jade_lexer::tokens;
+use jade_parser::parse;
+use jade_syntax::{Checked, Stand};
+use jade_types::check;
+use std::alloc::Global;
+use std::io;
+
+/// The checked program of a text; nothing where it is refused, or for want of memory.
+fn checked(alloc: Global, text: &[u8]) -> Option<Checked> {
+    if text.len() > 1_048_576 {
+        return None;
+    }
+    let tokens = tokens(alloc, text).ok()?;
+    let program = parse(alloc, &tokens).ok()?;
+    check(alloc, program).ok()
+}
+
+/// Prints what a name stands for.
+fn tell(rt: &HostRuntime, stand: &Stand) -> io::Result<()> {
+    match stand {
+        Stand::Input(number) => println!(rt; "input {number}"),
+        Stand::Slot(number) => println!(rt; "slot {number}"),
+        Stand::Single(ObjectId(number)) => println!(rt; "object {number}"),
+        Stand::Family(ObjectId(first), count) => println!(rt;
+            "objects from {first}, {count} of them"
+        ),
+    }
+}
+
+fn main(rt: HostRuntime) -> io::Result<()> {
+    let alloc = rt.alloc();
+    let mut source = StdSource::new(rt.stdin());
+    let Ok(text) = read_text(alloc, &mut source) else {
+        return println!(rt; "no text");
+    };
+    let Some(checked) = checked(alloc, &text) else {
+        return println!(rt; "no checked program");
+    };
+    let stands = checked.stands();
+    for i in 0..stands.len() {
+        tell(&rt, stands.at(i))?;
+    }
+    Ok(())
+}
