@@ -14,11 +14,13 @@ no_rights = record { reads = Absent; writes = Absent; commutes = Absent }
 abbrev pub both_rights : Rights
 both_rights = record { reads = Immediate; writes = Immediate; commutes = Absent }
 
+-- it may be used now
 abbrev pub is_immediate : Right → Bool
 is_immediate Absent = false
 is_immediate Deferred = false
 is_immediate Immediate = true
 
+-- it may be used, now or once it is asked for
 abbrev pub is_there : Right → Bool
 is_there Absent = false
 is_there Deferred = true
@@ -36,6 +38,7 @@ joined Absent r = r
 abbrev pub join : Rights → Rights → Rights
 join a b = record { reads = joined a.reads b.reads; writes = joined a.writes b.writes; commutes = joined a.commutes b.commutes }
 
+-- two rights are one
 abbrev pub same_right : Right → Right → Bool
 same_right Absent Absent = true
 same_right Deferred Deferred = true
@@ -47,6 +50,7 @@ same_right Deferred Immediate = false
 same_right Immediate Absent = false
 same_right Immediate Deferred = false
 
+-- the rights on two objects are the same
 abbrev pub same_rights : Rights → Rights → Bool
 same_rights a b = same_right a.reads b.reads && same_right a.writes b.writes && same_right a.commutes b.commutes
 

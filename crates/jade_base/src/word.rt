@@ -4,7 +4,7 @@ use crate::Memory;
 use std::alloc::Global;
 use std::marker::Model;
 
-/// A name of the text. Contracts see it as the list of its bytes.
+/// A word of a command, of any bytes. Contracts see it as the list of its bytes.
 #[derive(Debug, Drop)]
 pub struct Word {
     letters: Vec<u8>,

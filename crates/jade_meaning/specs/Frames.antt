@@ -80,6 +80,7 @@ frames_on s fs = frames_from s fs finish
 abbrev pub begun_with : List ℤ → On → Running → Course
 begun_with vs on r = fed (drop r.used vs) (on (mine_of r.task))
 
+-- the course of a task, from what it has left to do
 abbrev pub course_of : Setting → List ℤ → Running → Course
 course_of s vs r = begun_with vs (frames_on s r.frames.items) r
 

@@ -24,6 +24,7 @@ event_of t (told.Leave o) = Leave o.0
 event_of t (told.Shift o a) = Shift o.0 a
 event_of t (told.Resign b n) = Resign b n
 
+-- the event that was told, if one was
 abbrev pub events_of : Task → Option Told → List Event
 events_of t None = []
 events_of t (Some e) = event_of t e ∷ []
@@ -54,5 +55,6 @@ kept_as AtStart old new hold = mode_of new
 kept_as AtCreation old new hold = if yields hold new then None else hold
 kept_as AtChange old new hold = if is_taken_anew old new hold then mode_of new else hold
 
+-- the same of an object, by two specifications
 abbrev pub kept_on : Keeping → (old new : Specification) → Holds → ℕ → Option Mode
 kept_on kind old new h o = kept_as kind (rights_on old o) (rights_on new o) (held h o)

@@ -107,6 +107,7 @@ module _ (s : Setting) where
   abbrev pub value_at : Expression → Task → Ledger → Result Value Blame
   value_at e t l = worth s.items t.scope t.grants l.objects e
 
+  -- the object that is meant, where a task stands
   abbrev pub object_at : Place → Task → Ledger → Result Found Blame
   object_at o t l = located s.items t.scope t.grants l.objects o
 

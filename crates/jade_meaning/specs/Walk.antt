@@ -21,6 +21,7 @@ use Rattle.jade_meaning.specs.Specification.{Specification}
 use Rattle.jade_meaning.specs.Course.{Environment, Setting, inputs, finish, run_all, child_start}
 use Rattle.jade_meaning.specs.Talk.{Task, Event, Enter, Enroll, Take, TouchRead, TouchWrite, Wants, Give, Leave, Shift, Resign, talk}
 
+-- what every task of the run has
 abbrev pub setting_of : Walk → Setting
 setting_of w = record { items = w.items; given = w.given; limit = w.limit }
 

@@ -24,13 +24,21 @@ use std::marker::Model;
 /// What the next event of a task is.
 #[derive(Clone, Copy, Debug, PartialEq, Eq)]
 pub enum Act {
+    /// The rights of the next child on an object are entered.
     Enter(ObjectId),
+    /// That child is made.
     Enroll,
+    /// An object is taken in a mode.
     Take(ObjectId),
+    /// A cell is read or written.
     Touch,
+    /// An object that is held is given up.
     Give(ObjectId),
+    /// The task's entry on an object gets other rights.
     Shift(ObjectId),
+    /// The task's entry on an object ends.
     Leave(ObjectId),
+    /// The task ends.
     Resign,
 }
 
@@ -38,11 +46,18 @@ pub enum Act {
 #[derive(Clone, Copy, Debug, PartialEq, Eq)]
 pub enum Carried {
     Nothing,
+    /// The rights that are entered, or that an entry gets.
     Rights(Rights),
+    /// The mode in which an object is taken.
     Mode(Mode),
+    /// The object and the cell that is read, counted from 0.
     Read(ObjectId, u32),
+    /// The object, the cell that is written, counted from 0, and its value.
     Write(ObjectId, u32, i64),
+    /// The steps begun since the last creation, or since the start.
     Steps(u64),
+    /// The fault that ends the task, if one does, and the steps begun since the last creation, or
+    /// since the start.
     Ended(Option<Blame>, u64),
 }
 

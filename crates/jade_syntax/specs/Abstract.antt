@@ -22,6 +22,7 @@ pub data Operator : Type 0 where
 
 -- A chain of one level is its first operand and its links, each with the operator and the operator's place.
 mutual
+  -- a number, a truth value, a variable, a group, a sign before an operand, a chain, or a cell of an object
   pub data Expression : Type 0 where
     Whole : ℤ → Expression
     Truth : Bool → Expression
@@ -31,6 +32,7 @@ mutual
     Chain : Expression → Links → Expression
     Cell : Place → Expression → Expression
 
+  -- what a chain goes on with
   pub data Links : Type 0 where
     Last : Links
     Link : Operator → Pos → Expression → Links → Links
@@ -41,6 +43,7 @@ mutual
     Member : Name → Pos → Expression → Place
 
 mutual
+  -- a statement; an `if` is told with its other branch or without
   pub data Action : Type 0 where
     Local : ValueKind → Name → Expression → Action
     Assign : Name → Expression → Action
@@ -52,6 +55,7 @@ mutual
     With : Pos → (section : Actions) → Action
     Declare : DeclareWord → Pos → Place → Action
 
+  -- statements in order
   pub data Actions : Type 0 where
     Done : Actions
     Then : Action → Actions → Actions

@@ -7,6 +7,7 @@ use Rattle.jade_syntax.specs.PlacedImage.{placed_program}
 use Rattle.jade_syntax.specs.StaticFaults.{static_faults}
 use Rattle.jade_syntax.specs.Numbering.{numbering}
 
+-- a program, and what its names stand for, in text order
 pub record CheckedProgram : Type 0 where
   pub program : Program
   pub stands : List Stand

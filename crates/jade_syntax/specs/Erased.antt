@@ -5,6 +5,7 @@ use Rattle.jade_syntax.specs.Abstract.{Name, Expression, Links as AbstractLinks,
 use Rattle.jade_syntax.specs.Placed.{Term, Whole, Truth, Variable, Group, Signed, Chain, Cell, Links, Last, Link, Object, Alone, Member, Mention, Phrase, Local, Assign, Store, If, IfElse, For, Withonly, With, Declare, Phrases, Done, Then, PlacedProgram}
 
 abbrev mutual
+  -- an expression
   pub erased : Term → Expression
   erased (Whole z at) = abstract.Whole z
   erased (Truth b at) = abstract.Truth b
@@ -14,6 +15,7 @@ abbrev mutual
   erased (Chain e links) = abstract.Chain (erased e) (erased_links links)
   erased (Cell o e) = abstract.Cell (erased_object o) (erased e)
 
+  -- the links of a chain
   pub erased_links : Links → AbstractLinks
   erased_links Last = abstract.Last
   erased_links (Link op at e links) = abstract.Link op at (erased e) (erased_links links)
@@ -22,10 +24,12 @@ abbrev mutual
   erased_object (Alone x at) = abstract.Alone x at
   erased_object (Member x at e) = abstract.Member x at (erased e)
 
+-- a name of a `do` list
 abbrev pub erased_mention : Mention → Name
 erased_mention m = m.name
 
 abbrev mutual
+  -- a statement
   pub erased_phrase : Phrase → Action
   erased_phrase (Local kind x at e) = abstract.Local kind x (erased e)
   erased_phrase (Assign x at e) = abstract.Assign x (erased e)
@@ -37,9 +41,11 @@ abbrev mutual
   erased_phrase (With at section) = abstract.With at (erased_phrases section)
   erased_phrase (Declare how at o) = abstract.Declare how at (erased_object o)
 
+  -- statements
   pub erased_phrases : Phrases → Actions
   erased_phrases Done = abstract.Done
   erased_phrases (Then p more) = abstract.Then (erased_phrase p) (erased_phrases more)
 
+-- a whole program
 abbrev pub erased_program : PlacedProgram → AbstractProgram
 erased_program p = record { items = p.items; main = erased_phrases p.main }

@@ -7,6 +7,7 @@ use Rattle.jade_syntax.specs.declared.stands.Stand.TheVariants.{Input, Slot, Sin
 use Rattle.jade_syntax.specs.Abstract.{Name, Expression, Whole, Truth, Variable, Group, Signed, Chain, Cell, Links, Last, Link, Place, Alone, Member, Action, Local, Assign, Store, If, IfElse, For, Withonly, With, Declare, Actions, Done, Then, AbstractProgram}
 use Rattle.jade_syntax.specs.Objects.{amount}
 
+-- two names have the same bytes
 abbrev pub same_name : Name → Name → Bool
 same_name [] [] = true
 same_name [] (y ∷ ys) = false
@@ -18,6 +19,7 @@ pub record Meant : Type 0 where
   pub name : Name
   pub stand : Stand
 
+-- the names in scope, the newest first
 abbrev pub Scope : Type 0
 Scope = List Meant
 
@@ -39,6 +41,7 @@ abbrev pub declared : List Item → List Meant
 declared items = items_from 0 0 items
 
 abbrev mutual
+  -- what the names of an expression stand for, in text order
   pub expression_stands : Scope → Expression → List Stand
   expression_stands scope (Whole z) = []
   expression_stands scope (Truth b) = []
@@ -48,6 +51,7 @@ abbrev mutual
   expression_stands scope (Chain e links) = expression_stands scope e ++ link_stands scope links
   expression_stands scope (Cell o e) = place_stands scope o ++ expression_stands scope e
 
+  -- the same of the links of a chain
   pub link_stands : Scope → Links → List Stand
   link_stands scope Last = []
   link_stands scope (Link op at e links) = expression_stands scope e ++ link_stands scope links
@@ -71,6 +75,7 @@ abbrev pub parameters : ℕ → List Name → Scope → Scope
 parameters n [] scope = scope
 parameters n (x ∷ xs) scope = parameters (suc n) xs (slotted x n scope)
 
+-- what the names of a `do` list stand for, where the task is created
 abbrev pub name_stands : Scope → List Name → List Stand
 name_stands scope [] = []
 name_stands scope (x ∷ xs) = stand_of x scope ∷ name_stands scope xs
@@ -79,6 +84,7 @@ name_stands scope (x ∷ xs) = stand_of x scope ∷ name_stands scope xs
 -- variable's and its bound's; the names of a block end with it; a created body begins anew.
 module _ (items : Scope) where
   abbrev mutual
+    -- what a statement adds
     pub numbered : Scope → ℕ → Action → Numbered
     numbered scope n (Local kind x e) =
         record { stands = Slot n ∷ expression_stands scope e; scope = slotted x n scope; slots = suc n }
@@ -102,12 +108,14 @@ module _ (items : Scope) where
         let s = numbered_all scope n section in record { stands = s.stands; scope = scope; slots = s.slots }
     numbered scope n (Declare how at o) = record { stands = place_stands scope o; scope = scope; slots = n }
 
+    -- what statements add, one after another
     pub numbered_all : Scope → ℕ → Actions → Numbered
     numbered_all scope n Done = record { stands = []; scope = scope; slots = n }
     numbered_all scope n (Then a more) =
         let b = numbered scope n a in let d = numbered_all b.scope b.slots more in
         record { stands = b.stands ++ d.stands; scope = d.scope; slots = d.slots }
 
+-- what some names stand for, without the names
 abbrev pub stands_alone : List Meant → List Stand
 stands_alone [] = []
 stands_alone (m ∷ ms) = m.stand ∷ stands_alone ms

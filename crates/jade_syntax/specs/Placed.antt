@@ -9,6 +9,7 @@ use Rattle.jade_syntax.specs.Abstract.{Name, Operator}
 
 -- A chain of one level is its first operand and its links, each with the operator and the operator's place.
 mutual
+  -- a number, a truth value, a variable, a group, a sign before an operand, a chain, or a cell of an object
   pub data Term : Type 0 where
     Whole : ℤ → Pos → Term
     Truth : Bool → Pos → Term
@@ -18,6 +19,7 @@ mutual
     Chain : Term → Links → Term
     Cell : Object → Term → Term
 
+  -- what a chain goes on with
   pub data Links : Type 0 where
     Last : Links
     Link : Operator → Pos → Term → Links → Links
@@ -33,6 +35,7 @@ pub record Mention : Type 0 where
   pub at : Pos
 
 mutual
+  -- a statement; an `if` is told with its other branch or without
   pub data Phrase : Type 0 where
     Local : ValueKind → Name → Pos → Term → Phrase
     Assign : Name → Pos → Term → Phrase
@@ -44,6 +47,7 @@ mutual
     With : Pos → (section : Phrases) → Phrase
     Declare : DeclareWord → Pos → Object → Phrase
 
+  -- statements in order
   pub data Phrases : Type 0 where
     Done : Phrases
     Then : Phrase → Phrases → Phrases
@@ -55,6 +59,7 @@ pub record PlacedProgram : Type 0 where
 
 -- the place of the first token
 abbrev mutual
+  -- of an expression
   pub start : Term → Pos
   start (Whole z at) = at
   start (Truth b at) = at
@@ -64,6 +69,7 @@ abbrev mutual
   start (Chain e links) = start e
   start (Cell o e) = object_start o
 
+  -- of an object
   pub object_start : Object → Pos
   object_start (Alone x at) = at
   object_start (Member x at e) = at

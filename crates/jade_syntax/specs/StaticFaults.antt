@@ -34,9 +34,11 @@ pub record Known : Type 0 where
   pub name : Name
   pub meaning : Meaning
 
+-- the names in scope, the newest first
 abbrev pub Names : Type 0
 Names = List Known
 
+-- a name with what it stands for
 abbrev pub known : Name → Meaning → Known
 known x m = record { name = x; meaning = m }
 
@@ -47,6 +49,7 @@ found x (k ∷ names) = if same_name x k.name then Some k.meaning else found x n
 
 -- ---- the kinds of values
 
+-- two kinds are one
 abbrev pub same_kind : ValueKind → ValueKind → Bool
 same_kind value.Int value.Int = true
 same_kind value.Int value.Bool = false
@@ -61,6 +64,7 @@ operand_kind (Relates r) = value.Int
 operand_kind (Adds op) = value.Int
 operand_kind (Multiplies op) = value.Int
 
+-- the kind of what an operator gives
 abbrev pub result_kind : Operator → ValueKind
 result_kind Or = value.Bool
 result_kind And = value.Bool
@@ -117,6 +121,7 @@ pub data Site : Type 0 where
 
 -- the places within an expression
 abbrev mutual
+  -- those of an expression, with the names in scope there
   pub term_sites : Names → Term → List Site
   term_sites names (Whole z at) = []
   term_sites names (Truth b at) = []
@@ -178,6 +183,7 @@ names_after names (Declare how at o) = names
 -- the places of statements; in the body of a task only the items and the names of its `do` list are in scope
 module _ (items : Names) where
   abbrev mutual
+    -- those of a statement
     pub sites : Names → Phrase → List Site
     sites names (Local kind x at e) = Declares x at names ∷ needed kind names e
     sites names (Assign x at e) = Uses AsTarget x at names ∷ given (kind_of_name (found x names)) names e
@@ -191,6 +197,7 @@ module _ (items : Names) where
     sites names (With at section) = block_sites names section
     sites names (Declare how at o) = object_sites names o
 
+    -- those of statements, each with the names in scope after those before it
     pub block_sites : Names → Phrases → List Site
     block_sites names Done = []
     block_sites names (Then p more) = sites names p ++ block_sites (names_after names p) more
@@ -201,6 +208,7 @@ item_known (item.Input x at) = known x Input
 item_known (item.Single x at size) = known x Single
 item_known (item.Family x at count size) = known x Family
 
+-- the place of the name of an item
 abbrev pub item_place : Item → Pos
 item_place (item.Input x at) = at
 item_place (item.Single x at size) = at
@@ -210,6 +218,7 @@ item_place (item.Family x at count size) = at
 abbrev pub item_names : List Item → Names
 item_names items = map item_known items
 
+-- the amounts of an item, each with its limit
 abbrev pub amount_sites : Item → List Site
 amount_sites (item.Input x at) = []
 amount_sites (item.Single x at size) = Amounts 65536 size ∷ []
@@ -261,6 +270,7 @@ abbrev pub wrong_use : Use → Option Meaning → Option StaticKind
 wrong_use how None = Some fault.Name
 wrong_use how (Some m) = misuse how m
 
+-- the name is in scope
 abbrev pub is_known : Option Meaning → Bool
 is_known None = false
 is_known (Some m) = true
@@ -284,10 +294,12 @@ keeps_totals (item.Family x at count size) items = few_cells items
 abbrev pub exceeds : (before : List Item) → Item → Bool
 exceeds before i = is_within i && not (keeps_totals i (counted (before ++ i ∷ [])))
 
+-- a kind of fault, where the test says so
 abbrev pub when : Bool → StaticKind → Option StaticKind
 when true k = Some k
 when false k = None
 
+-- the rule for each kind of place
 abbrev pub fault_kind : Site → Option StaticKind
 fault_kind (Uses how x at names) = wrong_use how (found x names)
 fault_kind (Declares x at names) = when (is_known (found x names)) fault.Twice
@@ -295,6 +307,7 @@ fault_kind (Needs k e names) = when (not (suits k (kind_of names e))) fault.Kind
 fault_kind (Amounts most n) = when (not (is_amount most n.value)) fault.Size
 fault_kind (Counts before i) = when (exceeds before i) fault.Size
 
+-- where a place of a program stands in its text
 abbrev pub site_place : Site → Pos
 site_place (Uses how x at names) = at
 site_place (Declares x at names) = at
@@ -302,6 +315,7 @@ site_place (Needs k e names) = start e
 site_place (Amounts most n) = n.pos
 site_place (Counts before i) = item_place i
 
+-- a fault of a kind at a place, where there is one
 abbrev pub faulty : Pos → Option StaticKind → Option StaticFault
 faulty at None = None
 faulty at (Some k) = Some (record { pos = at; kind = k })
@@ -310,6 +324,7 @@ faulty at (Some k) = Some (record { pos = at; kind = k })
 abbrev pub fault_at : Site → Option StaticFault
 fault_at s = faulty (site_place s) (fault_kind s)
 
+-- the faults of some places, in their order
 abbrev pub faults_of : List Site → List StaticFault
 faults_of places = filter_map fault_at places
 

@@ -9,8 +9,8 @@ use crate::{Name, Stands};
 use jade_base::ObjectId;
 use std::marker::Model;
 
-/// A program in which each name is replaced by what it stands for. Its type keeps that nothing is
-/// wrong with the program before it runs.
+/// A program with what its names stand for, one for each name in text order. Its type keeps that
+/// nothing is wrong with the program before it runs.
 #[derive(Drop)]
 pub struct Checked {
     program: Program,

@@ -31,6 +31,7 @@ created_in b names = record { variables = parameters 0 names []; items = b.items
 abbrev pub cell_stands : Scope → Reference → List Stand
 cell_stands scope r = place_stands scope r.place ++ expression_stands scope r.cell
 
+-- what the names in the index of an object stand for, where it is a member
 abbrev pub member_stands : Scope → Option Expression → List Stand
 member_stands scope None = []
 member_stands scope (Some e) = expression_stands scope e
@@ -55,6 +56,7 @@ variables_after b (Declare how at o) = b.variables
 abbrev pub numbered_in : InBody → Action → Numbered
 numbered_in b a = numbered b.items (names_in b) b.slots a
 
+-- what statements add in a body
 abbrev pub all_in : InBody → Actions → Numbered
 all_in b actions = numbered_all b.items (names_in b) b.slots actions
 

@@ -28,7 +28,8 @@ impl From<Memory> for TypeError {
     }
 }
 
-/// The program with what its names stand for, where nothing is wrong with it before it runs.
+/// The program with what its names stand for, where nothing is wrong with it before it runs. The
+/// error is its first static fault, by line, column and kind, or want of memory.
 pub fn check(alloc: Global, program: Program) -> Result<Checked, TypeError>
     ensures program { IfOk result (λ c. c.program ≡ program) }
     ensures refused { IfErr result (IsStaticRefusal program) }
