@@ -5,6 +5,7 @@ ghost use Rattle.jade_syntax.specs.PlacedImage.{placed_program};
 ghost use Rattle.jade_syntax.specs.Shapes.{is_shaped};
 ghost use Rattle.jade_layout.specs.Layout.{layout};
 ghost use Rattle.jade_layout.specs.Spelling.{spelling};
+ghost use Rattle.jade_reading.specs.Reading.{ReadsAs};
 ghost use Rattle.jade_reading.specs.Unplaced.{unplaced};
 
 use crate::laws::layout_reads_back;
@@ -16,12 +17,13 @@ use jade_syntax::tree::Program;
 use std::alloc::Global;
 
 /// Prints a program that keeps the rules of shape, and reads the text, of at most 1,048,576 bytes,
-/// again: the tree is the same but for places, which are those of the printed text. The error is
-/// want of memory alone.
+/// again: the tree is the one that the printed text is read as, with its places, and the same as
+/// the program but for places. The error is want of memory alone.
 pub fn read_back(alloc: Global, program: &Program) -> Result<Program, Memory>
     requires shaped { is_shaped program.now ≡ true }
     requires short { length (layout (spelling program.now)) ≤ 1048576 }
-    ensures { IfOk result (λ again. unplaced (placed_program again) ≡ unplaced (placed_program program.now)) }
+    ensures read { IfOk result (λ again. ReadsAs (layout (spelling program.now)) again) }
+    ensures same { IfOk result (λ again. unplaced (placed_program again) ≡ unplaced (placed_program program.now)) }
 {
     layout_reads_back();
     let text = print_program(alloc, program)?;

@@ -29,7 +29,8 @@ use Rattle.jade_parser.specs.declared.ParseError.TheVariants.{Token as AtToken, 
 use Rattle.jade_parser.specs.Grammar.{IsReading, IsRefusal, bytes_of}
 use Rattle.jade_parser.specs.Programs.{program_parts}
 use Rattle.jade_parser.specs.OneReading.{SameRefusal, IsMemory}
-use Rattle.jade_run.specs.Outcome.{IsOutcome, IsAnswered, IsGood, IsShown, IsTested, ReadsAs, RefusedAs, RefusedFor, SameOutcome, usage, too_long, run, serial, check, show, refused, answered, miscounted, good, not_good, shown, not_shown, unread, wrong, byte, number, deep, token, long, first_place, answer_text, answer_status, input_count}
+use Rattle.jade_reading.specs.Reading.{ReadsAs}
+use Rattle.jade_run.specs.Outcome.{IsOutcome, IsAnswered, IsGood, IsShown, IsTested, RefusedAs, RefusedFor, SameOutcome, usage, too_long, run, serial, check, show, refused, answered, miscounted, good, not_good, shown, not_shown, unread, wrong, byte, number, deep, token, long, first_place, answer_text, answer_status, input_count}
 use Rattle.jade_run.specs.Texts.{refused_text, usage_text, numbers_text, static_word}
 use Rattle.jade_run.proofs.Naming.{firsts, rests, two_names, run_serial, run_check, run_show, serial_check, serial_show, check_show, swapped}
 use Rattle.jade_run.proofs.Signed.{small, and_first, and_second}

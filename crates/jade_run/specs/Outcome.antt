@@ -8,7 +8,8 @@ use Rattle.jade_lexer.specs.Lexemes.{TokenList}
 use Rattle.jade_lexer.specs.Reading.{reading, Whole, Refused as Unlexed}
 use Rattle.jade_layout.specs.Spelling.{spelling}
 use Rattle.jade_layout.specs.Layout.{layout}
-use Rattle.jade_parser.specs.Grammar.{IsReading, IsRefusedAt, IsTooLongAt}
+use Rattle.jade_parser.specs.Grammar.{IsRefusedAt, IsTooLongAt}
+use Rattle.jade_reading.specs.Reading.{ReadsAs}
 use Rattle.jade_syntax.specs.declared.tree.Program.{Program}
 use Rattle.jade_syntax.specs.Abstract.{AbstractProgram}
 use Rattle.jade_syntax.specs.Image.{program}
@@ -57,12 +58,6 @@ pub data RefusedAs (bytes : List ℕ) (place : Pos) (why : List ℕ) : Type 0 wh
   deep : reading bytes ≡ Unlexed (Deep place) → why ≡ codes "deep" → RefusedAs bytes place why
   token : (tokens : TokenList) → reading bytes ≡ Whole tokens → IsRefusedAt tokens place → why ≡ codes "token" → RefusedAs bytes place why
   long : (tokens : TokenList) → reading bytes ≡ Whole tokens → IsTooLongAt tokens place → why ≡ codes "long" → RefusedAs bytes place why
-
--- a text is read as a program
-pub record ReadsAs (bytes : List ℕ) (tree : Program) : Type 0 where
-  pub tokens : TokenList
-  pub whole : reading bytes ≡ Whole tokens
-  pub read : IsReading tokens tree
 
 -- why a text was not read, unless memory was wanting
 abbrev pub OnRefused : ReadError → (Pos → List ℕ → Type 0) → Type 0

@@ -9,7 +9,8 @@ ghost use Rattle.jade_meaning.specs.Report.{report, Ascends};
 ghost use Rattle.jade_meaning.specs.Told.{told_answer, first_note, step_over};
 ghost use Rattle.jade_run.specs.Outcome.{fault_key};
 ghost use Rattle.jade_lexer.specs.Reading.{reading, Whole};
-ghost use Rattle.jade_run.specs.Outcome.{IsAnswered, IsGood, IsNotRead, IsShown, IsTested, OnRefused, ReadsAs, RefusedAs, RefusedFor, Shows};
+ghost use Rattle.jade_reading.specs.Reading.{ReadsAs};
+ghost use Rattle.jade_run.specs.Outcome.{IsAnswered, IsGood, IsNotRead, IsShown, IsTested, OnRefused, RefusedAs, RefusedFor, Shows};
 ghost use Rattle.jade_run.specs.Texts.{numbers_text, refused_text};
 
 use crate::texts::static_word;
