@@ -1,10 +1,11 @@
 -- The parts of a tree: its tokens in order, each with the place that the tree keeps of it.
-use Rattle.std.specs.Prelude.{◌≡◌, ℕ, ◌+◌, Bool, true, false, List, [], ◌∷◌, ◌++◌, map, Option, Some, None, ℤ, pos, negsuc, nat_le}
+use Rattle.std.specs.Prelude.{◌≡◌, ℕ, ◌+◌, Bool, true, false, List, [], ◌∷◌, ◌++◌, map, Option, Some, None, ℤ, nat_le}
 use Rattle.std.specs.List.{flat_map, list_all}
 use Rattle.jade_parser.specs.declared.Sign.{Sign}
 use Rattle.jade_parser.specs.declared.Sign.TheVariants.{EqualSign, UnequalSign, LessSign, LessEqualSign, GreaterSign, GreaterEqualSign, PlusSign, MinusSign, TimesSign, OverSign, PercentSign, NotSign, TrueWord, FalseWord, LeftBracket, RightBracket, LeftParen, RightParen, AndSign, OrSign}
 use Rattle.jade_base.specs.declared.place.Pos.{Pos}
 use Rattle.jade_syntax.specs.Names.{is_name}
+use Rattle.jade_syntax.specs.Shapes.{is_natural}
 use Rattle.jade_syntax.specs.declared.tree.Number.{Number}
 use Rattle.jade_syntax.specs.declared.tree.Relation.{Relation}
 use Rattle.jade_syntax.specs.declared.tree.Relation.TheVariants.{Equal, Unequal, Less, LessEqual, Greater, GreaterEqual}
@@ -68,16 +69,11 @@ numbered n (p ∷ ps) = record { token = p.token; at = p.at; nth = n + 1 } ∷ n
 
 -- ---- what a token of a program may be
 
--- from 0 to 2 ^ 63 - 1
-abbrev pub is_figure : ℤ → Bool
-is_figure (pos n) = nat_le n 9223372036854775807
-is_figure (negsuc n) = false
-
 -- a token that may stand in a program
 abbrev pub is_valid : Token → Bool
 is_valid (Fixed s) = true
 is_valid (Called n) = is_name n
-is_valid (Counted v) = is_figure v
+is_valid (Counted v) = is_natural v
 is_valid Odd = false
 
 -- each name is a name, and each number is one that may be written

@@ -2,13 +2,14 @@
 
 ghost use Rattle.std.specs.Prelude.{◌≡◌, ◌+◌, ◌-◌, ◌*◌, ◌<◌, ◌≤◌, length, codes, true, false, not, ◌&&◌, IfOk, IfSome, MatchOption, map};
 ghost use Rattle.std.specs.List.{list_all};
-ghost use Rattle.jade_syntax.specs.Names.{is_letter, is_letter_or_digit, is_spelled};
+ghost use Rattle.jade_syntax.specs.Names.{is_letter_or_digit, is_spelled};
 ghost use Rattle.jade_parser.specs.Kinds.{is_kept, is_free, is_small_run, has_needless_zero, is_counted, token_of_bytes, IsValue, IsNumber, IsSeen};
 ghost use Rattle.jade_parser.specs.Reads.{token_of};
 
-use crate::lexicon::{same_bytes, sign_of};
+use crate::lexicon::sign_of;
 use crate::{Kind, Seen};
 use jade_lexer::Tokens;
+use jade_syntax::name::{is_letter, same_name};
 use std::alloc::{AllocError, Global};
 
 /// The most bytes of a name.
@@ -16,12 +17,6 @@ const NAME_LIMIT: usize = 64;
 
 /// The greatest number.
 const GREATEST: u64 = 9223372036854775807;
-
-fn is_letter(byte: u8) -> bool
-    ensures { result ≡ is_letter byte }
-{
-    byte.is_ascii_alphabetic() || byte == b'_'
-}
 
 fn is_letter_or_digit(byte: u8) -> bool
     ensures { result ≡ is_letter_or_digit byte }
@@ -48,7 +43,7 @@ fn is_spelled(text: &[u8]) -> bool
 fn is_kept(text: &[u8]) -> bool
     ensures { result ≡ is_kept text.now }
 {
-    same_bytes(text, b"proc") || same_bytes(text, b"cm")
+    same_name(text, b"proc") || same_name(text, b"cm")
 }
 
 /// Whether some bytes that are no sign are a name.

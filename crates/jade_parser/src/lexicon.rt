@@ -1,37 +1,30 @@
 //! The words and symbols of the language, each as its bytes.
 
 ghost use Rattle.std.specs.Prelude.{◌≡◌, codes};
-ghost use Rattle.jade_syntax.specs.Numbering.{same_name};
 ghost use Rattle.jade_parser.specs.Kinds.{sign_among, sign_in, all_signs, item_signs, statement_signs, access_signs, change_signs, bracket_signs, mark_signs, relation_signs, operator_signs};
 
 use crate::Sign;
-
-/// Whether two tokens have the same bytes.
-pub fn same_bytes(first: &[u8], second: &[u8]) -> bool
-    ensures { result ≡ same_name first.now second.now }
-{
-    first == second
-}
+use jade_syntax::name::same_name;
 
 /// A word of items and of values.
 fn item_sign(text: &[u8]) -> Option<Sign>
     ensures { result ≡ sign_among item_signs text.now }
 {
-    if same_bytes(text, b"input") {
+    if same_name(text, b"input") {
         Some(Sign::InputWord)
-    } else if same_bytes(text, b"object") {
+    } else if same_name(text, b"object") {
         Some(Sign::ObjectWord)
-    } else if same_bytes(text, b"objects") {
+    } else if same_name(text, b"objects") {
         Some(Sign::ObjectsWord)
-    } else if same_bytes(text, b"main") {
+    } else if same_name(text, b"main") {
         Some(Sign::MainWord)
-    } else if same_bytes(text, b"int") {
+    } else if same_name(text, b"int") {
         Some(Sign::IntWord)
-    } else if same_bytes(text, b"bool") {
+    } else if same_name(text, b"bool") {
         Some(Sign::BoolWord)
-    } else if same_bytes(text, b"true") {
+    } else if same_name(text, b"true") {
         Some(Sign::TrueWord)
-    } else if same_bytes(text, b"false") {
+    } else if same_name(text, b"false") {
         Some(Sign::FalseWord)
     } else {
         None
@@ -42,21 +35,21 @@ fn item_sign(text: &[u8]) -> Option<Sign>
 fn statement_sign(text: &[u8]) -> Option<Sign>
     ensures { result ≡ sign_among statement_signs text.now }
 {
-    if same_bytes(text, b"if") {
+    if same_name(text, b"if") {
         Some(Sign::IfWord)
-    } else if same_bytes(text, b"else") {
+    } else if same_name(text, b"else") {
         Some(Sign::ElseWord)
-    } else if same_bytes(text, b"for") {
+    } else if same_name(text, b"for") {
         Some(Sign::ForWord)
-    } else if same_bytes(text, b"in") {
+    } else if same_name(text, b"in") {
         Some(Sign::InWord)
-    } else if same_bytes(text, b"withonly") {
+    } else if same_name(text, b"withonly") {
         Some(Sign::WithonlyWord)
-    } else if same_bytes(text, b"do") {
+    } else if same_name(text, b"do") {
         Some(Sign::DoWord)
-    } else if same_bytes(text, b"with") {
+    } else if same_name(text, b"with") {
         Some(Sign::WithWord)
-    } else if same_bytes(text, b"cont") {
+    } else if same_name(text, b"cont") {
         Some(Sign::ContWord)
     } else {
         None
@@ -67,17 +60,17 @@ fn statement_sign(text: &[u8]) -> Option<Sign>
 fn access_sign(text: &[u8]) -> Option<Sign>
     ensures { result ≡ sign_among access_signs text.now }
 {
-    if same_bytes(text, b"rd") {
+    if same_name(text, b"rd") {
         Some(Sign::RdWord)
-    } else if same_bytes(text, b"wr") {
+    } else if same_name(text, b"wr") {
         Some(Sign::WrWord)
-    } else if same_bytes(text, b"rd_wr") {
+    } else if same_name(text, b"rd_wr") {
         Some(Sign::RdWrWord)
-    } else if same_bytes(text, b"df_rd") {
+    } else if same_name(text, b"df_rd") {
         Some(Sign::DfRdWord)
-    } else if same_bytes(text, b"df_wr") {
+    } else if same_name(text, b"df_wr") {
         Some(Sign::DfWrWord)
-    } else if same_bytes(text, b"df_rd_wr") {
+    } else if same_name(text, b"df_rd_wr") {
         Some(Sign::DfRdWrWord)
     } else {
         None
@@ -88,11 +81,11 @@ fn access_sign(text: &[u8]) -> Option<Sign>
 fn change_sign(text: &[u8]) -> Option<Sign>
     ensures { result ≡ sign_among change_signs text.now }
 {
-    if same_bytes(text, b"no_rd") {
+    if same_name(text, b"no_rd") {
         Some(Sign::NoRdWord)
-    } else if same_bytes(text, b"no_wr") {
+    } else if same_name(text, b"no_wr") {
         Some(Sign::NoWrWord)
-    } else if same_bytes(text, b"no_rd_wr") {
+    } else if same_name(text, b"no_rd_wr") {
         Some(Sign::NoRdWrWord)
     } else {
         None
@@ -103,17 +96,17 @@ fn change_sign(text: &[u8]) -> Option<Sign>
 fn bracket_sign(text: &[u8]) -> Option<Sign>
     ensures { result ≡ sign_among bracket_signs text.now }
 {
-    if same_bytes(text, b"(") {
+    if same_name(text, b"(") {
         Some(Sign::LeftParen)
-    } else if same_bytes(text, b")") {
+    } else if same_name(text, b")") {
         Some(Sign::RightParen)
-    } else if same_bytes(text, b"[") {
+    } else if same_name(text, b"[") {
         Some(Sign::LeftBracket)
-    } else if same_bytes(text, b"]") {
+    } else if same_name(text, b"]") {
         Some(Sign::RightBracket)
-    } else if same_bytes(text, b"{") {
+    } else if same_name(text, b"{") {
         Some(Sign::LeftBrace)
-    } else if same_bytes(text, b"}") {
+    } else if same_name(text, b"}") {
         Some(Sign::RightBrace)
     } else {
         None
@@ -124,15 +117,15 @@ fn bracket_sign(text: &[u8]) -> Option<Sign>
 fn mark_sign(text: &[u8]) -> Option<Sign>
     ensures { result ≡ sign_among mark_signs text.now }
 {
-    if same_bytes(text, b";") {
+    if same_name(text, b";") {
         Some(Sign::Semicolon)
-    } else if same_bytes(text, b":") {
+    } else if same_name(text, b":") {
         Some(Sign::Colon)
-    } else if same_bytes(text, b",") {
+    } else if same_name(text, b",") {
         Some(Sign::Comma)
-    } else if same_bytes(text, b"..") {
+    } else if same_name(text, b"..") {
         Some(Sign::DotDot)
-    } else if same_bytes(text, b"=") {
+    } else if same_name(text, b"=") {
         Some(Sign::Becomes)
     } else {
         None
@@ -143,17 +136,17 @@ fn mark_sign(text: &[u8]) -> Option<Sign>
 fn relation_sign(text: &[u8]) -> Option<Sign>
     ensures { result ≡ sign_among relation_signs text.now }
 {
-    if same_bytes(text, b"==") {
+    if same_name(text, b"==") {
         Some(Sign::EqualSign)
-    } else if same_bytes(text, b"!=") {
+    } else if same_name(text, b"!=") {
         Some(Sign::UnequalSign)
-    } else if same_bytes(text, b"<") {
+    } else if same_name(text, b"<") {
         Some(Sign::LessSign)
-    } else if same_bytes(text, b"<=") {
+    } else if same_name(text, b"<=") {
         Some(Sign::LessEqualSign)
-    } else if same_bytes(text, b">") {
+    } else if same_name(text, b">") {
         Some(Sign::GreaterSign)
-    } else if same_bytes(text, b">=") {
+    } else if same_name(text, b">=") {
         Some(Sign::GreaterEqualSign)
     } else {
         None
@@ -164,21 +157,21 @@ fn relation_sign(text: &[u8]) -> Option<Sign>
 fn operator_sign(text: &[u8]) -> Option<Sign>
     ensures { result ≡ sign_among operator_signs text.now }
 {
-    if same_bytes(text, b"+") {
+    if same_name(text, b"+") {
         Some(Sign::PlusSign)
-    } else if same_bytes(text, b"-") {
+    } else if same_name(text, b"-") {
         Some(Sign::MinusSign)
-    } else if same_bytes(text, b"*") {
+    } else if same_name(text, b"*") {
         Some(Sign::TimesSign)
-    } else if same_bytes(text, b"/") {
+    } else if same_name(text, b"/") {
         Some(Sign::OverSign)
-    } else if same_bytes(text, b"%") {
+    } else if same_name(text, b"%") {
         Some(Sign::PercentSign)
-    } else if same_bytes(text, b"!") {
+    } else if same_name(text, b"!") {
         Some(Sign::NotSign)
-    } else if same_bytes(text, b"||") {
+    } else if same_name(text, b"||") {
         Some(Sign::OrSign)
-    } else if same_bytes(text, b"&&") {
+    } else if same_name(text, b"&&") {
         Some(Sign::AndSign)
     } else {
         None

@@ -1,5 +1,5 @@
 -- An extent tells of parts: how many they are, and whether each of them passes a test.
-use Rattle.std.proofs.Common.{◌≡◌, ℕ, suc, ◌+◌, ◌≤◌, Bool, true, false, ◌&&◌, nat_le, List, [], ◌∷◌, ◌++◌, ℤ, pos, negsuc, ⊎_elim, refl, ap, sym, ◌∙◌, map, length, arith, length-append}
+use Rattle.std.proofs.Common.{◌≡◌, ℕ, suc, ◌+◌, ◌≤◌, Bool, true, false, ◌&&◌, nat_le, List, [], ◌∷◌, ◌++◌, ⊎_elim, refl, ap, sym, ◌∙◌, map, length, arith, length-append}
 use Rattle.std.specs.List.{flat_map, list_all}
 use Rattle.std.proofs.lemmas.Bool.{cases_lt}
 use Rattle.std.proofs.lemmas.Bool.Decides.{nat_tests}
@@ -9,7 +9,7 @@ use Rattle.jade_syntax.specs.declared.shapes.extent.Extent.{Extent}
 use Rattle.jade_syntax.specs.declared.tree.Number.{Number}
 use Rattle.jade_syntax.specs.Names.{is_name}
 use Rattle.jade_syntax.specs.Shapes.{nothing, signs, name_extent, number_extent, is_natural, ◌⊕◌, all_of, in_brackets}
-use Rattle.jade_parser.specs.Spelled.{Called, Part, Parts, marked, number_part, numbered, is_figure, is_valid}
+use Rattle.jade_parser.specs.Spelled.{Called, Part, Parts, marked, number_part, numbered, is_valid}
 
 -- a part whose token may stand in a program
 abbrev pub valid : Part → Bool
@@ -68,16 +68,12 @@ valid_name n p = record { sound = sym (and_true (is_name n)); tokens = refl }
 pub good_name : (n : List ℕ) (p : Pos) → Tells good (name_extent n) (marked (Called n) p ∷ [])
 good_name n p = record { sound = sym (and_true (is_name n)); tokens = refl }
 
-figure_is : (v : ℤ) → is_natural v ≡ is_figure v
-figure_is (pos n) = refl
-figure_is (negsuc n) = refl
-
 -- a number
 pub valid_number : (n : Number) → Tells valid (number_extent n) (number_part n ∷ [])
-valid_number n = record { sound = figure_is n.value ∙ sym (and_true (is_figure n.value)); tokens = refl }
+valid_number n = record { sound = sym (and_true (is_natural n.value)); tokens = refl }
 
 pub good_number : (n : Number) → Tells good (number_extent n) (number_part n ∷ [])
-good_number n = record { sound = figure_is n.value ∙ sym (and_true (is_figure n.value)); tokens = refl }
+good_number n = record { sound = sym (and_true (is_natural n.value)); tokens = refl }
 
 few : (n : ℕ) → n ≤ 256 → nat_le n 256 ≡ true
 few n le = grind (arith, nat_tests)
