@@ -1,7 +1,9 @@
 //! A whole call over memory, where neither the source nor the sink can fail.
 
-ghost use Rattle.std.specs.Prelude.{◌≡◌, ℕ, List, ◌≤◌, length};
+ghost use Rattle.std.specs.Prelude.{◌≡◌, ℕ, List, Some, ◌≤◌, length};
 ghost use Rattle.jade_run.specs.Complete.{Completes};
+ghost use Rattle.jade_run.specs.Headline.{Headline};
+ghost use Rattle.jade_run.specs.Words.{RefusesWords};
 
 use crate::call::jade_main;
 use crate::gate::Gate;
@@ -11,7 +13,8 @@ use jade_base::{SureSink, SureSource, Word};
 use std::alloc::Global;
 
 /// `jade_main` over a text in memory: where the sink has room for the text of the outcome, the
-/// status is the outcome's, or `Memory`. It is never `Reading`.
+/// status is the outcome's, or `Memory`. It is never `Reading`. What the sink took and what the
+/// source has left are as `jade_main` says; both tell their bytes here.
 pub fn run_in_memory<R, G: Gate>(
     rt: &R,
     alloc: Global,
@@ -20,7 +23,11 @@ pub fn run_in_memory<R, G: Gate>(
     sink: &mut SureSink,
     gate: &G,
 ) -> Status
-    ensures { Completes words.now source.old sink.old.room result }
+    ensures completes { Completes words.now source.old sink.old.room result }
+    ensures unread { RefusesWords words.now → source.new ≡ source.old }
+    ensures headline { Headline words.now result
+        (record { left = Some source.old; taken = Some sink.old.taken; room = Some sink.old.room; source_faults = 0; sink_faults = sink.old.faults })
+        (record { left = Some source.new; taken = Some sink.new.taken; room = Some sink.new.room; source_faults = 0; sink_faults = sink.new.faults }) }
 {
     one_outcome();
     jade_main(rt, alloc, words, source, sink, gate)
