@@ -2,7 +2,7 @@ use Rattle.std.proofs.Common.{sym, ◌∙◌}
 use Rattle.std.proofs.lemmas.Bool.{eq-eqb, ne_eqb}
 use Rattle.access_spec.specs.Copies.{is_of}
 use Rattle.access_spec.proofs.Places.{position_from-turn}
-use Rattle.access_spec.proofs.draft.place_of.Goals as goal
+use Rattle.access_spec.proofs.working_copy.place_of.Goals as goal
 
 pub returns-then-entry-object-clause-place : goal.returns-then-entry-object-clause-place
 returns-then-entry-object-clause-place c =

@@ -1,6 +1,6 @@
 use Rattle.std.proofs.Common.{◌≡◌, drop}
 use Rattle.access_spec.specs.Copies.{next_changed}
-use Rattle.access_spec.proofs.draft.next_change_of.Given as goal
+use Rattle.access_spec.proofs.working_copy.next_change_of.Given as goal
 
 abbrev pub invariant-loop-place : goal.invariant-loop-place
 invariant-loop-place l =

@@ -1,7 +1,7 @@
 use Rattle.std.proofs.Common.{refl, ◌∙◌}
 use Rattle.std.proofs.lemmas.Result.{err_from_is_err_and}
 use Rattle.access_spec.proofs.Copied.{placed, missing, copied-at, with_copied-at, with_copied-missing}
-use Rattle.access_spec.proofs.draft.Draft.change.Goals as goal
+use Rattle.access_spec.proofs.working_copy.WorkingCopy.change.Goals as goal
 
 pub draft_at-requires : goal.draft_at-requires
 draft_at-requires c = (placed c.self.inside.spec c.args.object c.in-Some.place c.in-Some.ensures.drafted c.in-Some.ensures.place).within
@@ -26,7 +26,8 @@ pub returns-in_ok-rights-in-Some-clause-changed : goal.returns-in_ok-rights-in-S
 returns-in_ok-rights-in-Some-clause-changed c =
     let e = copied-at c.self.inside.spec c.args.object c.in-Some.place c.draft_at.result c.in-Some.ensures.drafted c.in-Some.ensures.place c.draft_at.ensures in
     rw (← c.self.view_is, e, c.in_ok-rights-in-Some.ensures)
-    (c.set_draft.ensures ∙ with_copied-at c.self.inside.spec c.args.object c.in-Some.place c.in_ok-rights-in-Some.rights c.in-Some.ensures.drafted c.in-Some.ensures.place)
+    (c.set_draft.ensures ∙ with_copied-at c.self.inside.spec c.args.object c.in-Some.place c.in_ok-rights-in-Some.rights c.in-Some.ensures.drafted
+    c.in-Some.ensures.place)
 
 pub returns-in_ok-amend-in-None-clause-changed : goal.returns-in_ok-amend-in-None-clause-changed
 returns-in_ok-amend-in-None-clause-changed c =

@@ -1,7 +1,7 @@
 use Rattle.std.proofs.Common.{◌≡◌, drop}
 use Rattle.std.specs.List.{position_from}
 use Rattle.access_spec.specs.Copies.{is_of}
-use Rattle.access_spec.proofs.draft.place_of.Given as goal
+use Rattle.access_spec.proofs.working_copy.place_of.Given as goal
 
 abbrev pub invariant-loop-place : goal.invariant-loop-place
 invariant-loop-place l =

@@ -2,35 +2,21 @@ ghost use Rattle.std.specs.Prelude.{◌≡◌, ◌<◌, ◌≤◌, length, IfOk,
 ghost use Rattle.std.specs.List.{position_from};
 ghost use Rattle.jade_base.specs.Rights.{same_rights};
 ghost use Rattle.jade_base.specs.Specification.{IsAscending, kept, settled};
-ghost use Rattle.access_spec.specs.Copies.{IsChange, IsSameBetween, IsSameFrom, amended, copied, is_of, next_changed, sooner, with_copied};
+ghost use Rattle.access_spec.specs.Amended.{amended};
+ghost use Rattle.access_spec.specs.Copies.{IsChange, IsSameBetween, IsSameFrom, copied, is_of, next_changed, with_copied};
 
-use jade_base::{ObjectId, Right, Rights, Spec};
+use crate::change::{Change, NoRight};
+use jade_base::{ObjectId, Rights, Spec};
 use std::marker::Model;
-
-/// A change of one's own rights on an object: a deferred right that becomes immediate, or a right
-/// that is given up.
-#[derive(Clone, Copy, Debug, PartialEq, Eq)]
-pub enum Change {
-    Reads,
-    Writes,
-    Both,
-    NoReads,
-    NoWrites,
-    Neither,
-}
-
-/// A change asks for a right that is not there.
-#[derive(Clone, Copy, Debug, PartialEq, Eq)]
-pub struct NoRight;
 
 /// A specification with a working copy of it. Contracts see the copy as the draft of the
 /// specification.
 #[derive(Debug, Drop)]
-pub struct Draft {
+pub struct WorkingCopy {
     spec: Spec,
 }
 
-impl Model for Draft {
+impl Model for WorkingCopy {
     ghost use Rattle.jade_base.specs.Specification.{Specification};
 
     ghost Value = { Specification };
@@ -38,13 +24,13 @@ impl Model for Draft {
     ghost view = { λ d. d.spec };
 }
 
-impl Draft {
+impl WorkingCopy {
     /// A working copy that is equal to the specification. It takes no memory.
-    pub fn begin(mut spec: Spec) -> Draft
+    pub fn begin(mut spec: Spec) -> WorkingCopy
         ensures { result ≡ settled spec.entries }
     {
         spec.drop_draft();
-        Draft { spec }
+        WorkingCopy { spec }
     }
 
     /// The specification from before the changes.
@@ -63,11 +49,11 @@ impl Draft {
     {
         match place_of(&self.spec, object) {
             Some(place) => {
-                let rights = amend(change, self.spec.draft_at(place))?;
+                let rights = change.amend(self.spec.draft_at(place))?;
                 self.spec.set_draft(place, rights);
             }
             None => {
-                amend(change, Rights::NONE)?;
+                change.amend(Rights::NONE)?;
             }
         }
         Ok(())
@@ -100,38 +86,6 @@ impl Draft {
         spec.drop_draft();
         spec
     }
-}
-
-// The right made immediate, where there is one.
-fn sooner(right: Right) -> Result<Right, NoRight>
-    ensures { MatchResult result (λ after. sooner right ≡ Some after) (λ _. sooner right ≡ None) }
-{
-    match right {
-        Right::Absent => Err(NoRight),
-        Right::Deferred | Right::Immediate => Ok(Right::Immediate),
-    }
-}
-
-// The rights after a change.
-fn amend(change: Change, rights: Rights) -> Result<Rights, NoRight>
-    ensures { MatchResult result (λ after. amended change rights ≡ Some after) (λ _. amended change rights ≡ None) }
-{
-    let mut after = rights;
-    match change {
-        Change::Reads => after.reads = sooner(rights.reads)?,
-        Change::Writes => after.writes = sooner(rights.writes)?,
-        Change::Both => {
-            after.reads = sooner(rights.reads)?;
-            after.writes = sooner(rights.writes)?;
-        }
-        Change::NoReads => after.reads = Right::Absent,
-        Change::NoWrites => after.writes = Right::Absent,
-        Change::Neither => {
-            after.reads = Right::Absent;
-            after.writes = Right::Absent;
-        }
-    }
-    Ok(after)
 }
 
 // Whether the two are the same rights.
@@ -173,6 +127,7 @@ fn next_change_of(spec: &Spec, from: ObjectId) -> Option<(ObjectId, Rights)>
 #[cfg(test)]
 mod tests {
     use super::*;
+    use jade_base::Right;
     use std::test::Fail;
 
     const LATER: Rights = Rights {
@@ -187,29 +142,29 @@ mod tests {
         commutes: Right::Absent,
     };
 
-    fn of_two(rt: &HostRuntime) -> Result<Draft, Fail> {
+    fn of_two(rt: &HostRuntime) -> Result<WorkingCopy, Fail> {
         let mut spec = Spec::empty(rt.alloc());
         spec.declare(rt.alloc(), ObjectId(3), LATER)?;
         spec.declare(rt.alloc(), ObjectId(5), LATER)?;
-        Ok(Draft::begin(spec))
+        Ok(WorkingCopy::begin(spec))
     }
 
     #[test]
     fn commits_changes(rt: HostRuntime) -> Result<(), Fail> {
-        let mut draft = of_two(&rt)?;
-        assert_eq!(rt; draft.next_change(ObjectId(0)), None);
-        assert_eq!(rt; draft.change(ObjectId(5), Change::Both), Ok(()));
-        assert_eq!(rt; draft.change(ObjectId(3), Change::Neither), Ok(()));
-        assert_eq!(rt; draft.change(ObjectId(3), Change::Reads), Err(NoRight));
-        assert_eq!(rt; draft.change(ObjectId(4), Change::Writes), Err(NoRight));
-        assert_eq!(rt; draft.change(ObjectId(4), Change::NoWrites), Ok(()));
+        let mut copy = of_two(&rt)?;
+        assert_eq!(rt; copy.next_change(ObjectId(0)), None);
+        assert_eq!(rt; copy.change(ObjectId(5), Change::Both), Ok(()));
+        assert_eq!(rt; copy.change(ObjectId(3), Change::Neither), Ok(()));
+        assert_eq!(rt; copy.change(ObjectId(3), Change::Reads), Err(NoRight));
+        assert_eq!(rt; copy.change(ObjectId(4), Change::Writes), Err(NoRight));
+        assert_eq!(rt; copy.change(ObjectId(4), Change::NoWrites), Ok(()));
         assert_eq!(rt;
-            draft.next_change(ObjectId(0)),
+            copy.next_change(ObjectId(0)),
             Some((ObjectId(3), Rights::NONE))
         );
-        assert_eq!(rt; draft.next_change(ObjectId(4)), Some((ObjectId(5), NOW)));
-        assert_eq!(rt; draft.spec().rights(ObjectId(5)), LATER);
-        let spec = draft.commit();
+        assert_eq!(rt; copy.next_change(ObjectId(4)), Some((ObjectId(5), NOW)));
+        assert_eq!(rt; copy.spec().rights(ObjectId(5)), LATER);
+        let spec = copy.commit();
         assert_eq!(rt; spec.len(), 1);
         assert_eq!(rt; spec.rights(ObjectId(5)), NOW);
         Ok(())
@@ -217,9 +172,9 @@ mod tests {
 
     #[test]
     fn abandons_changes(rt: HostRuntime) -> Result<(), Fail> {
-        let mut draft = of_two(&rt)?;
-        assert_eq!(rt; draft.change(ObjectId(5), Change::NoReads), Ok(()));
-        let spec = draft.abandon();
+        let mut copy = of_two(&rt)?;
+        assert_eq!(rt; copy.change(ObjectId(5), Change::NoReads), Ok(()));
+        let spec = copy.abandon();
         assert_eq!(rt; spec.rights(ObjectId(5)), LATER);
         Ok(())
     }
