@@ -1,6 +1,41 @@
 -- A text reads as these tokens exactly where it is cut into them, and as a refusal exactly where that is refused.
-use Rattle.std.proofs.Common.{◌≡◌, ℕ, zero, suc, ◌+◌, ◌-◌, ◌<◌, ◌≤◌, Bool, true, false, not, ◌||◌, List, [], ◌∷◌, ◌++◌, length, take, drop, get_or, Result, Ok,
-    Err, refl, sym, ap, subst, ◌∙◌, ⊎_elim, arith, length-append, length-drop, length-take-le, get_or-take}
+use Rattle.std.proofs.Common.{
+  ◌≡◌,
+  ℕ,
+  zero,
+  suc,
+  ◌+◌,
+  ◌-◌,
+  ◌<◌,
+  ◌≤◌,
+  Bool,
+  true,
+  false,
+  not,
+  ◌||◌,
+  List,
+  [],
+  ◌∷◌,
+  ◌++◌,
+  length,
+  take,
+  drop,
+  get_or,
+  Result,
+  Ok,
+  Err,
+  refl,
+  sym,
+  ap,
+  subst,
+  ◌∙◌,
+  ⊎_elim,
+  arith,
+  length-append,
+  length-drop,
+  length-take-le,
+  get_or-take,
+}
 use Rattle.std.proofs.Math.Dec.{eqb, ltb}
 use Rattle.std.proofs.Math.ListN.{get_or-append}
 use Rattle.std.proofs.Math.Seq.{take-append_seam, drop-append_seam}
@@ -8,8 +43,25 @@ use Rattle.std.proofs.Math.Nat.{eq-zero-or-pos}
 use Rattle.std.proofs.lemmas.List.{take-append-drop}
 use Rattle.std.specs.List.{list_all}
 use Rattle.std.specs.Char.{is_ascii_digit}
-use Rattle.std.proofs.lemmas.Bool.{and_parts, and_from, and_left, and_right, and_cases, or_cases, cases_Bool, true≢false, lt-ltb, ltb-true, ltb-false, le-ltb,
-    not-true, not-false, eqb-true, ne_eqb, false_from_ne_true}
+use Rattle.std.proofs.lemmas.Bool.{
+  and_parts,
+  and_from,
+  and_left,
+  and_right,
+  and_cases,
+  or_cases,
+  cases_Bool,
+  true≢false,
+  lt-ltb,
+  ltb-true,
+  ltb-false,
+  le-ltb,
+  not-true,
+  not-false,
+  eqb-true,
+  ne_eqb,
+  false_from_ne_true,
+}
 use Rattle.jade_base.specs.declared.place.Pos.{Pos}
 use Rattle.jade_lexer.specs.declared.lexeme.LexError.{LexError}
 use Rattle.jade_lexer.specs.declared.lexeme.LexError.TheVariants.{Byte, Number, Deep}
@@ -20,12 +72,57 @@ use Rattle.jade_lexer.specs.Alphabet.{is_separator, is_run, is_token, is_number,
 use Rattle.jade_alphabet.specs.Letters.{is_letter, is_letter_or_digit, is_word}
 use Rattle.jade_lexer.specs.Lexemes.{TokenAt, TokenList}
 use Rattle.jade_lexer.specs.Reading.{Reading, Whole, Refused, add, read_from, first_part, token_part, spot_after, depth_after, begins_comment, pos_after}
-use Rattle.jade_lexer.specs.Cut.{IsBlank, one_separator, comment, IsLongest, IsSound, Breaks, long_word, bad_number, deep, Cut, nothing, blank, token, Stops,
-    after_blank, after_token, no_token, breaks}
-use Rattle.jade_lexer.proofs.Longest.{prefix_passes, letter_token, digit_token, letter_is_no_digit, longest-le, longest_token, longest_above, longest_is,
-    longest_zero}
-use Rattle.jade_lexer.proofs.Parts.{line_len, part_separator, part_comment, part_token, comment_no_separator, too_long, no_number, too_deep, token_none,
-    token_long, token_number, token_deep, token_fine, line_len_is, line_ends, line_begins, line_some, begins_more}
+use Rattle.jade_lexer.specs.Cut.{
+  IsBlank,
+  one_separator,
+  comment,
+  IsLongest,
+  IsSound,
+  Breaks,
+  long_word,
+  bad_number,
+  deep,
+  Cut,
+  nothing,
+  blank,
+  token,
+  Stops,
+  after_blank,
+  after_token,
+  no_token,
+  breaks,
+}
+use Rattle.jade_lexer.proofs.Longest.{
+  prefix_passes,
+  letter_token,
+  digit_token,
+  letter_is_no_digit,
+  longest-le,
+  longest_token,
+  longest_above,
+  longest_is,
+  longest_zero,
+}
+use Rattle.jade_lexer.proofs.Parts.{
+  line_len,
+  part_separator,
+  part_comment,
+  part_token,
+  comment_no_separator,
+  too_long,
+  no_number,
+  too_deep,
+  token_none,
+  token_long,
+  token_number,
+  token_deep,
+  token_fine,
+  line_len_is,
+  line_ends,
+  line_begins,
+  line_some,
+  begins_more,
+}
 use Rattle.jade_lexer.proofs.Steps.{token_at, blank_read, token_read, refused_read}
 
 abbrev blank_of : ℕ → Result Part LexError
@@ -132,7 +229,7 @@ token_step spot t after r start pos first sound rest =
     let same : token_at spot t.bytes ≡ t = (λ i. record { bytes = t.bytes; start = sym start i; pos = sym pos i }) in
     token_read spot bytes n (some_bytes t.bytes after first) some (sym part)
     ∙ (λ i. add (token_at spot (take-append_seam t.bytes after i))
-        (read_from 0 (spot_after spot (take-append_seam t.bytes after i) (depth_after spot.depth (head i))) (drop-append_seam t.bytes after i)))
+    (read_from 0 (spot_after spot (take-append_seam t.bytes after i) (depth_after spot.depth (head i))) (drop-append_seam t.bytes after i)))
     ∙ (λ i. add (same i) (rest i))
 
 abbrev whole_of : Pos → List TokenAt → Reading
@@ -142,11 +239,11 @@ pub cut_whole : (end : Pos) (spot : Spot) (bytes : List ℕ) (tokens : List Toke
 cut_whole end spot [] [] (nothing is) = ap (λ p. whole_of p []) (sym is)
 cut_whole end spot bytes tokens (blank front after is is_blank rest) =
     ap (λ l. read_from 0 spot l) is
-        ∙ blank_step spot front after (whole_of end tokens) is_blank (cut_whole end (spot_after spot front spot.depth) after tokens rest)
+    ∙ blank_step spot front after (whole_of end tokens) is_blank (cut_whole end (spot_after spot front spot.depth) after tokens rest)
 cut_whole end spot bytes (t ∷ tokens) (token after is start pos first sound rest) =
     ap (λ l. read_from 0 spot l) is
     ∙ token_step spot t after (whole_of end tokens) start pos first sound
-        (cut_whole end (spot_after spot t.bytes (depth_after spot.depth (get_or t.bytes 0 0))) after tokens rest)
+    (cut_whole end (spot_after spot t.bytes (depth_after spot.depth (get_or t.bytes 0 0))) after tokens rest)
 
 abbrev err_of : LexError → Result Part LexError
 err_of e = Err e
@@ -156,7 +253,7 @@ token_breaks : (spot : Spot) (t after : List ℕ) (e : LexError) → IsLongest t
 token_breaks spot t after e first (long_word word long is) =
     let some = token_some t first.a_token in
     token_long spot t after (ne_eqb (length t) 0 (λ none. omega arith))
-        (and_from (is_letter (get_or t 0 0)) (ltb 64 (length t)) (word_head t word) (lt-ltb 64 (length t) long)) ∙ ap err_of (sym is)
+    (and_from (is_letter (get_or t 0 0)) (ltb 64 (length t)) (word_head t word) (lt-ltb 64 (length t) long)) ∙ ap err_of (sym is)
 token_breaks spot t after e first (bad_number run bad is) =
     let some = token_some t first.a_token in
     token_number spot t after (ne_eqb (length t) 0 (λ none. omega arith))
@@ -175,7 +272,7 @@ stop_refused e spot bytes (after_blank front after is is_blank rest) =
 stop_refused e spot bytes (after_token front after is first sound rest) =
     ap (λ l. read_from 0 spot l) is
     ∙ token_step spot (token_at spot front) after (Refused e) refl refl first sound
-        (stop_refused e (spot_after spot front (depth_after spot.depth (get_or front 0 0))) after rest)
+    (stop_refused e (spot_after spot front (depth_after spot.depth (get_or front 0 0))) after rest)
 stop_refused e spot bytes (no_token nonempty separator begins none is) =
     let part : first_part spot bytes ≡ err_of e =
     part_token spot bytes separator begins
@@ -185,7 +282,7 @@ stop_refused e spot bytes (no_token nonempty separator begins none is) =
 stop_refused e spot bytes (breaks front after is first broken) =
     ap (λ l. read_from 0 spot l) is
     ∙ refused_read spot (front ++ after) e (some_bytes front after first)
-        (sym (first_longest spot front after first ∙ token_breaks spot front after e first broken))
+    (sym (first_longest spot front after first ∙ token_breaks spot front after e first broken))
 
 -- what a reading says of some bytes
 abbrev Sees : Reading → Spot → List ℕ → Type 0
@@ -252,11 +349,11 @@ token_seen spot bytes shorter nonempty some separator begins =
     ⊎_elim
     (λ long. let parts = and_parts (is_letter (get_or t 0 0)) (ltb 64 (length t)) long in
     refuse (Byte (pos_after spot.pos (take 64 t))) (token_long spot t after there long)
-        (long_word (word_from_head t first.a_token parts.0) (ltb-true 64 (length t) parts.1) refl))
+    (long_word (word_from_head t first.a_token parts.0) (ltb-true 64 (length t) parts.1) refl))
     (λ short. ⊎_elim
     (λ bad. let parts = and_parts (is_ascii_digit (get_or t 0 0)) (not (is_number t after)) bad in
     refuse (Number spot.pos) (token_number spot t after there short bad)
-        (bad_number (run_from_head t first.a_token parts.0) (not-true (is_number t after) parts.1) refl))
+    (bad_number (run_from_head t first.a_token parts.0) (not-true (is_number t after) parts.1) refl))
     (λ good. ⊎_elim
     (λ below. let parts = and_parts (is_opener (get_or t 0 0)) (ltb 63 spot.depth) below in
     refuse (Deep spot.pos) (token_deep spot t after there short good below) (deep parts.0 (omega (arith, ltb-true 63 spot.depth parts.1)) refl))
@@ -266,7 +363,7 @@ token_seen spot bytes shorter nonempty some separator begins =
     let next = spot_after spot t (depth_after spot.depth (get_or t 0 0)) in
     let read : read_from 0 spot bytes ≡ add (token_at spot t) (read_from 0 next after) =
     token_read spot bytes n nonempty some fine
-        ∙ ap (λ b. add (token_at spot t) (read_from 0 (spot_after spot t (depth_after spot.depth b)) after)) (sym head) in
+    ∙ ap (λ b. add (token_at spot t) (read_from 0 (spot_after spot t (depth_after spot.depth b)) after)) (sym head) in
     subst (λ r. Sees r spot bytes) (sym read)
     (sees_token (read_from 0 next after) spot t after bytes whole first (sound_of spot t after short good shallow) (shorter next after (omega arith))))
     (cases_Bool (too_deep spot t after)))
@@ -300,11 +397,11 @@ seen_below fuel spot [] bound = nothing refl
 seen_below zero spot (b ∷ bytes) bound = absurd (omega arith)
 seen_below (suc fuel) spot (b ∷ bytes) bound =
     let shorter : (next : Spot) (after : List ℕ) → length after < length (b ∷ bytes) → Sees (read_from 0 next after) next after =
-        λ next after less. seen_below fuel next after (omega arith) in
+    λ next after less. seen_below fuel next after (omega arith) in
     let next = spot_after spot (b ∷ []) spot.depth in
     ⊎_elim
     (λ separator. subst (λ r. Sees r spot (b ∷ bytes))
-        (sym (blank_read spot (b ∷ bytes) 1 (omega arith) (omega arith) (sym (part_separator spot (b ∷ bytes) separator))))
+    (sym (blank_read spot (b ∷ bytes) 1 (omega arith) (omega arith) (sym (part_separator spot (b ∷ bytes) separator))))
     (sees_blank (read_from 0 next bytes) spot (b ∷ []) bytes (b ∷ bytes) refl (one_separator separator) (shorter next bytes (omega arith))))
     (λ other. ⊎_elim
     (λ begins. comment_seen spot (b ∷ bytes) shorter (omega arith) other begins)

@@ -1,12 +1,54 @@
 -- Which token is the longest one that begins some bytes.
-use Rattle.std.proofs.Common.{◌≡◌, ℕ, zero, suc, ◌+◌, ◌<◌, ◌≤◌, Bool, true, false, not, ◌&&◌, ◌||◌, List, [], ◌∷◌, length, take, get_or, codes, refl, sym, ap,
-    subst, ◌∙◌, ⊎_elim, arith}
+use Rattle.std.proofs.Common.{
+  ◌≡◌,
+  ℕ,
+  zero,
+  suc,
+  ◌+◌,
+  ◌<◌,
+  ◌≤◌,
+  Bool,
+  true,
+  false,
+  not,
+  ◌&&◌,
+  ◌||◌,
+  List,
+  [],
+  ◌∷◌,
+  length,
+  take,
+  get_or,
+  codes,
+  refl,
+  sym,
+  ap,
+  subst,
+  ◌∙◌,
+  ⊎_elim,
+  arith,
+}
 use Rattle.std.proofs.Math.Dec.{eqb, leb}
 use Rattle.std.specs.List.{list_any, list_all, prefix_len}
 use Rattle.std.specs.Char.{is_ascii_digit, is_ascii_alphabetic}
 use Rattle.std.specs.Int.{is_in_range}
-use Rattle.std.proofs.lemmas.Bool.{cases_lt, cases_Bool, cond-true, cond-false, and_from, and_left, and_right, and_parts, or_from, or_cases, eqb-true,
-    leb-true, true≢false, not-true, false_from_ne_true}
+use Rattle.std.proofs.lemmas.Bool.{
+  cases_lt,
+  cases_Bool,
+  cond-true,
+  cond-false,
+  and_from,
+  and_left,
+  and_right,
+  and_parts,
+  or_from,
+  or_cases,
+  eqb-true,
+  leb-true,
+  true≢false,
+  not-true,
+  false_from_ne_true,
+}
 use Rattle.std.proofs.lemmas.List.Sums.{prefix_len-le-length}
 use Rattle.jade_lexer.specs.Alphabet.{is_single, is_pair, is_symbol, is_run, is_token, greatest, longest}
 use Rattle.jade_alphabet.specs.Letters.{is_letter, is_letter_or_digit, is_word}
@@ -17,7 +59,7 @@ greatest_is p zero k le passes above = omega arith
 greatest_is p (suc n) k le passes above =
     ⊎_elim
     (λ below. cond-false (p (suc n)) (suc n) (greatest p n) (above (suc n) below (omega arith))
-        ∙ greatest_is p n k (omega arith) passes (λ j over under. above j over (omega arith)))
+    ∙ greatest_is p n k (omega arith) passes (λ j over under. above j over (omega arith)))
     (λ beyond. let same : suc n ≡ k = omega arith in
     cond-true (p (suc n)) (suc n) (greatest p n) (subst (λ m. p m ≡ true) (sym same) (passes (omega arith))) ∙ same)
     (cases_lt k (suc n))
@@ -110,19 +152,19 @@ letter_is_no_digit b letter =
 pub letter_token : (b : ℕ) → is_letter b ≡ true → (t : List ℕ) → is_token (b ∷ t) ≡ list_all is_letter_or_digit t
 letter_token b letter t =
     first_only (is_word (b ∷ t)) (is_run (b ∷ t)) (is_symbol (b ∷ t)) (and_left (is_ascii_digit b) (list_all is_ascii_digit t) (letter_is_no_digit b letter))
-        (no_symbol is_letter refl refl refl b letter t)
+    (no_symbol is_letter refl refl refl b letter t)
     ∙ and_true (is_letter b) (list_all is_letter_or_digit t) letter
 
 pub digit_token : (b : ℕ) → is_letter b ≡ false → is_ascii_digit b ≡ true → (t : List ℕ) → is_token (b ∷ t) ≡ list_all is_ascii_digit t
 digit_token b letter digit t =
     second_only (is_word (b ∷ t)) (is_run (b ∷ t)) (is_symbol (b ∷ t)) (and_left (is_letter b) (list_all is_letter_or_digit t) letter)
-        (no_symbol is_ascii_digit refl refl refl b digit t)
+    (no_symbol is_ascii_digit refl refl refl b digit t)
     ∙ and_true (is_ascii_digit b) (list_all is_ascii_digit t) digit
 
 symbol_token : (b : ℕ) → is_letter b ≡ false → is_ascii_digit b ≡ false → (t : List ℕ) → is_token (b ∷ t) ≡ is_symbol (b ∷ t)
 symbol_token b letter digit t =
     third_only (is_word (b ∷ t)) (is_run (b ∷ t)) (is_symbol (b ∷ t)) (and_left (is_letter b) (list_all is_letter_or_digit t) letter)
-        (and_left (is_ascii_digit b) (list_all is_ascii_digit t) digit)
+    (and_left (is_ascii_digit b) (list_all is_ascii_digit t) digit)
 
 -- the longest token of bytes that begin with a letter is as long as a word can be
 pub longest_word : (bytes : List ℕ) → 0 < length bytes → is_letter (get_or bytes 0 0) ≡ true → longest bytes ≡ prefix_len is_letter_or_digit bytes

@@ -1,6 +1,35 @@
 -- What stands first at a spot, by what the bytes begin with.
-use Rattle.std.proofs.Common.{◌≡◌, ℕ, suc, ◌+◌, ◌<◌, Bool, true, false, not, cond, ◌&&◌, List, [], ◌∷◌, ◌++◌, length, take, drop, get_or, Result, Ok, Err,
-    refl, sym, ap, subst, ◌∙◌, ⊎_elim, arith}
+use Rattle.std.proofs.Common.{
+  ◌≡◌,
+  ℕ,
+  suc,
+  ◌+◌,
+  ◌<◌,
+  Bool,
+  true,
+  false,
+  not,
+  cond,
+  ◌&&◌,
+  List,
+  [],
+  ◌∷◌,
+  ◌++◌,
+  length,
+  take,
+  drop,
+  get_or,
+  Result,
+  Ok,
+  Err,
+  refl,
+  sym,
+  ap,
+  subst,
+  ◌∙◌,
+  ⊎_elim,
+  arith,
+}
 use Rattle.std.proofs.Math.Dec.{eqb, ltb}
 use Rattle.std.specs.List.{list_all, prefix_len}
 use Rattle.std.specs.Char.{is_ascii_digit}
@@ -74,20 +103,20 @@ module _ (spot : Spot) (token after : List ℕ) where
   pub token_number : eqb (length token) 0 ≡ false → too_long ≡ false → no_number ≡ true → token_part spot token after ≡ Err (Number spot.pos)
   token_number some long number =
       cond-false (eqb (length token) 0) (Err (Byte spot.pos)) from_long some
-          ∙ cond-false too_long (Err (Byte (pos_after spot.pos (take 64 token)))) from_number long
+      ∙ cond-false too_long (Err (Byte (pos_after spot.pos (take 64 token)))) from_number long
       ∙ cond-true no_number (Err (Number spot.pos)) from_deep number
 
   pub token_deep : eqb (length token) 0 ≡ false → too_long ≡ false → no_number ≡ false → too_deep ≡ true → token_part spot token after ≡ Err (Deep spot.pos)
   token_deep some long number deep =
       cond-false (eqb (length token) 0) (Err (Byte spot.pos)) from_long some
-          ∙ cond-false too_long (Err (Byte (pos_after spot.pos (take 64 token)))) from_number long
+      ∙ cond-false too_long (Err (Byte (pos_after spot.pos (take 64 token)))) from_number long
       ∙ cond-false no_number (Err (Number spot.pos)) from_deep number ∙ cond-true too_deep (Err (Deep spot.pos)) (Ok (Token (length token))) deep
 
   pub token_fine : eqb (length token) 0 ≡ false → too_long ≡ false → no_number ≡ false → too_deep ≡ false → token_part spot token after
       ≡ Ok (Token (length token))
   token_fine some long number deep =
       cond-false (eqb (length token) 0) (Err (Byte spot.pos)) from_long some
-          ∙ cond-false too_long (Err (Byte (pos_after spot.pos (take 64 token)))) from_number long
+      ∙ cond-false too_long (Err (Byte (pos_after spot.pos (take 64 token)))) from_number long
       ∙ cond-false no_number (Err (Number spot.pos)) from_deep number ∙ cond-false too_deep (Err (Deep spot.pos)) (Ok (Token (length token))) deep
 
 -- a comment's line is the comment, where a line could end after it
@@ -97,7 +126,7 @@ line_len_is [] (b ∷ after) whole ends = cond-false (not (eqb b 10)) (1 + line_
 line_len_is (b ∷ blank) after whole ends =
     let parts = and_parts (not (eqb b 10)) (list_all (λ c. not (eqb c 10)) blank) whole in
     cond-true (not (eqb b 10)) (1 + line_len (blank ++ after)) 0 parts.0
-        ∙ (let so : line_len (blank ++ after) ≡ length blank = line_len_is blank after parts.1 ends in omega arith)
+    ∙ (let so : line_len (blank ++ after) ≡ length blank = line_len_is blank after parts.1 ends in omega arith)
 
 line_len-cons : (b : ℕ) (bytes : List ℕ) → eqb b 10 ≡ false → line_len (b ∷ bytes) ≡ suc (line_len bytes)
 line_len-cons b bytes other = cond-true (not (eqb b 10)) (1 + line_len bytes) 0 (ap not other) ∙ omega arith

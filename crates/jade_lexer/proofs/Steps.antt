@@ -1,6 +1,32 @@
 -- How a reading goes on from one part of a text to the next.
-use Rattle.std.proofs.Common.{◌≡◌, ℕ, zero, suc, ◌+◌, ◌-◌, ◌<◌, ◌≤◌, List, [], ◌∷◌, ◌++◌, length, get_or, map, take, drop, Ok, Err, refl, sym, ap, ◌∙◌, arith,
-    length-drop, length-take-le}
+use Rattle.std.proofs.Common.{
+  ◌≡◌,
+  ℕ,
+  zero,
+  suc,
+  ◌+◌,
+  ◌-◌,
+  ◌<◌,
+  ◌≤◌,
+  List,
+  [],
+  ◌∷◌,
+  ◌++◌,
+  length,
+  get_or,
+  map,
+  take,
+  drop,
+  Ok,
+  Err,
+  refl,
+  sym,
+  ap,
+  ◌∙◌,
+  arith,
+  length-drop,
+  length-take-le,
+}
 use Rattle.jade_base.specs.declared.place.Pos.{Pos}
 use Rattle.jade_lexer.specs.declared.lexeme.Lexeme.{Lexeme}
 use Rattle.jade_lexer.specs.declared.lexeme.LexError.{LexError}
@@ -115,7 +141,7 @@ underway_token text found new token spot next depth n rest front after so_far ta
     let some = takes.some in
     let nonempty : 0 < length rest = omega arith in
     let to_next : spot_after spot (take n rest) (depth_after spot.depth (get_or rest 0 0)) ≡ next =
-        (λ i. spot_after spot (sym takes.front_is i) (sym depth_is i)) ∙ sym moves.is in
+    (λ i. spot_after spot (sym takes.front_is i) (sym depth_is i)) ∙ sym moves.is in
     let to_after : drop n rest ≡ after = sym takes.after_is in
     let to_token : token_at spot (take n rest) ≡ token = ap (token_at spot) (sym takes.front_is) ∙ sym token_is in
     let start_is : next.start ≡ spot.start + length front = ap (λ s. s.start) moves.is in

@@ -19,5 +19,5 @@ pub value_past : (limit n : ℕ) (digits : List ℕ) (i : ℕ) → i < length di
     → leb (value_after n (drop i digits)) limit ≡ false
 value_past limit n digits i within past =
     rw (value_step n digits i within)
-        (lt-leb (value_after (10 * n + (get_or digits i 0 - 48)) (drop (i + 1) digits)) limit
-        (omega (arith, value_after-ge (10 * n + (get_or digits i 0 - 48)) (drop (i + 1) digits))))
+    (lt-leb (value_after (10 * n + (get_or digits i 0 - 48)) (drop (i + 1) digits)) limit
+    (omega (arith, value_after-ge (10 * n + (get_or digits i 0 - 48)) (drop (i + 1) digits))))

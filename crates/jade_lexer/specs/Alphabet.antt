@@ -1,6 +1,27 @@
 -- The bytes and the tokens of the language, by their classes, and the longest token that begins some bytes.
-use Rattle.std.specs.Prelude.{ℕ, zero, suc, ◌+◌, ◌*◌, ◌-◌, Bool, false, not, ◌&&◌, ◌||◌, ◌==◌, nat_le, List, [], ◌∷◌, length, take, codes, slice_index,
-    if◌then◌else◌}
+use Rattle.std.specs.Prelude.{
+  ℕ,
+  zero,
+  suc,
+  ◌+◌,
+  ◌*◌,
+  ◌-◌,
+  Bool,
+  false,
+  not,
+  ◌&&◌,
+  ◌||◌,
+  ◌==◌,
+  nat_le,
+  List,
+  [],
+  ◌∷◌,
+  length,
+  take,
+  codes,
+  slice_index,
+  if◌then◌else◌,
+}
 use Rattle.std.specs.List.{list_any, list_all}
 use Rattle.std.specs.Char.{is_ascii_digit}
 use Rattle.jade_alphabet.specs.Letters.{is_letter, is_word}

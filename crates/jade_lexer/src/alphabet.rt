@@ -62,7 +62,10 @@ fn symbol_length(bytes: &[u8]) -> usize
 fn word_length(bytes: &[u8]) -> usize
     ensures { result ≡ prefix_len is_letter_or_digit bytes.now }
 {
-    bytes.iter().take_while(|byte| is_letter_or_digit(**byte)).count()
+    bytes
+        .iter()
+        .take_while(|byte| is_letter_or_digit(**byte))
+        .count()
 }
 
 /// How many digits stand at the front.

@@ -2,8 +2,7 @@ ghost use Rattle.std.specs.Prelude.{◌≡◌, ◌+◌, ◌<◌, ◌≤◌, ◌^
 ghost use Rattle.jade_lexer.specs.Reading.{next_pos, pos_after, depth_after, spot_after, token_part, first_part, part_length, reading, Whole, IsRefusal};
 
 use crate::alphabet::{
-    begins_comment, is_closer, is_number, is_opener, is_separator, line_length,
-    token_length,
+    begins_comment, is_closer, is_number, is_opener, is_separator, line_length, token_length,
 };
 use crate::lexeme::{LexError, Lexeme, Tokens};
 use jade_alphabet::{DEPTH_LIMIT, WORD_LIMIT, is_letter};
