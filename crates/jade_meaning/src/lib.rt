@@ -2,18 +2,18 @@
 #![tactic(auto)]
 
 mod draft;
-mod found;
+mod resolve;
 mod frames;
-mod grants;
+mod dense_spec;
 mod holds;
 pub mod laws;
-mod ledger;
+mod run_state;
 pub mod ready;
 mod scope;
 pub mod serial;
 mod setting;
 mod source;
-mod standing;
+mod configuration;
 mod statements;
 mod stop;
 mod tally;

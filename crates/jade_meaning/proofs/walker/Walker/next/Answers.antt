@@ -1,5 +1,5 @@
 use Rattle.std.proofs.Common.{◌≡◌, ◌++◌, ◌∷◌, [], List, map, refl, ap, sym, subst, ◌∙◌, rules}
-use Rattle.jade_meaning.specs.Perform.{shown}
+use Rattle.jade_meaning.specs.steps.Perform.{shown}
 use Rattle.jade_meaning.specs.Walks.{Walk}
 use Rattle.jade_meaning.specs.Walk.{upcoming, First, act_of, carried_of, Passes}
 use Rattle.jade_meaning.proofs.Walking.{first_known}
