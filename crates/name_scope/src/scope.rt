@@ -62,9 +62,11 @@ impl<'n, V: Copy + Drop> NameScope<'n, V> {
         }
     }
 
-    /// The allocator of the scope.
-    pub fn allocator(&self) -> Global {
-        *self.entries.allocator()
+    /// No names, in the same memory as these. It takes no memory.
+    pub fn without_names(&self) -> NameScope<'n, V>
+        ensures { result ≡ [] }
+    {
+        NameScope::none(*self.entries.allocator())
     }
 
     /// The number of names in scope, each as often as it was declared. It takes no memory.
