@@ -35,12 +35,15 @@ came_past p q = record { whole = whole_past p.whole q; short = p.short }
 pub came_fixed : {all : List Seen} {a b : ℕ} {xs ys : Stack} {w : Sign} → Whole all a xs b ys (fixed w ∷ []) → Came all a xs b ys (fixed w ∷ [])
 came_fixed p = record { whole = p; short = record { is = refl } }
 
-pub came_marked : {all : List Seen} {a b : ℕ} {xs ys : Stack} {t : Token} {q : Pos} → Whole all a xs b ys (marked t q ∷ []) → Came all a xs b ys (marked t q ∷ [])
+pub came_marked : {all : List Seen} {a b : ℕ} {xs ys : Stack} {t : Token} {q : Pos} → Whole all a xs b ys (marked t q ∷ [])
+    → Came all a xs b ys (marked t q ∷ [])
 came_marked p = record { whole = p; short = record { is = refl } }
 
 -- after what was read, a piece is refused, or too long
-pub after : {X Y : Type 0} (P : X → Type 0) (Q : Y → Type 0) (f : X → Parts) (g : Y → Parts) (all : List Seen) (a b : ℕ) (xs ys zs : Stack) (s : Parts) (make : Y → X) (z : Parts) (e : Stop)
-    → ((y : Y) → f (make y) ≡ s ++ (g y ++ z)) → ((y : Y) → Q y → P (make y)) → AllValid z → Came all a xs b (ys ++ zs) s → OnStop e (RefusalIn Q g all b ys) (LongIn Q g all b) → OnStop e (RefusalIn P f all a xs) (LongIn P f all a)
+pub after : {X Y : Type 0} (P : X → Type 0) (Q : Y → Type 0) (f : X → Parts) (g : Y → Parts) (all : List Seen) (a b : ℕ) (xs ys zs : Stack) (s : Parts)
+    (make : Y → X) (z : Parts) (e : Stop)
+    → ((y : Y) → f (make y) ≡ s ++ (g y ++ z)) → ((y : Y) → Q y → P (make y)) → AllValid z → Came all a xs b (ys ++ zs) s
+    → OnStop e (RefusalIn Q g all b ys) (LongIn Q g all b) → OnStop e (RefusalIn P f all a xs) (LongIn P f all a)
 after P Q f g all a b xs ys zs s make z e eq proper v w o = stop_in P Q f g all a b xs (ys ++ zs) s make z eq proper v w.short w.whole e (under e o)
   where
     under : (e : Stop) → OnStop e (RefusalIn Q g all b ys) (LongIn Q g all b) → OnStop e (RefusalIn Q g all b (ys ++ zs)) (LongIn Q g all b)
@@ -54,7 +57,8 @@ pub other : {X : Type 0} (P : X → Type 0) (f : X → Parts) (all : List Seen) 
 other P f all a b xs ys zs s more tree e eq fits v w o = stop_other P f all a b xs ys zs s more tree e eq fits v w.short w.whole o
 
 -- the same, of tokens that stand for one another
-pub other_as : (all : List Seen) (at : ℕ) (xs ys : Stack) (e : Stop) → ((st : Stack) → goes (drop at (kinds all)) (xs ++ st) ≡ 0 → goes (drop at (kinds all)) (ys ++ st) ≡ 0) → OnOther e all at xs → OnOther e all at ys
+pub other_as : (all : List Seen) (at : ℕ) (xs ys : Stack) (e : Stop)
+    → ((st : Stack) → goes (drop at (kinds all)) (xs ++ st) ≡ 0 → goes (drop at (kinds all)) (ys ++ st) ≡ 0) → OnOther e all at xs → OnOther e all at ys
 other_as all at xs ys (AtToken k) h o = (
   o.0,
   record {

@@ -16,10 +16,13 @@ all_short s t p q = record { is = rw (list_all-append (λ (x : Part). nat_le x.n
 pub none_short : AllShort []
 none_short = record { is = refl }
 
-pub refusal_in_under : {X : Type 0} {P : X → Type 0} {f : X → Parts} {all : List Seen} {a k : ℕ} {xs : Stack} (zs : Stack) → RefusalIn P f all a xs k → RefusalIn P f all a (xs ++ zs) k
-refusal_in_under {X} {P} {f} {all} {a} {k} {xs} zs p = record { stops = record { by = λ st. rw (append_assoc xs zs st) (p.stops.by (zs ++ st)) }; begun = p.begun }
+pub refusal_in_under : {X : Type 0} {P : X → Type 0} {f : X → Parts} {all : List Seen} {a k : ℕ} {xs : Stack} (zs : Stack) → RefusalIn P f all a xs k
+    → RefusalIn P f all a (xs ++ zs) k
+refusal_in_under {X} {P} {f} {all} {a} {k} {xs} zs p =
+    record { stops = record { by = λ st. rw (append_assoc xs zs st) (p.stops.by (zs ++ st)) }; begun = p.begun }
 
-module _ {X Y : Type 0} (P : X → Type 0) (Q : Y → Type 0) (f : X → Parts) (g : Y → Parts) (all : List Seen) (a b : ℕ) (xs ys : Stack) (s : Parts) (make : Y → X) (z : Parts)
+module _ {X Y : Type 0} (P : X → Type 0) (Q : Y → Type 0) (f : X → Parts) (g : Y → Parts) (all : List Seen) (a b : ℕ) (xs ys : Stack) (s : Parts) (make : Y → X)
+    (z : Parts)
     (eq : (y : Y) → f (make y) ≡ s ++ (g y ++ z)) (proper : (y : Y) → Q y → P (make y)) (v : AllValid z) (short : AllShort s) (w : Whole all a xs b ys s) where
   refused_part : (k : ℕ) → RefusalIn Q g all b ys k → RefusalIn P f all a xs k
   refused_part k r = record {
@@ -65,7 +68,8 @@ stop_here P f all a b xs ys s more tree eq fits v short w stop = record {
 }
 
 pub stop_other : {X : Type 0} (P : X → Type 0) (f : X → Parts) (all : List Seen) (a b : ℕ) (xs ys zs : Stack) (s more : Parts) (tree : X) (e : Stop)
-    → f tree ≡ s ++ more → P tree → AllValid more → AllShort s → Whole all a xs b (ys ++ zs) s → OnOther e all b ys → OnStop e (RefusalIn P f all a xs) (LongIn P f all a)
+    → f tree ≡ s ++ more → P tree → AllValid more → AllShort s → Whole all a xs b (ys ++ zs) s → OnOther e all b ys
+    → OnStop e (RefusalIn P f all a xs) (LongIn P f all a)
 stop_other P f all a b xs ys zs s more tree (AtToken k) eq fits v short w o =
     let under : Stops all b (ys ++ zs) b = record { by = λ st. rw (append_assoc ys zs st) (o.1.by (zs ++ st)) } in
     rw (o.0) (stop_here P f all a b xs (ys ++ zs) s more tree eq fits v short w under)

@@ -1,5 +1,30 @@
 -- What was seen is what the bytes say.
-use Rattle.std.proofs.Common.{◌≡◌, ℕ, zero, suc, ◌+◌, ◌<◌, ◌≤◌, true, ◌&&◌, List, [], ◌∷◌, ◌++◌, refl, ap, sym, ◌∙◌, length, take, drop, map, arith, slice_get, Some}
+use Rattle.std.proofs.Common.{
+  ◌≡◌,
+  ℕ,
+  zero,
+  suc,
+  ◌+◌,
+  ◌<◌,
+  ◌≤◌,
+  true,
+  ◌&&◌,
+  List,
+  [],
+  ◌∷◌,
+  ◌++◌,
+  refl,
+  ap,
+  sym,
+  ◌∙◌,
+  length,
+  take,
+  drop,
+  map,
+  arith,
+  slice_get,
+  Some,
+}
 use Rattle.std.specs.List.{list_all}
 use Rattle.std.proofs.lemmas.List.{length-map, take_all, take-append-le, take-map, map-append}
 use Rattle.jade_base.specs.declared.place.Pos.{Pos}
@@ -12,7 +37,20 @@ use Rattle.jade_parser.specs.Programs.{program_parts, Proper}
 use Rattle.jade_parser.specs.Reads.{kinds, is_known, Known, Reads}
 use Rattle.jade_parser.specs.Parts.{BegunIn}
 use Rattle.jade_parser.specs.Refused.{ReadAll, RefusedAt, TooLongAt}
-use Rattle.jade_parser.specs.Grammar.{bytes_of, texts, IsProgram, IsReading, IsBegun, IsBegunShort, IsRefused, IsTooLong, place_or, place_of, IsRefusedAt, IsTooLongAt}
+use Rattle.jade_parser.specs.Grammar.{
+  bytes_of,
+  texts,
+  IsProgram,
+  IsReading,
+  IsBegun,
+  IsBegunShort,
+  IsRefused,
+  IsTooLong,
+  place_or,
+  place_of,
+  IsRefusedAt,
+  IsTooLongAt,
+}
 use Rattle.jade_parser.proofs.Known.{Known as Says, known, back, both_true}
 use Rattle.jade_parser.proofs.Reading.{all_valid, reads_length}
 

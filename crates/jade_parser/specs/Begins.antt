@@ -6,7 +6,24 @@ use Rattle.jade_syntax.specs.Shapes.{declares}
 use Rattle.jade_syntax.specs.declared.shapes.place.BlockKind.{BlockKind}
 use Rattle.jade_syntax.specs.declared.shapes.place.BlockKind.TheVariants.{Main, Section, Amends}
 use Rattle.jade_parser.specs.declared.Sign.{Sign}
-use Rattle.jade_parser.specs.declared.Sign.TheVariants.{RightBrace, LeftBrace, LeftParen, RightParen, Becomes, Semicolon, InWord, DotDot, DoWord, ContWord, IntWord, BoolWord, IfWord, ForWord, WithonlyWord, WithWord}
+use Rattle.jade_parser.specs.declared.Sign.TheVariants.{
+  RightBrace,
+  LeftBrace,
+  LeftParen,
+  RightParen,
+  Becomes,
+  Semicolon,
+  InWord,
+  DotDot,
+  DoWord,
+  ContWord,
+  IntWord,
+  BoolWord,
+  IfWord,
+  ForWord,
+  WithonlyWord,
+  WithWord,
+}
 use Rattle.jade_parser.specs.declared.begins.Begin.{Begin}
 use Rattle.jade_parser.specs.declared.begins.Begin.TheVariants.{Local, If, For, Withonly, With, Declare, Closing, Nothing}
 use Rattle.jade_parser.specs.Ops.{declare_of}
@@ -40,9 +57,14 @@ begin_of c s = declaration_of c (declare_of s)
 abbrev pub Told : BlockKind → Sign → Begin → Type 0
 Told c s (Local k) = (kind_word k ≡ Fixed s) × ((st : Stack) → statement_sign c s st ≡ Some (NameIs ∷ Must Becomes ∷ expr_in ++ Must Semicolon ∷ Body c ∷ st))
 Told c s If = (s ≡ IfWord) × ((st : Stack) → statement_sign c s st ≡ Some (expr_in ++ Must LeftBrace ∷ Body c ∷ Else c ∷ Body c ∷ st))
-Told c s For = (s ≡ ForWord) × ((st : Stack) → statement_sign c s st ≡ Some (NameIs ∷ Must InWord ∷ expr_in ++ Must DotDot ∷ expr_in ++ Must LeftBrace ∷ Body c ∷ Body c ∷ st))
-Told c s Withonly = (c ≡ Main) × (s ≡ WithonlyWord) × ((st : Stack) → statement_sign c s st ≡ Some (Must LeftBrace ∷ Body Section ∷ Must DoWord ∷ Must LeftParen ∷ Names ∷ Must LeftBrace ∷ Body Main ∷ Body c ∷ st))
-Told c s With = (c ≡ Main) × (s ≡ WithWord) × ((st : Stack) → statement_sign c s st ≡ Some (Must LeftBrace ∷ Body Amends ∷ Must ContWord ∷ Must Semicolon ∷ Body c ∷ st))
-Told c s (Declare w) = (declare_word w ≡ Fixed s) × (declares c w ≡ true) × ((st : Stack) → statement_sign c s st ≡ Some (Must LeftParen ∷ NameIs ∷ Second ∷ Must RightParen ∷ Must Semicolon ∷ Body c ∷ st))
+Told c s For = (s ≡ ForWord) × ((st : Stack) → statement_sign c s st
+    ≡ Some (NameIs ∷ Must InWord ∷ expr_in ++ Must DotDot ∷ expr_in ++ Must LeftBrace ∷ Body c ∷ Body c ∷ st))
+Told c s Withonly = (c ≡ Main) × (s ≡ WithonlyWord)
+    × ((st : Stack) → statement_sign c s st
+    ≡ Some (Must LeftBrace ∷ Body Section ∷ Must DoWord ∷ Must LeftParen ∷ Names ∷ Must LeftBrace ∷ Body Main ∷ Body c ∷ st))
+Told c s With = (c ≡ Main) × (s ≡ WithWord)
+    × ((st : Stack) → statement_sign c s st ≡ Some (Must LeftBrace ∷ Body Amends ∷ Must ContWord ∷ Must Semicolon ∷ Body c ∷ st))
+Told c s (Declare w) = (declare_word w ≡ Fixed s) × (declares c w ≡ true)
+    × ((st : Stack) → statement_sign c s st ≡ Some (Must LeftParen ∷ NameIs ∷ Second ∷ Must RightParen ∷ Must Semicolon ∷ Body c ∷ st))
 Told c s Closing = s ≡ RightBrace
 Told c s Nothing = (st : Stack) → statement_sign c s st ≡ None

@@ -8,7 +8,22 @@ use Rattle.jade_parser.specs.declared.Seen.{Seen}
 use Rattle.jade_parser.specs.declared.Stop.{Stop}
 use Rattle.jade_parser.specs.declared.begins.Begin.{Begin}
 use Rattle.jade_parser.specs.declared.begins.Begin.TheVariants.{Local, If, For, Withonly, With, Declare, Closing, Nothing}
-use Rattle.jade_parser.specs.declared.Sign.TheVariants.{LeftBrace, RightBrace, LeftParen, RightParen, InWord, DotDot, DoWord, ContWord, Semicolon, Becomes, IfWord, ForWord, WithonlyWord, WithWord}
+use Rattle.jade_parser.specs.declared.Sign.TheVariants.{
+  LeftBrace,
+  RightBrace,
+  LeftParen,
+  RightParen,
+  InWord,
+  DotDot,
+  DoWord,
+  ContWord,
+  Semicolon,
+  Becomes,
+  IfWord,
+  ForWord,
+  WithonlyWord,
+  WithWord,
+}
 use Rattle.jade_parser.specs.Spelled.{Fixed, plain, fixed, marked}
 use Rattle.jade_parser.specs.Machine.{Stack, Must, NameIs, Names, Second, Body, Else, expr_in}
 use Rattle.jade_parser.specs.Statements.{statement_parts, kind_word, declare_word}
@@ -43,7 +58,8 @@ BeginAt c all at For = Whole all at (Body c ∷ []) (at + 1) (for_in c) (fixed F
 BeginAt c all at Withonly = (c ≡ Main) × Whole all at (Body Main ∷ []) (at + 1) withonly_in (marked (Fixed WithonlyWord) (place_at all at) ∷ [])
 BeginAt c all at With = (c ≡ Main) × Whole all at (Body Main ∷ []) (at + 1) with_in (marked (Fixed WithWord) (place_at all at) ∷ [])
 BeginAt c all at (Declare w) =
-    (declares c w ≡ true) × Whole all at (Body c ∷ []) (at + 1) (Must LeftParen ∷ NameIs ∷ Second ∷ Must RightParen ∷ Must Semicolon ∷ Body c ∷ []) (marked (declare_word w) (place_at all at) ∷ [])
+    (declares c w ≡ true) × Whole all at (Body c ∷ []) (at + 1) (Must LeftParen ∷ NameIs ∷ Second ∷ Must RightParen ∷ Must Semicolon ∷ Body c ∷ [])
+    (marked (declare_word w) (place_at all at) ∷ [])
 BeginAt c all at Closing = Whole all at (Body c ∷ []) (at + 1) [] (fixed RightBrace ∷ [])
 BeginAt c all at Nothing = Stops all at (Body c ∷ []) at
 
@@ -54,5 +70,6 @@ Halts c all at e = OnStop e (RefusalIn (Fits c) statement_parts all at (Body c �
 -- the brace that ends the block, a statement, or what is refused
 abbrev pub StatementAt : BlockKind → List Seen → ℕ → Result (Option (Statement × ℕ)) Stop → Type 0
 StatementAt c all at r = MatchResult r
-    (λ o. MatchOption o (Whole all at (Body c ∷ []) (at + 1) [] (fixed RightBrace ∷ [])) (λ p. ReadIn (Fits c) statement_parts all at (Body c ∷ []) p.1 (Body c ∷ []) p.0))
+    (λ o. MatchOption o (Whole all at (Body c ∷ []) (at + 1) [] (fixed RightBrace ∷ []))
+    (λ p. ReadIn (Fits c) statement_parts all at (Body c ∷ []) p.1 (Body c ∷ []) p.0))
     (Halts c all at)

@@ -1,11 +1,86 @@
 -- What the bytes of a token say that it is.
-use Rattle.std.specs.Prelude.{◌≡◌, ℕ, ◌≤◌, Bool, true, false, not, ◌&&◌, ◌||◌, ◌==◌, nat_le, if◌then◌else◌, List, [], ◌∷◌, length, codes, map, Option, Some, None, ℤ}
+use Rattle.std.specs.Prelude.{
+  ◌≡◌,
+  ℕ,
+  ◌≤◌,
+  Bool,
+  true,
+  false,
+  not,
+  ◌&&◌,
+  ◌||◌,
+  ◌==◌,
+  nat_le,
+  if◌then◌else◌,
+  List,
+  [],
+  ◌∷◌,
+  length,
+  codes,
+  map,
+  Option,
+  Some,
+  None,
+  ℤ,
+}
 use Rattle.std.specs.Fmt.{signed_decimal}
 use Rattle.jade_lexer.specs.Alphabet.{is_run, value_after}
-use Rattle.jade_syntax.specs.Names.{is_spelled}
+use Rattle.jade_alphabet.specs.declared.TheConstants.{WORD_LIMIT, GREATEST_NUMBER}
+use Rattle.jade_alphabet.specs.Letters.{is_word}
 use Rattle.jade_syntax.specs.Numbering.{same_name}
 use Rattle.jade_parser.specs.declared.Sign.{Sign}
-use Rattle.jade_parser.specs.declared.Sign.TheVariants.{InputWord, ObjectWord, ObjectsWord, MainWord, IntWord, BoolWord, TrueWord, FalseWord, IfWord, ElseWord, ForWord, InWord, WithonlyWord, DoWord, WithWord, ContWord, RdWord, WrWord, RdWrWord, DfRdWord, DfWrWord, DfRdWrWord, NoRdWord, NoWrWord, NoRdWrWord, LeftParen, RightParen, LeftBracket, RightBracket, LeftBrace, RightBrace, Semicolon, Colon, Comma, DotDot, Becomes, EqualSign, UnequalSign, LessSign, LessEqualSign, GreaterSign, GreaterEqualSign, PlusSign, MinusSign, TimesSign, OverSign, PercentSign, NotSign, OrSign, AndSign}
+use Rattle.jade_parser.specs.declared.Sign.TheVariants.{
+  InputWord,
+  ObjectWord,
+  ObjectsWord,
+  MainWord,
+  IntWord,
+  BoolWord,
+  TrueWord,
+  FalseWord,
+  IfWord,
+  ElseWord,
+  ForWord,
+  InWord,
+  WithonlyWord,
+  DoWord,
+  WithWord,
+  ContWord,
+  RdWord,
+  WrWord,
+  RdWrWord,
+  DfRdWord,
+  DfWrWord,
+  DfRdWrWord,
+  NoRdWord,
+  NoWrWord,
+  NoRdWrWord,
+  LeftParen,
+  RightParen,
+  LeftBracket,
+  RightBracket,
+  LeftBrace,
+  RightBrace,
+  Semicolon,
+  Colon,
+  Comma,
+  DotDot,
+  Becomes,
+  EqualSign,
+  UnequalSign,
+  LessSign,
+  LessEqualSign,
+  GreaterSign,
+  GreaterEqualSign,
+  PlusSign,
+  MinusSign,
+  TimesSign,
+  OverSign,
+  PercentSign,
+  NotSign,
+  OrSign,
+  AndSign,
+}
 use Rattle.jade_parser.specs.declared.Seen.{Seen}
 use Rattle.jade_lexer.specs.Lexemes.{TokenAt}
 use Rattle.jade_parser.specs.Spelled.{Token, Fixed, Called, Counted, Odd}
@@ -128,17 +203,17 @@ is_kept bytes = same_name bytes (codes "proc") || same_name bytes (codes "cm")
 
 -- letters and digits that are no reserved word of a form, nor any other
 abbrev pub is_free : List ℕ → Bool
-is_free bytes = nat_le (length bytes) 64 && is_spelled bytes && not (is_kept bytes)
+is_free bytes = nat_le (length bytes) WORD_LIMIT && is_word bytes && not (is_kept bytes)
 
--- one or more digits of a value of at most 2 ^ 63 - 1
+-- one or more digits of a value no greater than the greatest number
 abbrev pub is_small_run : List ℕ → Bool
-is_small_run bytes = is_run bytes && nat_le (value_after 0 bytes) 9223372036854775807
+is_small_run bytes = is_run bytes && nat_le (value_after 0 bytes) GREATEST_NUMBER
 
 -- these digits have this value
 pub record IsValue (bytes : List ℕ) (n : ℕ) : Type 0 where
   pub run : is_small_run bytes ≡ true
   pub value : n ≡ value_after 0 bytes
-  pub small : n ≤ 9223372036854775807
+  pub small : n ≤ GREATEST_NUMBER
 
 -- a 0 in front of more
 abbrev pub has_needless_zero : List ℕ → Bool

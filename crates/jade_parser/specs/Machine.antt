@@ -4,12 +4,58 @@ use Rattle.jade_syntax.specs.declared.shapes.place.BlockKind.{BlockKind}
 use Rattle.jade_syntax.specs.declared.shapes.place.BlockKind.TheVariants.{Main, Section, Amends}
 use Rattle.jade_syntax.specs.declared.tree.DeclareWord.{DeclareWord}
 use Rattle.jade_syntax.specs.Shapes.{declares, is_main}
+use denote.Enum.Bare.{sameb}
+use Rattle.jade_parser.specs.contracts.Sign.{the_type}
 use Rattle.jade_parser.specs.declared.Sign.{Sign}
-use Rattle.jade_parser.specs.declared.Sign.TheVariants.{EqualSign, UnequalSign, LessSign, LessEqualSign, GreaterSign, GreaterEqualSign, PlusSign, MinusSign, TimesSign, OverSign, PercentSign, NotSign, TrueWord, FalseWord, LeftBracket, RightBracket, LeftParen, RightParen, AndSign, OrSign, Semicolon, Becomes, LeftBrace, RightBrace, IfWord, ElseWord, ForWord, InWord, DotDot, IntWord, BoolWord, WithonlyWord, WithWord, DoWord, ContWord, Comma, RdWord, WrWord, RdWrWord, DfRdWord, DfWrWord, DfRdWrWord, NoRdWord, NoWrWord, NoRdWrWord, InputWord, ObjectWord, ObjectsWord, MainWord, Colon}
+use Rattle.jade_parser.specs.declared.Sign.TheVariants.{
+  EqualSign,
+  UnequalSign,
+  LessSign,
+  LessEqualSign,
+  GreaterSign,
+  GreaterEqualSign,
+  PlusSign,
+  MinusSign,
+  TimesSign,
+  OverSign,
+  PercentSign,
+  NotSign,
+  TrueWord,
+  FalseWord,
+  LeftBracket,
+  RightBracket,
+  LeftParen,
+  RightParen,
+  AndSign,
+  OrSign,
+  Semicolon,
+  Becomes,
+  LeftBrace,
+  RightBrace,
+  IfWord,
+  ElseWord,
+  ForWord,
+  InWord,
+  DotDot,
+  IntWord,
+  BoolWord,
+  WithonlyWord,
+  WithWord,
+  DoWord,
+  ContWord,
+  Comma,
+  InputWord,
+  ObjectWord,
+  ObjectsWord,
+  MainWord,
+  Colon,
+}
 use Rattle.jade_parser.specs.Ops.{declare_of}
 use Rattle.jade_parser.specs.Spelled.{Token, Tokens, Fixed, Called, Counted, Odd}
 
--- What is asked for: an operand (`Need`); what goes on with a chain of a level (`Rest`), a first or a second index or an `else`, each of which may fail to come; a sign; a name; the statements of a block up to its brace; what follows the name that begins a statement; the names of a `do` list, or more of them; a number; items up to `main`
+-- What is asked for: an operand (`Need`); what goes on with a chain of a level (`Rest`), a first or a second index or an `else`, each of which may
+-- fail to come; a sign; a name; the statements of a block up to its brace; what follows the name that begins a statement; the names of a `do` list,
+-- or more of them; a number; items up to `main`
 pub data Symbol : Type 0 where
   Need : Symbol
   Rest : ℕ → Symbol
@@ -103,57 +149,7 @@ need Odd st = None
 
 -- two signs are one
 abbrev pub same_sign : Sign → Sign → Bool
-same_sign TrueWord TrueWord = true
-same_sign FalseWord FalseWord = true
-same_sign LeftParen LeftParen = true
-same_sign RightParen RightParen = true
-same_sign LeftBracket LeftBracket = true
-same_sign RightBracket RightBracket = true
-same_sign OrSign OrSign = true
-same_sign AndSign AndSign = true
-same_sign EqualSign EqualSign = true
-same_sign UnequalSign UnequalSign = true
-same_sign LessSign LessSign = true
-same_sign LessEqualSign LessEqualSign = true
-same_sign GreaterSign GreaterSign = true
-same_sign GreaterEqualSign GreaterEqualSign = true
-same_sign PlusSign PlusSign = true
-same_sign MinusSign MinusSign = true
-same_sign TimesSign TimesSign = true
-same_sign OverSign OverSign = true
-same_sign PercentSign PercentSign = true
-same_sign NotSign NotSign = true
-same_sign Semicolon Semicolon = true
-same_sign Becomes Becomes = true
-same_sign LeftBrace LeftBrace = true
-same_sign RightBrace RightBrace = true
-same_sign IfWord IfWord = true
-same_sign ElseWord ElseWord = true
-same_sign ForWord ForWord = true
-same_sign InWord InWord = true
-same_sign DotDot DotDot = true
-same_sign IntWord IntWord = true
-same_sign BoolWord BoolWord = true
-same_sign WithonlyWord WithonlyWord = true
-same_sign WithWord WithWord = true
-same_sign DoWord DoWord = true
-same_sign ContWord ContWord = true
-same_sign Comma Comma = true
-same_sign RdWord RdWord = true
-same_sign WrWord WrWord = true
-same_sign RdWrWord RdWrWord = true
-same_sign DfRdWord DfRdWord = true
-same_sign DfWrWord DfWrWord = true
-same_sign DfRdWrWord DfRdWrWord = true
-same_sign NoRdWord NoRdWord = true
-same_sign NoWrWord NoWrWord = true
-same_sign NoRdWrWord NoRdWrWord = true
-same_sign InputWord InputWord = true
-same_sign ObjectWord ObjectWord = true
-same_sign ObjectsWord ObjectsWord = true
-same_sign MainWord MainWord = true
-same_sign Colon Colon = true
-same_sign a b = false
+same_sign = sameb the_type
 
 -- a token is this sign
 abbrev pub is_sign : Sign → Token → Bool

@@ -26,7 +26,8 @@ between_parts opener closer n = fixed opener ∷ number_part n ∷ fixed closer 
 abbrev pub item_parts : Item → Parts
 item_parts (Input name pos) = fixed InputWord ∷ marked (Called name) pos ∷ fixed Semicolon ∷ []
 item_parts (Single name pos size) = fixed ObjectWord ∷ marked (Called name) pos ∷ between_parts Colon Semicolon size
-item_parts (Family name pos count size) = fixed ObjectsWord ∷ marked (Called name) pos ∷ (between_parts LeftBracket RightBracket count ++ between_parts Colon Semicolon size)
+item_parts (Family name pos count size) =
+    fixed ObjectsWord ∷ marked (Called name) pos ∷ (between_parts LeftBracket RightBracket count ++ between_parts Colon Semicolon size)
 
 -- the items and `main`
 abbrev pub head_parts : List Item → Parts
@@ -71,5 +72,6 @@ OpeningAt all at opening.Nothing = Stops all at (Items ∷ []) at
 -- `main`, an item, or what is refused
 abbrev pub ItemAt : List Seen → ℕ → Result (Option (Item × ℕ)) Stop → Type 0
 ItemAt all at r = MatchResult r
-    (λ o. MatchOption o (Whole all at (Items ∷ []) (at + 1) body_in (fixed MainWord ∷ [])) (λ p. ReadIn Any item_parts all at (Items ∷ []) p.1 (Items ∷ []) p.0))
+    (λ o. MatchOption o (Whole all at (Items ∷ []) (at + 1) body_in (fixed MainWord ∷ []))
+    (λ p. ReadIn Any item_parts all at (Items ∷ []) p.1 (Items ∷ []) p.0))
     (λ e. OnStop e (RefusalIn Any item_parts all at (Items ∷ [])) (LongIn Any item_parts all at))

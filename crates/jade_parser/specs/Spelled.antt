@@ -2,8 +2,30 @@
 use Rattle.std.specs.Prelude.{◌≡◌, ℕ, ◌+◌, Bool, true, false, List, [], ◌∷◌, ◌++◌, map, Option, Some, None, ℤ, nat_le}
 use Rattle.std.specs.List.{flat_map, list_all}
 use Rattle.jade_parser.specs.declared.Sign.{Sign}
-use Rattle.jade_parser.specs.declared.Sign.TheVariants.{EqualSign, UnequalSign, LessSign, LessEqualSign, GreaterSign, GreaterEqualSign, PlusSign, MinusSign, TimesSign, OverSign, PercentSign, NotSign, TrueWord, FalseWord, LeftBracket, RightBracket, LeftParen, RightParen, AndSign, OrSign}
+use Rattle.jade_parser.specs.declared.Sign.TheVariants.{
+  EqualSign,
+  UnequalSign,
+  LessSign,
+  LessEqualSign,
+  GreaterSign,
+  GreaterEqualSign,
+  PlusSign,
+  MinusSign,
+  TimesSign,
+  OverSign,
+  PercentSign,
+  NotSign,
+  TrueWord,
+  FalseWord,
+  LeftBracket,
+  RightBracket,
+  LeftParen,
+  RightParen,
+  AndSign,
+  OrSign,
+}
 use Rattle.jade_base.specs.declared.place.Pos.{Pos}
+use Rattle.jade_alphabet.specs.declared.TheConstants.{EXPRESSION_LIMIT}
 use Rattle.jade_syntax.specs.Names.{is_name}
 use Rattle.jade_syntax.specs.Shapes.{is_natural}
 use Rattle.jade_syntax.specs.declared.tree.Number.{Number}
@@ -82,7 +104,7 @@ pub record AllValid (ps : Parts) : Type 0 where
 
 -- no outermost expression has more than 256 tokens
 pub record AllShort (ps : Parts) : Type 0 where
-  pub is : list_all (λ (p : Part). nat_le p.nth 256) ps ≡ true
+  pub is : list_all (λ (p : Part). nat_le p.nth EXPRESSION_LIMIT) ps ≡ true
 
 -- ---- words and symbols
 

@@ -17,7 +17,7 @@ use crate::pieces::{is_at, parse_declared, parse_ended, parse_indexes};
 use crate::{Seen, Sign, Stop};
 use jade_base::Pos;
 use jade_syntax::Name;
-use jade_syntax::shapes::place::BlockKind;
+use jade_syntax::shapes::place::{BlockKind, is_main};
 use jade_syntax::tree::{CellRef, DeclareWord, Statement, ValueKind};
 use std::alloc::Global;
 
@@ -133,17 +133,6 @@ fn parse_store(
             Ok((Statement::Store { target, value }, end))
         }
         Err(e) => Err(e),
-    }
-}
-
-/// Whether stores stand there.
-fn is_main(place: BlockKind) -> bool
-    ensures { result ≡ is_main place }
-{
-    match place {
-        BlockKind::Main => true,
-        BlockKind::Section => false,
-        BlockKind::Amends => false,
     }
 }
 

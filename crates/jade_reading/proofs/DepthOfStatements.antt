@@ -17,15 +17,21 @@ use Rattle.jade_syntax.specs.declared.tree.Item.TheVariants.{Input, Single, Fami
 use Rattle.jade_syntax.specs.declared.tree.Statement.{Statement, map-Statement, fold-roll-Statement, ind-Statement}
 use Rattle.jade_syntax.specs.declared.tree.Statement.TheOpen.{Statement-F}
 use Rattle.jade_syntax.specs.declared.tree.Program.{Program}
-use Rattle.jade_syntax.specs.Shapes.{◌⊕◌, all_of, in_brackets, name_extent, limited, outermost, outer_index, target_extent, object_extent, names_extent, braced as braced_extent, at_statement as e_statement, statement_extent, item_extent, program_extent}
+use Rattle.jade_syntax.specs.Shapes.{expr_extent, ◌⊕◌, all_of, in_brackets, name_extent, limited, outermost, outer_index, target_extent, object_extent, names_extent, braced as braced_extent, at_statement as e_statement, statement_extent, item_extent, program_extent}
 use Rattle.jade_layout.specs.Spelling.{Tokens, kind_word, declare_word, expr_tokens, cell_tokens, object_index, object_tokens, braced, name_tokens, at_statement, statement_tokens, item_tokens, spelling}
 use Rattle.jade_layout.proofs.Opened.{cell_opens}
 use Rattle.jade_reading.proofs.DepthOfTokens.{join, sign, curly}
-use Rattle.jade_reading.proofs.DepthOfParts.{Nested, nested_join, nested_nothing, nested_regroup, nested_all, IsSign, nested_sign, nested_mark, nested_lead, nested_trail, nested_number, nested_name, nested_group, nested_bracketed}
-use Rattle.jade_reading.proofs.DepthOfTerms.{expr_nested}
+use Rattle.jade_reading.proofs.DepthOfParts.{Nested, nested_join, nested_nothing, nested_regroup, nested_all, IsSign, nested_sign, nested_mark, nested_lead, nested_trail, nested_number, nested_name, nested_group, nested_bracketed, nested_chain, nested_signs, nested_truth, nested_single, nested_member, nested_alone, nested_pair, sum_is_sign, product_is_sign}
+use Rattle.jade_layout.proofs.Trees.{expr_holds}
 
 nested_limited : {x : Extent} {ts : Tokens} → Nested x ts → Nested (limited x) ts
 nested_limited {x} f = record { by = λ h. f.by (and_parts x.sound (leb x.tokens 256) h).0 }
+
+-- the brackets of an expression nest as deep as its extent says
+expr_nested : (e : Expr) → Nested (expr_extent e) (expr_tokens e)
+expr_nested =
+    expr_holds Nested IsSign (λ depth. refl) (λ depth. refl) sum_is_sign product_is_sign (λ P x first. nested_chain) (λ x ts. nested_signs) nested_number nested_name nested_truth (λ x ts. nested_group)
+    (λ x ts. nested_single) (λ x y a b. nested_member) (λ x ts. nested_alone) (λ x y a b. nested_pair)
 
 outer_nested : (e : Expr) → Nested (outermost e) (expr_tokens e)
 outer_nested e = nested_limited (expr_nested e)

@@ -13,7 +13,7 @@ use Rattle.jade_parser.specs.Kinds.{token_bytes}
 use Rattle.jade_parser.specs.Programs.{program_parts}
 use Rattle.jade_parser.specs.Grammar.{IsProgram, IsReading, texts}
 use Rattle.jade_parser.proofs.Known.{both_true}
-use Rattle.jade_parser.proofs.Same.{program_alike}
+use Rattle.jade_reading.proofs.Same.{program_alike}
 use Rattle.jade_reading.proofs.ShapeOfProgram.{sound_of, sound_from, count_is}
 use Rattle.jade_reading.proofs.DepthOfText.{depth_of_text, count_of_text}
 

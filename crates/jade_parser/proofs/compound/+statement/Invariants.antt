@@ -28,7 +28,8 @@ abbrev pub decreases-parse_with : goal.decreases-parse_with
 decreases-parse_with l = 10 * (length l.tokens.now - l.start) + 1
 
 abbrev pub invariant-parse_block-statements : goal.invariant-parse_block-statements
-invariant-parse_block-statements l = Came l.tokens l.fn.start (block_in l.place) l.at (Body l.place ∷ []) (fixed LeftBrace ∷ [] ++ flat_map statement_parts l.all) × FitsAll l.place l.all
+invariant-parse_block-statements l =
+    Came l.tokens l.fn.start (block_in l.place) l.at (Body l.place ∷ []) (fixed LeftBrace ∷ [] ++ flat_map statement_parts l.all) × FitsAll l.place l.all
 
 abbrev pub decreases-parse_block-statements : goal.decreases-parse_block-statements
 decreases-parse_block-statements l = length l.tokens - l.at

@@ -16,4 +16,6 @@ pub returns-in-Odd : goal.returns-in-Odd
 returns-in-Odd c = stops_kind _ _ _ _ _ c.if-at-tokens.false c.in-Odd.is (λ rest st. refl)
 
 pub unreachable-requires : goal.unreachable-requires
-unreachable-requires c = never_shape c.in-Called.text.now _ (called_known (called_taken _ _ _ _ (NameIs ∷ []) [] c.if-at-tokens.false c.in-Called.is (λ rest st. refl)) c.requires) c.in-Err-Shape.ensures.refused c.in-Err-Shape.field-0-is
+unreachable-requires c = never_shape c.in-Called.text.now _
+    (called_known (called_taken _ _ _ _ (NameIs ∷ []) [] c.if-at-tokens.false c.in-Called.is (λ rest st. refl)) c.requires) c.in-Err-Shape.ensures.refused
+    c.in-Err-Shape.field-0-is

@@ -29,7 +29,7 @@ use Rattle.jade_parser.specs.Grammar.{bytes_of}
 use Rattle.jade_parser.specs.Statements.{kind_word, declare_word, outer_index, object_parts, target_parts, braced, more_names, name_parts, else_parts, at_statement, statement_parts, block_parts}
 use Rattle.jade_parser.specs.Programs.{item_parts, program_parts}
 use Rattle.jade_parser.proofs.Cutting.{numbered_tokens}
-use Rattle.jade_parser.proofs.Alike.{Alike, none, one, joined, flat, index_alike, expr_alike}
+use Rattle.jade_reading.proofs.Alike.{Alike, none, one, joined, flat, index_alike, expr_alike}
 use Rattle.jade_layout.specs.Spelling as layout
 
 abbrev Texts : Type 0
