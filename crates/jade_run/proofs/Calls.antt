@@ -19,7 +19,9 @@ use denote.Bor.{Bor}
 use Rattle.jade_run.specs.declared.answer.Answer.{Answer as AnswerOf}
 use Rattle.jade_run.specs.declared.answer.ReadError.{ReadError}
 use Rattle.jade_run.specs.declared.answer.ReadError.TheVariants.{Refused as NotRead, Memory as Unread}
-use Rattle.jade_run.specs.Outcome.{IsOutcome, IsAnswered, IsGood, Shows, IsShown, IsTested, IsCommanded, IsNotRead, OnRefused, RefusedAs, RefusedFor, IsAllowed, IsLimited, usage, too_long, run, serial, check, show, refused, answered, miscounted, good, not_good, shown, not_shown, unread, first_place, answer_status, input_count}
+use Rattle.jade_run.specs.Outcome.{IsOutcome, IsAnswered, IsGood, Shows, IsShown, IsTested, IsCommanded, IsNotRead, OnRefused, RefusedAs, RefusedFor,
+    IsAllowed, IsLimited, usage, too_long, run, serial, check, show, refused, answered, miscounted, good, not_good, shown, not_shown, unread, first_place,
+    answer_status, input_count}
 use Rattle.jade_run.specs.Texts.{usage_text, refused_text, numbers_text, ok_text}
 use Rattle.jade_run.specs.Words.{SpellsExecution, AcceptsWords, RefusesWords, Asks, IsUsage, to_run, to_serial, to_check, to_show}
 use Rattle.jade_meaning.specs.Answer.{Answer, Faulted, Cells, answer}
@@ -34,7 +36,8 @@ told_bytes : (left : Option (List ℕ)) (b : List ℕ) → left ≡ Some b → b
 unfolding bytes_of
 told_bytes left b e = ap bytes_of e
 
-pub usage_answers : (words : List (List ℕ)) (left : Option (List ℕ)) (text : List ℕ) (status : Status) → RefusesWords words → text ≡ usage_text → status ≡ Words → Answers words left left text status
+pub usage_answers : (words : List (List ℕ)) (left : Option (List ℕ)) (text : List ℕ) (status : Status) → RefusesWords words → text ≡ usage_text →
+    status ≡ Words → Answers words left left text status
 usage_answers words left text status never t s = record {
   comes = record { bytes = bytes_of left; told = told_bytes left; outcome = usage never t s };
   read = λ b e. e ∙ ap (λ z. Some (drop (most_read z) b)) (sym s);
@@ -55,7 +58,8 @@ many : (left : Option (List ℕ)) → ((b : List ℕ) → left ≡ Some b → 10
 many None h = let some = long 1048577 in record { bytes = some.0; told = λ b e. absurd (cc); more = omega (arith, some.1) }
 many (Some b) h = record { bytes = b; told = λ x e. cc; more = omega (arith, h b refl) }
 
-pub too_long_answers : (words : List (List ℕ)) (before after : Option (List ℕ)) (text : List ℕ) (status : Status) → AcceptsWords words → CutText before after → text ≡ refused_text first_place (codes "text") → status ≡ Refused → Answers words before after text status
+pub too_long_answers : (words : List (List ℕ)) (before after : Option (List ℕ)) (text : List ℕ) (status : Status) → AcceptsWords words →
+    CutText before after → text ≡ refused_text first_place (codes "text") → status ≡ Refused → Answers words before after text status
 too_long_answers words before after text status named cut t s =
     let m = many before cut.too_long in
     record {
@@ -67,7 +71,8 @@ read_most : (a : Answer) → most_read (answer_status a) ≡ 1048577
 read_most (Faulted p b) = refl
 read_most (Cells store) = refl
 
-answered_read : {bytes : List ℕ} {numbers : List ℤ} {limit : ℕ} {text : List ℕ} {status : Status} → IsAnswered bytes numbers limit text status → most_read status ≡ 1048577
+answered_read : {bytes : List ℕ} {numbers : List ℤ} {limit : ℕ} {text : List ℕ} {status : Status} → IsAnswered bytes numbers limit text status →
+    most_read status ≡ 1048577
 answered_read (answered tree is_good n shows) = ap most_read shows.ended ∙ read_most _
 answered_read (miscounted tree is_good n t s) = ap most_read s
 answered_read (refused place why for t s) = ap most_read s
@@ -101,15 +106,18 @@ commanded_read (Serial e) bytes text status h = answered_read h
 commanded_read Check bytes text status h = tested_read h
 commanded_read Show bytes text status h = shown_read h
 
-commanded : (words : List (List ℕ)) (c : Command) (bytes text : List ℕ) (status : Status) → Asks words c → length bytes ≤ 1048576 → IsCommanded c bytes text status → IsOutcome words bytes text status
+commanded : (words : List (List ℕ)) (c : Command) (bytes text : List ℕ) (status : Status) → Asks words c → length bytes ≤ 1048576 →
+    IsCommanded c bytes text status → IsOutcome words bytes text status
 commanded words (Run w e) bytes text status asked within h = run w e.limit e.numbers asked within h
 commanded words (Serial e) bytes text status asked within h = serial e.limit e.numbers asked within h
 commanded words Check bytes text status asked within h = check asked within h
 commanded words Show bytes text status asked within h = show asked within h
 
-pub command_answers : (words : List (List ℕ)) (before after : Option (List ℕ)) (c : Command) (bytes read text : List ℕ) (status : Status) → Asks words c → WholeText before after bytes → read ≡ bytes → IsCommanded c read text status → Answers words before after text status
+pub command_answers : (words : List (List ℕ)) (before after : Option (List ℕ)) (c : Command) (bytes read text : List ℕ) (status : Status) → Asks words c →
+    WholeText before after bytes → read ≡ bytes → IsCommanded c read text status → Answers words before after text status
 command_answers words before after c bytes read text status asked whole all h = record {
-  comes = record { bytes = bytes; told = whole.whole; outcome = commanded words c bytes text status asked whole.within (let P : List ℕ → Type 0 = λ z. IsCommanded c z text status in subst P all h) };
+  comes = record { bytes = bytes; told = whole.whole; outcome =
+      commanded words c bytes text status asked whole.within (let P : List ℕ → Type 0 = λ z. IsCommanded c z text status in subst P all h) };
   read = λ b e.
       let same : bytes ≡ b = whole.whole b e in
       let within : length b ≤ 1048577 = subst (λ z. length z ≤ 1048577) same (omega (arith, whole.within)) in
@@ -132,7 +140,8 @@ unfolding Written
 answer_written (Faulted p b) = tt
 answer_written (Cells store) = tt
 
-answered_written : (bytes : List ℕ) (numbers : List ℤ) (limit : ℕ) (text : List ℕ) (status : Status) → IsAnswered bytes numbers limit text status → Written status
+answered_written : (bytes : List ℕ) (numbers : List ℤ) (limit : ℕ) (text : List ℕ) (status : Status) → IsAnswered bytes numbers limit text status →
+    Written status
 unfolding Written
 answered_written bytes numbers limit text status (answered tree is_good n shows) = subst Written (sym shows.ended) (answer_written _)
 answered_written bytes numbers limit text status (miscounted tree is_good n t s) = subst Written (sym s) tt
@@ -157,7 +166,8 @@ outcome_written words bytes text status (serial l ns named within h) = answered_
 outcome_written words bytes text status (check named within h) = tested_written _ _ _ h
 outcome_written words bytes text status (show named within h) = shown_written _ _ _ h
 
-written_headline : (words : List (List ℕ)) (status : Status) (before after : Moment) (text : List ℕ) → Written status → Answers words before.left after.left text status → after.taken ≡ taken_with before.taken text → Headline words status before after
+written_headline : (words : List (List ℕ)) (status : Status) (before after : Moment) (text : List ℕ) → Written status →
+    Answers words before.left after.left text status → after.taken ≡ taken_with before.taken text → Headline words status before after
 unfolding Written
 written_headline words Good before after text h a w = record { text = text; answers = a; written = w }
 written_headline words Fault before after text h a w = record { text = text; answers = a; written = w }
@@ -169,7 +179,8 @@ written_headline words Writing before after text h a w = absurd h
 written_headline words Memory before after text h a w = absurd h
 
 -- an outcome that was written whole
-pub wrote_headline : (words : List (List ℕ)) (status : Status) (before after : Moment) (text : List ℕ) → Answers words before.left after.left text status → after.taken ≡ taken_with before.taken text → Headline words status before after
+pub wrote_headline : (words : List (List ℕ)) (status : Status) (before after : Moment) (text : List ℕ) → Answers words before.left after.left text status →
+    after.taken ≡ taken_with before.taken text → Headline words status before after
 wrote_headline words status before after text a w =
     written_headline words status before after text (outcome_written _ _ _ _ a.comes.outcome) a w
 
@@ -178,26 +189,32 @@ unfolding Written
 no_reading status w e = subst Written e w
 
 -- an answer never says that the source failed
-pub not_reading : (words : List (List ℕ)) (before after : Option (List ℕ)) (text : List ℕ) (status : Status) → Answers words before after text status → status ≡ Reading → ⊥
+pub not_reading : (words : List (List ℕ)) (before after : Option (List ℕ)) (text : List ℕ) (status : Status) → Answers words before after text status →
+    status ≡ Reading → ⊥
 not_reading words before after text status a e = no_reading status (outcome_written _ _ _ _ a.comes.outcome) e
 
 -- what a text that was not read comes to
-pub refused_shown : (bytes : List ℕ) (e : ReadError) (r : Result AnswerOf NoMemory) → IfOk r (λ a. IsNotRead e a.text.items a.status) → OnRefused e (RefusedAs bytes) → IfOk r (λ a. IsShown bytes a.text.items a.status)
+pub refused_shown : (bytes : List ℕ) (e : ReadError) (r : Result AnswerOf NoMemory) → IfOk r (λ a. IsNotRead e a.text.items a.status) →
+    OnRefused e (RefusedAs bytes) → IfOk r (λ a. IsShown bytes a.text.items a.status)
 refused_shown bytes (NotRead place why) (Ok a) n h = not_shown place why.now h n.0 n.1
 refused_shown bytes Unread (Ok a) n h = absurd n
 refused_shown bytes e (Err m) n h = tt
 
-pub refused_answered : (bytes : List ℕ) (numbers : List ℤ) (limit : ℕ) (e : ReadError) (r : Result AnswerOf NoMemory) → IfOk r (λ a. IsNotRead e a.text.items a.status) → OnRefused e (RefusedFor bytes) → IfOk r (λ a. IsAnswered bytes numbers limit a.text.items a.status)
+pub refused_answered : (bytes : List ℕ) (numbers : List ℤ) (limit : ℕ) (e : ReadError) (r : Result AnswerOf NoMemory) →
+    IfOk r (λ a. IsNotRead e a.text.items a.status) → OnRefused e (RefusedFor bytes) → IfOk r (λ a. IsAnswered bytes numbers limit a.text.items a.status)
 refused_answered bytes numbers limit (NotRead place why) (Ok a) n h = refused place why.now h n.0 n.1
 refused_answered bytes numbers limit Unread (Ok a) n h = absurd n
 refused_answered bytes numbers limit e (Err m) n h = tt
 
-pub refused_tested : (bytes : List ℕ) (e : ReadError) (r : Result AnswerOf NoMemory) → IfOk r (λ a. IsNotRead e a.text.items a.status) → OnRefused e (RefusedFor bytes) → IfOk r (λ a. IsTested bytes a.text.items a.status)
+pub refused_tested : (bytes : List ℕ) (e : ReadError) (r : Result AnswerOf NoMemory) → IfOk r (λ a. IsNotRead e a.text.items a.status) →
+    OnRefused e (RefusedFor bytes) → IfOk r (λ a. IsTested bytes a.text.items a.status)
 refused_tested bytes (NotRead place why) (Ok a) n h = not_good place why.now h n.0 n.1
 refused_tested bytes Unread (Ok a) n h = absurd n
 refused_tested bytes e (Err m) n h = tt
 
-pub miscounted_answered : (bytes : List ℕ) (numbers : List ℤ) (limit wanted got : ℕ) (tree : Program) (r : Result AnswerOf NoMemory) → IfOk r (λ a. a.text.items ≡ numbers_text wanted got) → IfOk r (λ a. a.status ≡ Numbers) → IsGood bytes tree → wanted ≡ input_count tree → got ≡ length numbers → (got ≡ wanted → ⊥) → IfOk r (λ a. IsAnswered bytes numbers limit a.text.items a.status)
+pub miscounted_answered : (bytes : List ℕ) (numbers : List ℤ) (limit wanted got : ℕ) (tree : Program) (r : Result AnswerOf NoMemory) →
+    IfOk r (λ a. a.text.items ≡ numbers_text wanted got) → IfOk r (λ a. a.status ≡ Numbers) → IsGood bytes tree → wanted ≡ input_count tree →
+    got ≡ length numbers → (got ≡ wanted → ⊥) → IfOk r (λ a. IsAnswered bytes numbers limit a.text.items a.status)
 miscounted_answered bytes numbers limit wanted got tree (Ok a) t s g w n differ =
     miscounted tree g (λ e. differ (n ∙ e ∙ sym w)) (t ∙ ap (λ k. numbers_text k got) w ∙ ap (numbers_text (input_count tree)) n) s
 miscounted_answered bytes numbers limit wanted got tree (Err m) t s g w n differ = tt
@@ -209,16 +226,21 @@ unread_for bytes Unread h = tt
 pub good_tested : (bytes : List ℕ) (tree : Program) (text : List ℕ) → IsGood bytes tree → text ≡ ok_text → IsTested bytes text Good
 good_tested bytes tree text g t = good tree g t refl
 
-pub answered_in : (bytes : List ℕ) (numbers : List ℤ) (limit : ℕ) (tree : Program) (r : Result AnswerOf NoMemory) → IsGood bytes tree → length numbers ≡ input_count tree → IfOk r (λ a. Shows (program tree) (answer (program tree) numbers limit) a.text.items a.status) → IfOk r (λ a. IsAnswered bytes numbers limit a.text.items a.status)
+pub answered_in : (bytes : List ℕ) (numbers : List ℤ) (limit : ℕ) (tree : Program) (r : Result AnswerOf NoMemory) → IsGood bytes tree →
+    length numbers ≡ input_count tree → IfOk r (λ a. Shows (program tree) (answer (program tree) numbers limit) a.text.items a.status) →
+    IfOk r (λ a. IsAnswered bytes numbers limit a.text.items a.status)
 answered_in bytes numbers limit tree (Ok a) g n h = answered tree g n h
 answered_in bytes numbers limit tree (Err m) g n h = tt
 
 -- what words are answered with that are no command's, and what stops the call where there is no memory
-pub no_command : (words : List (List ℕ)) (left : Option (List ℕ)) (before after : ℕ) (e : WordsError) (r : Result AnswerOf Status) → IsUsage words e → IfOk r (λ a. (e ≡ Usage) × (a.text.items ≡ usage_text) × (a.status ≡ Words)) → IfErr r (λ s. s ≡ Memory) → MatchResult r (λ a. Answers words left left a.text.items a.status) (λ s. Stops s before after)
+pub no_command : (words : List (List ℕ)) (left : Option (List ℕ)) (before after : ℕ) (e : WordsError) (r : Result AnswerOf Status) → IsUsage words e →
+    IfOk r (λ a. (e ≡ Usage) × (a.text.items ≡ usage_text) × (a.status ≡ Words)) → IfErr r (λ s. s ≡ Memory) →
+    MatchResult r (λ a. Answers words left left a.text.items a.status) (λ s. Stops s before after)
 no_command words left before after e (Ok a) h k m = usage_answers words left a.text.items a.status (subst (IsUsage words) k.0 h) k.1 k.2
 no_command words left before after e (Err s) h k m = subst (λ z. Stops z before after) (sym m) tt
 
 -- the answer of a refusal
-pub not_read_is : (place : Pos) (why : Bor (List ℕ)) (r : Result AnswerOf NoMemory) → IfOk r (λ a. a.text.items ≡ refused_text place why.now) → IfOk r (λ a. a.status ≡ Refused) → IfOk r (λ a. IsNotRead (NotRead place why) a.text.items a.status)
+pub not_read_is : (place : Pos) (why : Bor (List ℕ)) (r : Result AnswerOf NoMemory) → IfOk r (λ a. a.text.items ≡ refused_text place why.now) →
+    IfOk r (λ a. a.status ≡ Refused) → IfOk r (λ a. IsNotRead (NotRead place why) a.text.items a.status)
 not_read_is place why (Ok a) t s = (t, s)
 not_read_is place why (Err m) t s = tt

@@ -30,11 +30,14 @@ use Rattle.jade_parser.specs.Grammar.{IsReading, IsRefusal, bytes_of}
 use Rattle.jade_parser.specs.Programs.{program_parts}
 use Rattle.jade_parser.specs.OneReading.{SameRefusal, IsMemory}
 use Rattle.jade_reading.specs.Reading.{ReadsAs}
-use Rattle.jade_run.specs.Outcome.{IsOutcome, IsAnswered, IsGood, IsShown, IsTested, RefusedAs, RefusedFor, SameOutcome, usage, too_long, run, serial, check, show, refused, answered, miscounted, good, not_good, shown, not_shown, unread, wrong, byte, number, deep, token, long, first_place, answer_text, answer_status, input_count}
+use Rattle.jade_run.specs.Outcome.{IsOutcome, IsAnswered, IsGood, IsShown, IsTested, RefusedAs, RefusedFor, SameOutcome, usage, too_long, run, serial, check,
+    show, refused, answered, miscounted, good, not_good, shown, not_shown, unread, wrong, byte, number, deep, token, long, first_place, answer_text,
+    answer_status, input_count}
 use Rattle.jade_run.specs.Texts.{refused_text, usage_text, numbers_text, static_word}
 use Rattle.jade_run.proofs.Naming.{firsts, rests, two_names, run_serial, run_check, run_show, serial_check, serial_show, check_show, swapped}
 use Rattle.jade_run.proofs.Signed.{small, and_first, and_second}
-use Rattle.jade_run.specs.Words.{is_number, SpellsExecution, RunWords, SerialWords, CheckWords, ShowWords, AcceptsWords, RefusesWords, to_run, to_serial, to_check, to_show}
+use Rattle.jade_run.specs.Words.{is_number, SpellsExecution, RunWords, SerialWords, CheckWords, ShowWords, AcceptsWords, RefusesWords, to_run, to_serial,
+    to_check, to_show}
 
 -- ---- words ask for one thing
 
@@ -56,7 +59,8 @@ data Order : Type 0 where
 one_execution : (words : List (List ℕ)) (l m : ℕ) (xs ys : List ℤ) → SpellsExecution words l xs → SpellsExecution words m ys → Executes l xs ≡ Executes m ys
 one_execution words l m xs ys h k =
     let two : h.first ∷ h.more ≡ k.first ∷ k.more = sym h.two ∙ k.two in
-    let limit : l ≡ m = decimal_injective l m (omega (arith, h.steps.within)) (omega (arith, k.steps.within)) (sym h.steps.spelled ∙ firsts _ _ _ _ two ∙ k.steps.spelled) in
+    let limit : l ≡ m = decimal_injective l m (omega (arith, h.steps.within)) (omega (arith, k.steps.within))
+        (sym h.steps.spelled ∙ firsts _ _ _ _ two ∙ k.steps.spelled) in
     let numbers : xs ≡ ys = numbers_are xs ys h.given.fit k.given.fit (sym h.given.spelled ∙ rests _ _ _ _ two ∙ k.given.spelled) in
     ap (λ n. Executes n xs) limit ∙ ap (Executes m) numbers
 
@@ -132,7 +136,8 @@ pub record Parses : Type 0 where
 -- a refusal, by the lexer or by the parser
 data Refuses (bytes : List ℕ) (place : Pos) (why : List ℕ) : Type 0 where
   lexical : (e : LexError) → reading bytes ≡ Unlexed e → place ≡ lexical_place e → why ≡ lexical_word e → Refuses bytes place why
-  grammatical : (ts : TokenList) (e : ParseError) → reading bytes ≡ Whole ts → IsRefusal ts e → (IsMemory e → ⊥) → place ≡ error_place e → why ≡ error_word e → Refuses bytes place why
+  grammatical : (ts : TokenList) (e : ParseError) → reading bytes ≡ Whole ts → IsRefusal ts e → (IsMemory e → ⊥) → place ≡ error_place e →
+      why ≡ error_word e → Refuses bytes place why
 
 refuses : (bytes : List ℕ) (place : Pos) (why : List ℕ) → RefusedAs bytes place why → Refuses bytes place why
 refuses bytes place why (byte r w) = lexical (Byte place) r refl w
@@ -208,7 +213,8 @@ none_or_some f o e g = absurd (cc)
 good_or_refused : Parses → (bytes : List ℕ) (x : Program) (p : Pos) (v : List ℕ) → IsGood bytes x → RefusedFor bytes p v → ⊥
 good_or_refused law bytes x p v g (unread h) = read_and_refused law bytes x p v g.reads h
 good_or_refused law bytes x p v g (wrong h) =
-    none_or_some _ (first_fault (static_faults (placed_program h.tree))) (ap (λ q. first_fault (static_faults q)) (sym (same_placed law bytes x h.tree g.reads h.reads)) ∙ ap first_fault g.faultless) h.first
+    none_or_some _ (first_fault (static_faults (placed_program h.tree)))
+        (ap (λ q. first_fault (static_faults q)) (sym (same_placed law bytes x h.tree g.reads h.reads)) ∙ ap first_fault g.faultless) h.first
 
 some_is : (f g : StaticFault) → Some f ≡ Some g → f ≡ g
 some_is f g e = cc
@@ -221,7 +227,8 @@ same_refusal law bytes p q v w (wrong h) (wrong k) =
     let same = some_is _ _ (sym h.first ∙ ap (λ x. first_fault (static_faults x)) (same_placed law bytes h.tree k.tree h.reads k.reads) ∙ k.first) in
     ap (refused_text p) h.named ∙ ap (λ (f : StaticFault). refused_text f.pos (static_word f.kind)) same ∙ ap (refused_text q) (sym k.named)
 
-same_answers : Parses → (bytes : List ℕ) (numbers : List ℤ) (limit : ℕ) (t u : List ℕ) (s r : Status) → IsAnswered bytes numbers limit t s → IsAnswered bytes numbers limit u r → SameOutcome t s u r
+same_answers : Parses → (bytes : List ℕ) (numbers : List ℤ) (limit : ℕ) (t u : List ℕ) (s r : Status) → IsAnswered bytes numbers limit t s →
+    IsAnswered bytes numbers limit u r → SameOutcome t s u r
 same_answers law bytes numbers limit t u s r (answered x g n a) (answered y h m b) =
     let same = same_program law bytes x y g.reads h.reads in
     record {
@@ -236,7 +243,8 @@ same_answers law bytes numbers limit t u s r (miscounted x g n a b) (miscounted 
 same_answers law bytes numbers limit t u s r (miscounted x g n a b) (refused q w k c d) = absurd (good_or_refused law bytes x q w g k)
 same_answers law bytes numbers limit t u s r (refused p v h a b) (answered y k m c) = absurd (good_or_refused law bytes y p v k h)
 same_answers law bytes numbers limit t u s r (refused p v h a b) (miscounted y k m c d) = absurd (good_or_refused law bytes y p v k h)
-same_answers law bytes numbers limit t u s r (refused p v h a b) (refused q w k c d) = record { text = a ∙ same_refusal law bytes p q v w h k ∙ sym c; status = b ∙ sym d }
+same_answers law bytes numbers limit t u s r (refused p v h a b) (refused q w k c d) =
+    record { text = a ∙ same_refusal law bytes p q v w h k ∙ sym c; status = b ∙ sym d }
 
 same_tested : Parses → (bytes t u : List ℕ) (s r : Status) → IsTested bytes t s → IsTested bytes u r → SameOutcome t s u r
 same_tested law bytes t u s r (good x g a b) (good y h c d) = record { text = a ∙ sym c; status = b ∙ sym d }
@@ -290,21 +298,28 @@ same_found law words bytes t u s r (done o h within k) (done o' h' within' k') =
     let P : Order → Type 0 = λ x. Fulfils x bytes t s in
     same_fulfilled law o' bytes t u s r (subst P (one_order words o o' h h') k) k'
 
-pub same_outcomes : Parses → (words : List (List ℕ)) (bytes : List ℕ) (t u : List ℕ) (s r : Status) → IsOutcome words bytes t s → IsOutcome words bytes u r → SameOutcome t s u r
+pub same_outcomes : Parses → (words : List (List ℕ)) (bytes : List ℕ) (t u : List ℕ) (s r : Status) → IsOutcome words bytes t s → IsOutcome words bytes u r →
+    SameOutcome t s u r
 same_outcomes law words bytes t u s r h k = same_found law words bytes t u s r (found words bytes t s h) (found words bytes u r k)
 
 -- a call that ended with an outcome, over a source that told its bytes, ended with the one outcome
-wrote_all : (words : List (List ℕ)) (bytes : List ℕ) (status : Status) (before after : Moment) → before.left ≡ Some bytes → WroteAll words status before after → (text : List ℕ) × IsOutcome words bytes text status
+wrote_all : (words : List (List ℕ)) (bytes : List ℕ) (status : Status) (before after : Moment) → before.left ≡ Some bytes →
+    WroteAll words status before after → (text : List ℕ) × IsOutcome words bytes text status
 wrote_all words bytes status before after told h =
     let P : List ℕ → Type 0 = λ b. IsOutcome words b h.text status in
     (h.text, subst P (h.answers.comes.told bytes told) h.answers.comes.outcome)
 
-ended : (one : (bytes : List ℕ) (words : List (List ℕ)) (t u : List ℕ) (s r : Status) → IsOutcome words bytes t s → IsOutcome words bytes u r → SameOutcome t s u r) (words : List (List ℕ)) (bytes : List ℕ) (room : ℕ) (status : Status) (before after : Moment) → before.left ≡ Some bytes → WroteAll words status before after → (text : List ℕ) (wanted : Status) → IsOutcome words bytes text wanted → length text ≤ room → (status ≡ wanted) ⊎ (status ≡ Memory)
+ended : (one : (bytes : List ℕ) (words : List (List ℕ)) (t u : List ℕ) (s r : Status) → IsOutcome words bytes t s → IsOutcome words bytes u r →
+    SameOutcome t s u r) (words : List (List ℕ)) (bytes : List ℕ) (room : ℕ) (status : Status) (before after : Moment) → before.left ≡ Some bytes →
+    WroteAll words status before after → (text : List ℕ) (wanted : Status) → IsOutcome words bytes text wanted → length text ≤ room →
+    (status ≡ wanted) ⊎ (status ≡ Memory)
 ended one words bytes room status before after told h text wanted outcome fits =
     let here = wrote_all words bytes status before after told h in
     inl (one bytes words here.0 text status wanted here.1 outcome).status
 
-part : (one : (bytes : List ℕ) (words : List (List ℕ)) (t u : List ℕ) (s r : Status) → IsOutcome words bytes t s → IsOutcome words bytes u r → SameOutcome t s u r) (words : List (List ℕ)) (bytes : List ℕ) (room : ℕ) (before after : Moment) → before.left ≡ Some bytes → before.room ≡ Some room → WrotePart words before after → (text : List ℕ) (wanted : Status) → IsOutcome words bytes text wanted → length text ≤ room → ⊥
+part : (one : (bytes : List ℕ) (words : List (List ℕ)) (t u : List ℕ) (s r : Status) → IsOutcome words bytes t s → IsOutcome words bytes u r →
+    SameOutcome t s u r) (words : List (List ℕ)) (bytes : List ℕ) (room : ℕ) (before after : Moment) → before.left ≡ Some bytes → before.room ≡ Some room →
+    WrotePart words before after → (text : List ℕ) (wanted : Status) → IsOutcome words bytes text wanted → length text ≤ room → ⊥
 part one words bytes room before after told roomy h text wanted outcome fits =
     let P : List ℕ → Type 0 = λ b. IsOutcome words b h.text h.status in
     let here = subst P (h.comes.told bytes told) h.comes.outcome in
@@ -313,14 +328,22 @@ part one words bytes room before after told roomy h text wanted outcome fits =
     let less : room < length text = subst (λ z. room < length z) same short in
     omega arith
 
-pub completes : ((words : List (List ℕ)) (bytes t u : List ℕ) (s r : Status) → IsOutcome words bytes t s → IsOutcome words bytes u r → SameOutcome t s u r) → (words : List (List ℕ)) (bytes : List ℕ) (room : ℕ) (status : Status) (before after : Moment) → before.left ≡ Some bytes → before.room ≡ Some room → before.source_faults ≡ 0 → after.source_faults ≡ 0 → Headline words status before after → Completes words bytes room status
-completes one words bytes room Good before after told roomy f g h = record { reads = λ e. cc; ends = ended (λ b w. one w b) words bytes room Good before after told h }
-completes one words bytes room Fault before after told roomy f g h = record { reads = λ e. cc; ends = ended (λ b w. one w b) words bytes room Fault before after told h }
-completes one words bytes room Refused before after told roomy f g h = record { reads = λ e. cc; ends = ended (λ b w. one w b) words bytes room Refused before after told h }
-completes one words bytes room Words before after told roomy f g h = record { reads = λ e. cc; ends = ended (λ b w. one w b) words bytes room Words before after told h }
-completes one words bytes room Numbers before after told roomy f g h = record { reads = λ e. cc; ends = ended (λ b w. one w b) words bytes room Numbers before after told h }
+pub completes : ((words : List (List ℕ)) (bytes t u : List ℕ) (s r : Status) → IsOutcome words bytes t s → IsOutcome words bytes u r → SameOutcome t s u r) →
+    (words : List (List ℕ)) (bytes : List ℕ) (room : ℕ) (status : Status) (before after : Moment) → before.left ≡ Some bytes → before.room ≡ Some room →
+    before.source_faults ≡ 0 → after.source_faults ≡ 0 → Headline words status before after → Completes words bytes room status
+completes one words bytes room Good before after told roomy f g h =
+    record { reads = λ e. cc; ends = ended (λ b w. one w b) words bytes room Good before after told h }
+completes one words bytes room Fault before after told roomy f g h =
+    record { reads = λ e. cc; ends = ended (λ b w. one w b) words bytes room Fault before after told h }
+completes one words bytes room Refused before after told roomy f g h =
+    record { reads = λ e. cc; ends = ended (λ b w. one w b) words bytes room Refused before after told h }
+completes one words bytes room Words before after told roomy f g h =
+    record { reads = λ e. cc; ends = ended (λ b w. one w b) words bytes room Words before after told h }
+completes one words bytes room Numbers before after told roomy f g h =
+    record { reads = λ e. cc; ends = ended (λ b w. one w b) words bytes room Numbers before after told h }
 completes one words bytes room Memory before after told roomy f g h = record { reads = λ e. cc; ends = λ text wanted outcome fits. inr refl }
 completes one words bytes room Writing before after told roomy f g h =
-    record { reads = λ e. cc; ends = λ text wanted outcome fits. absurd (part (λ b w. one w b) words bytes room before after told roomy h text wanted outcome fits) }
+    record { reads = λ e. cc; ends =
+        λ text wanted outcome fits. absurd (part (λ b w. one w b) words bytes room before after told roomy h text wanted outcome fits) }
 completes one words bytes room Reading before after told roomy f g h =
     absurd (elim h.rose [ inl p ↦ omega arith | inr q ↦ omega arith ])

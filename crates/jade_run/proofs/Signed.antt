@@ -1,5 +1,6 @@
 -- Numbers with their signs.
-use Rattle.std.proofs.Common.{◌≡◌, ℕ, zero, suc, ◌<◌, ◌≤◌, ◌^◌, Bool, true, false, ◌&&◌, ℤ, pos, negsuc, List, [], ◌∷◌, map, Result, Ok, Some, refl, ap, sym, ◌∙◌, arith, w64, FitsSigned, to_z, of_z}
+use Rattle.std.proofs.Common.{◌≡◌, ℕ, zero, suc, ◌<◌, ◌≤◌, ◌^◌, Bool, true, false, ◌&&◌, ℤ, pos, negsuc, List, [], ◌∷◌, map, Result, Ok, Some, refl, ap, sym,
+    ◌∙◌, arith, w64, FitsSigned, to_z, of_z}
 use Rattle.std.proofs.Math.Facts.{to_z-of_z}
 use Rattle.std.specs.Int.Signed.{mag}
 use borrow.Author.Rules.{sfits_of}
@@ -44,7 +45,8 @@ some_is : (v w : List ℕ) → Some v ≡ Some w → v ≡ w
 some_is v w e = cc
 
 -- a word among those that spell numbers spells one
-pub number_at : (numbers : List ℤ) (words : List (List ℕ)) (i : ℕ) (w : List ℕ) → words ≡ map signed_decimal numbers → list_all is_number numbers ≡ true → slice_get words i ≡ Some w → (z : ℤ) × (is_number z ≡ true) × (w ≡ signed_decimal z)
+pub number_at : (numbers : List ℤ) (words : List (List ℕ)) (i : ℕ) (w : List ℕ) → words ≡ map signed_decimal numbers → list_all is_number numbers ≡ true →
+    slice_get words i ≡ Some w → (z : ℤ) × (is_number z ≡ true) × (w ≡ signed_decimal z)
 number_at [] words i w e f h = let g : slice_get (map signed_decimal []) i ≡ Some w = ap (λ ws. slice_get ws i) (sym e) ∙ h in absurd (cc)
 number_at (z ∷ numbers) words zero w e f h =
     let g : Some (signed_decimal z) ≡ Some w = ap (λ ws. slice_get ws 0) (sym e) ∙ h in

@@ -93,9 +93,12 @@ input_count tree = length (input_names tree.items)
 
 -- what a text of at most 1,048,576 bytes comes to, run with these numbers and a limit: the answer of its program, a word on the count of numbers, or a refusal
 pub data IsAnswered (bytes : List ℕ) (numbers : List ℤ) (limit : ℕ) (text : List ℕ) (status : Status) : Type 0 where
-  answered : (tree : Program) → IsGood bytes tree → length numbers ≡ input_count tree → Shows (program tree) (answer (program tree) numbers limit) text status → IsAnswered bytes numbers limit text status
-  miscounted : (tree : Program) → IsGood bytes tree → (length numbers ≡ input_count tree → ⊥) → text ≡ numbers_text (input_count tree) (length numbers) → status ≡ Numbers → IsAnswered bytes numbers limit text status
-  refused : (place : Pos) (why : List ℕ) → RefusedFor bytes place why → text ≡ refused_text place why → status ≡ Refused → IsAnswered bytes numbers limit text status
+  answered : (tree : Program) → IsGood bytes tree → length numbers ≡ input_count tree →
+      Shows (program tree) (answer (program tree) numbers limit) text status → IsAnswered bytes numbers limit text status
+  miscounted : (tree : Program) → IsGood bytes tree → (length numbers ≡ input_count tree → ⊥) → text ≡ numbers_text (input_count tree) (length numbers) →
+      status ≡ Numbers → IsAnswered bytes numbers limit text status
+  refused : (place : Pos) (why : List ℕ) → RefusedFor bytes place why → text ≡ refused_text place why → status ≡ Refused →
+      IsAnswered bytes numbers limit text status
 
 -- what a text of at most 1,048,576 bytes comes to where it is checked: `ok`, or a refusal
 pub data IsTested (bytes : List ℕ) (text : List ℕ) (status : Status) : Type 0 where
@@ -129,8 +132,10 @@ IsCommanded Show bytes text status = IsShown bytes text status
 pub data IsOutcome (words : List (List ℕ)) (bytes : List ℕ) (text : List ℕ) (status : Status) : Type 0 where
   usage : RefusesWords words → text ≡ usage_text → status ≡ Words → IsOutcome words bytes text status
   too_long : AcceptsWords words → 1048576 < length bytes → text ≡ refused_text first_place (codes "text") → status ≡ Refused → IsOutcome words bytes text status
-  run : (workers limit : ℕ) (numbers : List ℤ) → RunWords words workers limit numbers → length bytes ≤ 1048576 → IsAnswered bytes numbers limit text status → IsOutcome words bytes text status
-  serial : (limit : ℕ) (numbers : List ℤ) → SerialWords words limit numbers → length bytes ≤ 1048576 → IsAnswered bytes numbers limit text status → IsOutcome words bytes text status
+  run : (workers limit : ℕ) (numbers : List ℤ) → RunWords words workers limit numbers → length bytes ≤ 1048576 → IsAnswered bytes numbers limit text status →
+      IsOutcome words bytes text status
+  serial : (limit : ℕ) (numbers : List ℤ) → SerialWords words limit numbers → length bytes ≤ 1048576 → IsAnswered bytes numbers limit text status →
+      IsOutcome words bytes text status
   check : CheckWords words → length bytes ≤ 1048576 → IsTested bytes text status → IsOutcome words bytes text status
   show : ShowWords words → length bytes ≤ 1048576 → IsShown bytes text status → IsOutcome words bytes text status
 

@@ -6,7 +6,7 @@ ghost use Rattle.jade_syntax.specs.Image.{program};
 ghost use Rattle.jade_syntax.specs.Objects.{input_names};
 ghost use Rattle.jade_meaning.specs.Answer.{answer, Faulted, Cells};
 ghost use Rattle.jade_meaning.specs.Report.{report, Ascends};
-ghost use Rattle.jade_meaning.specs.Told.{told_answer, first_note, step_over};
+ghost use Rattle.jade_meaning.specs.ReportAnswer.{report_answer, first_note, step_over};
 ghost use Rattle.jade_run.specs.Outcome.{fault_key};
 ghost use Rattle.jade_lexer.specs.Reading.{reading, Whole};
 ghost use Rattle.jade_reading.specs.Reading.{ReadsAs};
@@ -44,9 +44,9 @@ pub struct Answer {
 
 /// The answer that a report tells: the task that faults first and why, or nothing where the
 /// objects are the answer.
-fn told(report: &Report, limit: u32) -> Option<(&Path, Blame)>
+fn fault_of(report: &Report, limit: u32) -> Option<(&Path, Blame)>
     requires { Ascends (map fault_key report.now.faults) }
-    ensures { MatchOption result (told_answer limit report.now ≡ Cells report.now.objects) (λ f. told_answer limit report.now ≡ Faulted f.0.now f.1) }
+    ensures { MatchOption result (report_answer limit report.now ≡ Cells report.now.objects) (λ f. report_answer limit report.now ≡ Faulted f.0.now f.1) }
 {
     match (
         first_fault(&report.faults),
@@ -88,9 +88,9 @@ fn answer_of(
     limit: u32,
 ) -> Result<Answer, Memory>
     requires { Ascends (map fault_key report.now.faults) }
-    ensures { IfOk result (λ a. Shows (program checked.now.program) (told_answer limit report.now) a.text.items a.status) }
+    ensures { IfOk result (λ a. Shows (program checked.now.program) (report_answer limit report.now) a.text.items a.status) }
 {
-    match told(report, limit) {
+    match fault_of(report, limit) {
         Some((path, blame)) => Ok(Answer {
             text: texts::fault(alloc, path, blame)?,
             status: Status::Fault,

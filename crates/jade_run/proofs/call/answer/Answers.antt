@@ -2,7 +2,8 @@ use Rattle.jade_run.proofs.Calls.{too_long_answers, command_answers, asks_accept
 use Rattle.jade_run.proofs.call.answer.Goals as goal
 
 pub returns-in-Err-clause-answer : goal.returns-in-Err-clause-answer
-returns-in-Err-clause-answer g c = no_command _ _ _ _ c.in-Err.error c.not_a_command.result c.in-Err.ensures c.not_a_command.ensures.usage c.not_a_command.ensures.memory
+returns-in-Err-clause-answer g c =
+    no_command _ _ _ _ c.in-Err.error c.not_a_command.result c.in-Err.ensures c.not_a_command.ensures.usage c.not_a_command.ensures.memory
 
 pub of_text-requires-clause-allowed : goal.of_text-requires-clause-allowed
 of_text-requires-clause-allowed g c = asks_allowed _ c.in-Ok.command c.in-Ok.ensures
@@ -13,7 +14,8 @@ returns-in-Ok-of_text-clause-answer g c =
 
 pub returns-in-Ok-too_long-clause-answer : goal.returns-in-Ok-too_long-clause-answer
 returns-in-Ok-too_long-clause-answer g c =
-    too_long_answers _ _ _ _ _ (asks_accepted _ c.in-Ok.command c.in-Ok.ensures) (rw c.in-Err-TooLong.field-0-is at c.in-Err-TooLong.ensures.too_long) c.in-Ok-too_long.ensures.text c.in-Ok-too_long.ensures.status
+    too_long_answers _ _ _ _ _ (asks_accepted _ c.in-Ok.command c.in-Ok.ensures) (rw c.in-Err-TooLong.field-0-is at c.in-Err-TooLong.ensures.too_long)
+        c.in-Ok-too_long.ensures.text c.in-Ok-too_long.ensures.status
 
 pub returns-in-Ok-of_text-clause-unread : goal.returns-in-Ok-of_text-clause-unread
 returns-in-Ok-of_text-clause-unread g c h = absurd (h (asks_accepted _ c.in-Ok.command c.in-Ok.ensures))

@@ -6,4 +6,5 @@ pub returns-in-Err : goal.returns-in-Err
 returns-in-Err c = not_run c.args.name.now c.args.rest.now c.in-Err.error (c.if-is_text.ensures.0 refl) c.in-Err.ensures
 
 pub returns-in-Err-execution_of : goal.returns-in-Err-execution_of
-returns-in-Err-execution_of c = not_serial c.args.name.now c.args.rest.now c.in-Err-execution_of.error (c.if-is_text-2.ensures.0 refl) c.in-Err-execution_of.ensures
+returns-in-Err-execution_of c =
+    not_serial c.args.name.now c.args.rest.now c.in-Err-execution_of.error (c.if-is_text-2.ensures.0 refl) c.in-Err-execution_of.ensures
