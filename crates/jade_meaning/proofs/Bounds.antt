@@ -1,6 +1,30 @@
 -- Each task keeps to its specification: one induction over the statements.
-use Rattle.std.proofs.Common.{◌≡◌, ◌≢◌, ℕ, zero, suc, ◌<◌, Bool, true, false, List, [], ◌∷◌, refl, sym, ap, ◌∙◌, subst, Option, Some, None, arith, length,
-    get_or-set_same, get_or-set_other}
+use Rattle.std.proofs.Common.{
+  ◌≡◌,
+  ◌≢◌,
+  ℕ,
+  zero,
+  suc,
+  ◌<◌,
+  Bool,
+  true,
+  false,
+  List,
+  [],
+  ◌∷◌,
+  refl,
+  sym,
+  ap,
+  ◌∙◌,
+  subst,
+  Option,
+  Some,
+  None,
+  arith,
+  length,
+  get_or-set_same,
+  get_or-set_other,
+}
 use Rattle.std.proofs.Common.{◌⊎◌, inl, inr, ◌≤◌}
 use Rattle.std.proofs.lemmas.Bool.{ltb-true, ltb-false}
 use Rattle.std.proofs.lemmas.Bool.Decides.{eqb_tells}
@@ -14,8 +38,37 @@ use Rattle.jade_base.specs.Rights.{no_rights, both_rights, is_immediate, is_ther
 use Rattle.jade_syntax.specs.declared.tree.DeclareWord.{DeclareWord}
 use Rattle.jade_syntax.specs.declared.tree.DeclareWord.TheVariants.{Rd, Wr, RdWr, DfRd, DfWr, DfRdWr, NoRd, NoWr, NoRdWr}
 use Rattle.jade_syntax.specs.Objects.{sizes}
-use Rattle.jade_syntax.specs.Abstract.{Name, Expression, Whole, Truth, Variable, Group, Signed, Chain, Cell, Links, Last, Link, Place, Alone, Member, Action,
-    Local, Assign, Store, If, IfElse, For, Withonly, With, Declare, Actions, Done, Then, AbstractProgram}
+use Rattle.jade_syntax.specs.Abstract.{
+  Name,
+  Expression,
+  Whole,
+  Truth,
+  Variable,
+  Group,
+  Signed,
+  Chain,
+  Cell,
+  Links,
+  Last,
+  Link,
+  Place,
+  Alone,
+  Member,
+  Action,
+  Local,
+  Assign,
+  Store,
+  If,
+  IfElse,
+  For,
+  Withonly,
+  With,
+  Declare,
+  Actions,
+  Done,
+  Then,
+  AbstractProgram,
+}
 use Rattle.jade_meaning.specs.declared.values.Value.{Value}
 use Rattle.jade_meaning.specs.declared.values.Value.TheVariants.{IntOf}
 use Rattle.jade_meaning.specs.declared.resolve.Range.{Range}
@@ -23,9 +76,46 @@ use Rattle.jade_meaning.specs.declared.resolve.ResolvedObject.{ResolvedObject}
 use Rattle.jade_meaning.specs.Values.{Given, Gives, Fails, operated, decides, signed, whole, holds, is_index, magnitude, turn_count}
 use Rattle.jade_meaning.specs.Specification.{Specification, rights_on, covers, fitted}
 use Rattle.jade_meaning.specs.Changes.{amended, declared}
-use Rattle.jade_meaning.specs.Course.{Course, root_spec, root_course, Mine, On, Draft, NoDraft, Building, Amending, drafted, Setting, finish, choose, step,
-    given, place_of, member, reach, read_cell, write_cell, bind, leave, scoped, turns, amend, declare, create, working, change, child_start, eval, eval_links,
-    find, run, run_all, range_from, assigned, inputs}
+use Rattle.jade_meaning.specs.Course.{
+  Course,
+  root_spec,
+  root_course,
+  Mine,
+  On,
+  Draft,
+  NoDraft,
+  Building,
+  Amending,
+  drafted,
+  Setting,
+  finish,
+  choose,
+  step,
+  given,
+  place_of,
+  member,
+  reach,
+  read_cell,
+  write_cell,
+  bind,
+  leave,
+  scoped,
+  turns,
+  amend,
+  declare,
+  create,
+  working,
+  change,
+  child_start,
+  eval,
+  eval_links,
+  find,
+  run,
+  run_all,
+  range_from,
+  assigned,
+  inputs,
+}
 use Rattle.jade_meaning.specs.Proper.{NoMore, Uncommuting, Proper, proper_read, proper_write, proper_step, proper_create, proper_change, proper_end}
 
 -- one right of some rights
@@ -72,7 +162,7 @@ turns_good limit zero i x body b on h m fit = h m fit
 turns_good limit (suc n) i x body b on h m fit =
     let turn : On → On = λ k a. body k (bind x (IntOf i) a) in
     step_good limit (λ a. scoped turn (turns limit n (i +ℤ pos 1) x body on) a) (λ a f. scoped_good turn (λ k g c d. b k g (bind x (IntOf i) c) d)
-        (turns limit n (i +ℤ pos 1) x body on) a (turns_good limit n (i +ℤ pos 1) x body b on h) f) m fit
+    (turns limit n (i +ℤ pos 1) x body on) a (turns_good limit n (i +ℤ pos 1) x body b on h) f) m fit
 
 no_more_refl : (spec : Specification) → Fewer spec spec
 no_more_refl spec = record { none = λ side o h. h }
@@ -232,7 +322,7 @@ declare_good (Building spec) how o at on m e g fit =
 declare_good (Amending spec) how o at on m e g fit =
     let less : Fewer spec m.spec = subst (λ d. FitsDraft d m.spec) e fit.0 in
     amend_good (amended how (rights_on spec o)) spec o at on m
-        (λ b q. once m.spec spec o b less (λ side w. less.none side o (amended_less how (rights_on spec o) b side q w))) g fit
+    (λ b q. once m.spec spec o b less (λ side w. less.none side o (amended_less how (rights_on spec o) b side q w))) g fit
 
 working_less : (d : Draft) (spec : Specification) → FitsDraft d spec → Fewer (working d spec) spec
 working_less NoDraft spec f = no_more_refl spec
@@ -271,7 +361,7 @@ change_good on h m fit =
 create_good : (s : Setting) (at : Pos) (names : List Name) (body on : On) → Good body → Good on → Good (create s at names body on)
 create_good s at names body on b h m fit =
     choose_good (covers m.spec (fitted m.spec (drafted m.draft))) _ _ m (λ e. proper_create e (fitted_sized m.spec (drafted m.draft)) none (b _ (tt, none))
-        (h (record m { draft = NoDraft }) (tt, fit.1))) proper_end
+    (h (record m { draft = NoDraft }) (tt, fit.1))) proper_end
   where
     none : Uncommuting (fitted m.spec (drafted m.draft))
     none = fitted_none m.spec (drafted m.draft) (drafted_none m.draft m.spec fit.0 fit.1)
@@ -303,19 +393,19 @@ module _ (s : Setting) where
     run_good (Assign x e) on h m fit = eval_good e m _ (λ v. h (record m { env = assigned x v m.env }) fit)
     run_good (Store o e v) on h m fit =
         find_good o m _
-            (λ f. eval_good e m _ (λ i. reach_good f (whole i) (place_of o) m _
-            (λ c. eval_good v m _ (λ z. write_good f.number c (whole z) (place_of o) on m (h m fit)))))
+        (λ f. eval_good e m _ (λ i. reach_good f (whole i) (place_of o) m _
+        (λ c. eval_good v m _ (λ z. write_good f.number c (whole z) (place_of o) on m (h m fit)))))
     run_good (If e b) on h m fit =
         eval_good e m _ (λ v. choose_good (holds v) _ _ m (λ q. scoped_good (run_all s b) (all_good b) on m h fit) (h m fit))
     run_good (IfElse e b c) on h m fit =
         eval_good e m _ (λ v. choose_good (holds v) _ _ m (λ q. scoped_good (run_all s b) (all_good b) on m h fit)
-            (scoped_good (run_all s c) (all_good c) on m h fit))
+        (scoped_good (run_all s c) (all_good c) on m h fit))
     run_good (For x low high body) on h m fit =
         eval_good low m _ (λ l. eval_good high m _ (λ k. turns_good s.limit (turn_count (whole l) (whole k)) (whole l) x (run_all s body)
-            (all_good body) on h m fit))
+        (all_good body) on h m fit))
     run_good (Withonly at section names body) on h m fit =
         scoped_good (run_all s section) (all_good section) (create s at names (run_all s body finish) on) _ (create_good s at names (run_all s body finish) on
-            (all_good body finish (λ n f. proper_end)) h) (replicate_none (length (sizes s.items)), fit.1)
+        (all_good body finish (λ n f. proper_end)) h) (replicate_none (length (sizes s.items)), fit.1)
     run_good (With at section) on h m fit =
         scoped_good (run_all s section) (all_good section) (change on) (record m { draft = Amending m.spec }) (change_good on h) (no_more_refl m.spec, fit.1)
     run_good (Declare how at o) on h m fit =
@@ -329,4 +419,4 @@ pub keeps : (p : AbstractProgram) (ns : List ℤ) (limit : ℕ) → Proper (root
 keeps p ns limit =
     let given = inputs p.items ns in
     all_good (record { items = p.items; given = given; limit = limit }) p.main finish (λ n f. proper_end) (child_start given (root_spec p))
-        (tt, replicate_both (length (sizes p.items)))
+    (tt, replicate_both (length (sizes p.items)))

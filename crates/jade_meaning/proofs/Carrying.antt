@@ -31,8 +31,12 @@ noted_steps ms = map step_of (parts ms)
 
 -- the state after these marks
 abbrev pub recorded : Path → List Mark → RunState → RunState
-recorded p ms l = record { objects = after ms l.objects; faults = l.faults ++ noted_faults (map (below p) ms); steps =
-    l.steps ++ noted_steps (map (below p) ms) }
+recorded p ms l = record {
+  objects = after ms l.objects;
+  faults = l.faults ++ noted_faults (map (below p) ms);
+  steps =
+      l.steps ++ noted_steps (map (below p) ms);
+}
 
 after_both : (ms ns : List Mark) (store : Store) → after (ms ++ ns) store ≡ after ns (after ms store)
 after_both [] ns store = refl
@@ -52,32 +56,36 @@ steps_both ms ns = ap (map step_of) (filter_map-append _ ms ns) ∙ map-append s
 same_state : (a b : RunState) → a.objects ≡ b.objects → a.faults ≡ b.faults → a.steps ≡ b.steps → a ≡ b
 same_state a b e f g =
     ap (λ x. record { objects = x; faults = a.faults; steps = a.steps }) e ∙ ap (λ x. record { objects = b.objects; faults = x; steps = a.steps }) f
-        ∙ ap (λ x. record { objects = b.objects; faults = b.faults; steps = x }) g
+    ∙ ap (λ x. record { objects = b.objects; faults = b.faults; steps = x }) g
 
 recorded_both : (p : Path) (ms ns : List Mark) (l : RunState) → recorded p (ms ++ ns) l ≡ recorded p ns (recorded p ms l)
 recorded_both p ms ns l =
     let all = map-append (below p) ms ns in
     same_state (recorded p (ms ++ ns) l) (recorded p ns (recorded p ms l)) (after_both ms ns l.objects)
     (ap (λ x. l.faults ++ noted_faults x) all ∙ ap (λ x. l.faults ++ x) (faults_both (map (below p) ms) (map (below p) ns))
-        ∙ sym (append_assoc l.faults (noted_faults (map (below p) ms)) (noted_faults (map (below p) ns))))
+    ∙ sym (append_assoc l.faults (noted_faults (map (below p) ms)) (noted_faults (map (below p) ns))))
     (ap (λ x. l.steps ++ noted_steps x) all ∙ ap (λ x. l.steps ++ x) (steps_both (map (below p) ms) (map (below p) ns))
-        ∙ sym (append_assoc l.steps (noted_steps (map (below p) ms)) (noted_steps (map (below p) ns))))
+    ∙ sym (append_assoc l.steps (noted_steps (map (below p) ms)) (noted_steps (map (below p) ns))))
 
 deeper : (p : Path) (k : ℕ) (ms : List Mark) → map (below p) (map (under k) ms) ≡ map (below (p ++ k ∷ [])) ms
 deeper p k [] = refl
 deeper p k (m ∷ ms) =
     ap (λ x. record { path = x; children = m.children; deed = m.deed } ∷ map (below p) (map (under k) ms)) (sym (append_assoc p (k ∷ []) m.path))
-        ∙ ap (λ x. below (p ++ k ∷ []) m ∷ x) (deeper p k ms)
+    ∙ ap (λ x. below (p ++ k ∷ []) m ∷ x) (deeper p k ms)
 
 -- the marks of a child
 recorded_under : (p : Path) (k : ℕ) (ms : List Mark) (l : RunState) → recorded p (map (under k) ms) l ≡ recorded (p ++ k ∷ []) ms l
 recorded_under p k ms l =
     same_state (recorded p (map (under k) ms) l) (recorded (p ++ k ∷ []) ms l) (after_under k ms l.objects)
-        (ap (λ x. l.faults ++ noted_faults x) (deeper p k ms)) (ap (λ x. l.steps ++ noted_steps x) (deeper p k ms))
+    (ap (λ x. l.faults ++ noted_faults x) (deeper p k ms)) (ap (λ x. l.steps ++ noted_steps x) (deeper p k ms))
 
-ended : (q : Path) (b : Option Blame) (k n : ℕ) (l : RunState) → noted q k n b l ≡ record { objects = l.objects; faults =
-    l.faults ++ noted_faults (record { path = q; children = k; deed = DidEnd b n } ∷ []); steps =
-    l.steps ++ noted_steps (record { path = q; children = k; deed = DidEnd b n } ∷ []) }
+ended : (q : Path) (b : Option Blame) (k n : ℕ) (l : RunState) → noted q k n b l ≡ record {
+  objects = l.objects;
+  faults =
+      l.faults ++ noted_faults (record { path = q; children = k; deed = DidEnd b n } ∷ []);
+  steps =
+      l.steps ++ noted_steps (record { path = q; children = k; deed = DidEnd b n } ∷ []);
+}
 ended q None k n l = refl
 ended q (Some b) k n l = refl
 
@@ -87,7 +95,7 @@ created p k n t ms l =
     same_state (recorded p ms (noted p k n None l)) (recorded p (own k (DidCreate t n) ∷ ms) l) refl
     (ap (λ x. x ++ noted_faults (map (below p) ms)) (append-nil l.faults))
     (append_assoc l.steps (record { path = p; children = k; steps = n } ∷ []) (noted_steps (map (below p) ms))
-        ∙ ap (λ q. l.steps ++ record { path = q; children = k; steps = n } ∷ noted_steps (map (below p) ms)) (sym (append-nil p)))
+    ∙ ap (λ q. l.steps ++ record { path = q; children = k; steps = n } ∷ noted_steps (map (below p) ms)) (sym (append-nil p)))
 
 pub carried_is : (p : Path) (c : Course) (k n : ℕ) (l : RunState) → carried p c k n l ≡ recorded p (serial c k n l.objects) l
 carried_is p (Reads o c on) k n l = carried_is p (on (cell l.objects o c)) k n l
@@ -126,8 +134,8 @@ reports p ns limit last h =
     let first : RunState = record { objects = store; faults = []; steps = [] } in
     ap report_of (h ∙ carried_is (0 ∷ []) c 0 0 first)
     ∙ ap (λ n. record { objects = after ms store; faults = noted_faults (map (under 0) ms); turns = replicate n []; steps = noted_steps (map (under 0) ms) })
-        (as_many ms store)
+    (as_many ms store)
     ∙ ap (λ s. record { objects = s; faults = noted_faults (map (under 0) ms); turns = replicate (length store) []; steps = noted_steps (map (under 0) ms) })
-        (sym (after_under 0 ms store))
+    (sym (after_under 0 ms store))
     ∙ ap (λ ps. record { objects = after (map (under 0) ms) store; faults = fault_notes ps; turns = replicate (length store) []; steps = map step_of ps })
-        (sym (parts_stand p ns limit))
+    (sym (parts_stand p ns limit))

@@ -28,7 +28,7 @@ pub more_objects : (old new : Store) (x : Item) (rest : List Item) (m n : ℕ) (
     → sizes (x ∷ rest) ≡ replicate m n ++ sizes rest → old ++ zeros (sizes (x ∷ rest)) ≡ all → new ++ zeros (sizes rest) ≡ all
 more_objects old new x rest m n all e h made =
     ap (λ s. s ++ zeros (sizes rest)) e ∙ append_assoc old (replicate m (replicate n (pos 0))) (zeros (sizes rest))
-        ∙ ap (λ s. old ++ s) (sym (zeros_of m n (sizes rest))) ∙ ap (λ s. old ++ zeros s) (sym h) ∙ made
+    ∙ ap (λ s. old ++ s) (sym (zeros_of m n (sizes rest))) ∙ ap (λ s. old ++ zeros s) (sym h) ∙ made
 
 -- one more object
 pub one_more_object : {A : Type 0} (f : A → List ℤ) (first old new : List A) (v : A) (k n : ℕ) → new ≡ old ++ v ∷ [] → f v ≡ replicate n (pos 0)
@@ -36,4 +36,4 @@ pub one_more_object : {A : Type 0} (f : A → List ℤ) (first old new : List A)
 one_more_object f first old new v k n e g made =
     ap (map f) e ∙ map-append f old (v ∷ []) ∙ ap (λ c. map f old ++ c ∷ []) g ∙ ap (λ s. s ++ replicate n (pos 0) ∷ []) made
     ∙ append_assoc (map f first) (replicate k (replicate n (pos 0))) (replicate n (pos 0) ∷ [])
-        ∙ ap (λ s. map f first ++ s) (replicate_more k (replicate n (pos 0)))
+    ∙ ap (λ s. map f first ++ s) (replicate_more k (replicate n (pos 0)))

@@ -1,5 +1,5 @@
 -- Chains and signs, gone through by steps.
-use Rattle.std.proofs.Common.{◌≡◌, ℕ, zero, suc, ◌+◌, ◌≤◌, true, false, List, [], ◌∷◌, map, length, refl, ap, sym, ◌∙◌, drop, Some, Result, Ok, Err, arith}
+use Rattle.std.proofs.Common.{◌≡◌, ℕ, zero, suc, ◌+◌, ◌≤◌, true, false, List, [], ◌∷◌, map, length, refl, ap, sym, ◌∙◌, drop, Some, Err, arith}
 use Rattle.std.specs.Prelude.{slice_get, if◌then◌else◌}
 use Rattle.std.proofs.lemmas.List.{drop_all}
 use Rattle.jade_base.specs.declared.place.Pos.{Pos}
@@ -144,8 +144,8 @@ module _ {items : List Item} {env : Environment} {spec : Specification} {src : S
       → Err b ≡ blamed (values.signed s.0 v) s.1 → Signing items env spec src e n ss j v k → Faults b ≡ evaluate items env spec src (signed ss e) n
   sign_fails {v = v} {k = k} i s b m h q g =
       outward items env spec src e n i ss (Fault b) (ap (λ r. kept r k) q ∙ ap (λ r. r >>> λ v k. kept (blamed (values.signed s.0 v) s.1) k)
-          (g.same ∙ ap (λ t. evaluate items env spec src (signed (drop t ss) e) n) (sym m)) ∙ ap (λ ys. evaluate items env spec src (signed ys e) n)
-          (sym (drop_at ss i s h)))
+      (g.same ∙ ap (λ t. evaluate items env spec src (signed (drop t ss) e) n) (sym m)) ∙ ap (λ ys. evaluate items env spec src (signed ys e) n)
+      (sym (drop_at ss i s h)))
 
 pub adds_on : (s : SumOp) (v : Value) → decides (Adds s) v ≡ false
 adds_on s (IntOf x) = refl

@@ -1,5 +1,5 @@
 -- What a transition tells, in the order in which code puts it together.
-use Rattle.std.proofs.Common.{◌≡◌, ℕ, suc, ◌+◌, List, [], ◌∷◌, ◌++◌, map, length, refl, ap, sym, ◌∙◌, append_assoc, drop, Option, true, false}
+use Rattle.std.proofs.Common.{◌≡◌, ℕ, suc, List, [], ◌∷◌, ◌++◌, map, refl, ap, sym, ◌∙◌, append_assoc, drop, Option, false}
 use Rattle.std.specs.Prelude.{ℤ}
 use Rattle.std.proofs.lemmas.List.{map-append}
 use Rattle.jade_base.specs.declared.place.ObjectId.{ObjectId}
@@ -21,8 +21,29 @@ use Rattle.jade_meaning.specs.steps.Perform.{mine_of}
 use Rattle.jade_syntax.specs.declared.tree.Statement.{Statement}
 use Rattle.jade_syntax.specs.Image.{block}
 use Rattle.jade_meaning.specs.declared.frames.Frame.{Frame}
-use Rattle.jade_meaning.specs.Talk.{Task, Event, talk, start_takes, start_holds, TouchWrite, Enroll, Resign, Holds, first_take, touched, creation_gives, enters,
-    kept, change_gives, shifts, change_takes, changed, end_gives, end_leaves, events}
+use Rattle.jade_meaning.specs.Talk.{
+  Task,
+  Event,
+  talk,
+  start_takes,
+  start_holds,
+  TouchWrite,
+  Enroll,
+  Resign,
+  Holds,
+  first_take,
+  touched,
+  creation_gives,
+  enters,
+  kept,
+  change_gives,
+  shifts,
+  change_takes,
+  changed,
+  end_gives,
+  end_leaves,
+  events,
+}
 use Rattle.jade_meaning.specs.steps.Frames.{fed, transition_on, course_of, frame_on, frames_on}
 use Rattle.jade_meaning.specs.steps.Holding.{event_of, all_listed}
 use Rattle.jade_meaning.specs.steps.Configuration.{newborn_task, later, pending_of, ahead, ready, over, taken_first, task_from, Resumes, TellsTransition}
@@ -31,7 +52,7 @@ use Rattle.jade_meaning.specs.steps.Configuration.{newborn_task, later, pending_
 abbrev pub TellsAs : Setting → Transition → Configuration → Running → Specification → Holds → (part : ℕ) → List PendingEvent → Newborn → Stage → Type 0
 TellsAs s d t run spec h n ps nb stage =
     ((c : Course) (vs : List ℤ) → events (transition_on s d c) t.spec t.holds t.part vs ≡ map (event_of (newborn_task s nb)) ps ++ later stage c spec h n vs)
-        × (run ≡ t.run)
+    × (run ≡ t.run)
 
 append_nil : {A : Type 0} (xs : List A) → xs ++ [] ≡ xs
 append_nil [] = refl
@@ -68,16 +89,19 @@ module _ (s : Setting) (t : Configuration) where
       )
 
   pub write_tells : (v : Configuration) (x : ℕ × ℕ × ℤ) (id : ObjectId) (k : ℕ) (ps : List PendingEvent) → t.pending.items ≡ [] → t.stage ≡ Going
-      → ((w : Task) → pending_of w v ≡ pending_of w t ++ first_take t.spec t.holds x.0) → v ≡ record t { holds = touched t.spec t.holds x.0; pending =
-      v.pending } → id.0 ≡ x.0 → k ≡ x.1 → ps ≡ v.pending.items ++ tells.Write id k x.2 ∷ [] → TellsAs s (Wrote x) t v.run v.spec v.holds v.part ps v.newborn
+      → ((w : Task) → pending_of w v ≡ pending_of w t ++ first_take t.spec t.holds x.0) → v ≡ record t {
+        holds = touched t.spec t.holds x.0;
+        pending =
+            v.pending;
+      } → id.0 ≡ x.0 → k ≡ x.1 → ps ≡ v.pending.items ++ tells.Write id k x.2 ∷ [] → TellsAs s (Wrote x) t v.run v.spec v.holds v.part ps v.newborn
       v.stage
   write_tells v x id k ps e going told same f g p =
       let W : Task = newborn_task s v.newborn in
       let h : pending_of W v ≡ first_take t.spec t.holds x.0 = none_before W t.pending.items v.pending.items (first_take t.spec t.holds x.0) e (told W) in
       let q : map (event_of W) ps ≡ first_take t.spec t.holds x.0 ++ TouchWrite id.0 k x.2 ∷ [] = one_after W v.pending.items ps (tells.Write id k x.2)
-          (first_take t.spec t.holds x.0) p h in
+      (first_take t.spec t.holds x.0) p h in
       let q2 : map (event_of W) ps ≡ first_take t.spec t.holds x.0 ++ TouchWrite x.0 x.1 x.2 ∷ [] = q
-          ∙ ap (λ i. first_take t.spec t.holds x.0 ++ TouchWrite i k x.2 ∷ []) f ∙ ap (λ i. first_take t.spec t.holds x.0 ++ TouchWrite x.0 i x.2 ∷ []) g in
+      ∙ ap (λ i. first_take t.spec t.holds x.0 ++ TouchWrite i k x.2 ∷ []) f ∙ ap (λ i. first_take t.spec t.holds x.0 ++ TouchWrite x.0 i x.2 ∷ []) g in
       let stays : v.stage ≡ Going = ap (λ (y : Configuration). y.stage) same ∙ going in (
         (λ c vs. sym (append_assoc (first_take t.spec t.holds x.0) (TouchWrite x.0 x.1 x.2 ∷ []) (events c t.spec (touched t.spec t.holds x.0) t.part vs))
             ∙ ap (λ xs. xs ++ events c t.spec (touched t.spec t.holds x.0) t.part vs) (sym q2)
@@ -95,7 +119,7 @@ module _ (s : Setting) (t : Configuration) where
       let first : map (event_of W) ps ≡ creation_gives nb.spec t.holds = none_before W t.pending.items ps (creation_gives nb.spec t.holds) e (f W) in
       let both : map (event_of W) qs ≡ creation_gives nb.spec t.holds ++ enters nb.spec = g W ∙ ap (λ xs. xs ++ enters nb.spec) first in
       let all : map (event_of W) rs ≡ creation_gives nb.spec t.holds ++ enters nb.spec ++ Enroll W t.part ∷ [] = one_after W qs rs (tells.Enroll t.part)
-          (creation_gives nb.spec t.holds ++ enters nb.spec) p both in (
+      (creation_gives nb.spec t.holds ++ enters nb.spec) p both in (
         (λ c vs. sym (append_assoc (creation_gives nb.spec t.holds ++ enters nb.spec) (Enroll W t.part ∷ []) (events c t.spec (kept nb.spec t.holds) 0 vs))
             ∙ ap (λ xs. xs ++ events c t.spec (kept nb.spec t.holds) 0 vs) (sym all)
             ∙ ap (λ y. map (event_of W) rs ++ events c t.spec y 0 vs) (sym k)
@@ -113,7 +137,7 @@ module _ (s : Setting) (t : Configuration) where
       let first : map (event_of W) ps ≡ change_gives new t.holds = none_before W t.pending.items ps (change_gives new t.holds) e (f W) in
       let both : map (event_of W) qs ≡ change_gives new t.holds ++ shifts t.spec new = g W ∙ ap (λ xs. xs ++ shifts t.spec new) first in
       let all : map (event_of W) rs ≡ change_gives new t.holds ++ shifts t.spec new ++ change_takes t.spec new t.holds = i W
-          ∙ ap (λ xs. xs ++ change_takes t.spec new t.holds) both in (
+      ∙ ap (λ xs. xs ++ change_takes t.spec new t.holds) both in (
         (λ c vs. ap (λ xs. xs ++ events c new (changed t.spec new t.holds) t.part vs) (sym all)
             ∙ ap (λ y. map (event_of W) rs ++ events c new y t.part vs) (sym k)
             ∙ ap (λ y. map (event_of W) rs ++ later y c new h t.part vs) (sym going)),
@@ -129,7 +153,7 @@ module _ (s : Setting) (t : Configuration) where
       let first : map (event_of W) ps ≡ end_gives t.spec t.holds = none_before W t.pending.items ps (end_gives t.spec t.holds) e (f W) in
       let both : map (event_of W) qs ≡ end_gives t.spec t.holds ++ end_leaves t.spec = g W ∙ ap (λ xs. xs ++ end_leaves t.spec) first in
       let all : map (event_of W) rs ≡ end_gives t.spec t.holds ++ end_leaves t.spec ++ Resign b t.part ∷ [] = one_after W qs rs (tells.Resign b t.part)
-          (end_gives t.spec t.holds ++ end_leaves t.spec) p both in
+      (end_gives t.spec t.holds ++ end_leaves t.spec) p both in
       ((λ c vs. sym all ∙ sym (append_nil (map (event_of W) rs))), refl)
 
   pub step_tells : (n : ℕ) → t.pending.items ≡ [] → t.stage ≡ Going → n ≡ suc t.part → TellsAs s Stepped t t.run t.spec t.holds n t.pending.items t.newborn
@@ -163,7 +187,7 @@ one_transition s given t u v d run e going h same told vs =
     ∙ ap (λ (y : Configuration). events (transition_on s d c) y.spec y.holds y.part vs) (sym same)
     ∙ told.0 c vs
     ∙ ap (λ (y : Running). map (event_of (newborn_task s v.newborn)) v.pending.items ++ later v.stage (course_of s given y) v.spec v.holds v.part vs)
-        (sym (told.1 ∙ ap (λ (y : Configuration). y.run) same))
+    (sym (told.1 ∙ ap (λ (y : Configuration). y.run) same))
 
 -- nothing to tell: nothing is pending, and the task goes on
 pub idle : (ps : List PendingEvent) (stage : Stage) → ready ps stage ≡ false → over stage ≡ false → (ps ≡ []) × (stage ≡ Going)
@@ -185,7 +209,7 @@ begins_as s env spec body t f ef e u m g h n p going vs =
     let W : Task = newborn_task s t.newborn in
     let C : Course = run_all s (block body) finish (child_start env spec) in
     let course : course_of s [] t.run ≡ C = ap (λ k. fed (drop k []) (frames_on s t.run.frames.items (mine_of t.run.task))) u
-        ∙ ap (λ fs. frames_on s fs (mine_of t.run.task)) e ∙ ap (λ on. on (mine_of t.run.task)) (ef finish) ∙ ap (run_all s (block body) finish) m in
+    ∙ ap (λ fs. frames_on s fs (mine_of t.run.task)) e ∙ ap (λ on. on (mine_of t.run.task)) (ef finish) ∙ ap (run_all s (block body) finish) m in
     ap (λ xs. xs ++ events C spec (start_holds spec) 0 vs) (sym (p W))
     ∙ ap (λ x. pending_of W t ++ events C x (start_holds spec) 0 vs) (sym g)
     ∙ ap (λ x. pending_of W t ++ events C t.spec x 0 vs) (sym h)
@@ -199,8 +223,8 @@ pub resumes_as : (s : Setting) (given : List ℤ) (t u : Configuration) → Resu
 resumes_as s given t u r vs =
     let W : Task = newborn_task s u.newborn in
     let course : course_of s given u.run ≡ course_of s given t.run = ap (λ x. fed (drop u.run.used given) (frames_on s u.run.frames.items (mine_of x))) r.0
-        ∙ ap (λ x. fed (drop u.run.used given) (frames_on s x (mine_of t.run.task))) r.1
-        ∙ ap (λ x. fed (drop x given) (frames_on s t.run.frames.items (mine_of t.run.task))) r.2 in
+    ∙ ap (λ x. fed (drop u.run.used given) (frames_on s x (mine_of t.run.task))) r.1
+    ∙ ap (λ x. fed (drop x given) (frames_on s t.run.frames.items (mine_of t.run.task))) r.2 in
     ap (λ x. events x t.spec t.holds t.part vs) (sym course)
     ∙ ap (λ x. events (course_of s given u.run) x t.holds t.part vs) (sym r.3)
     ∙ ap (λ x. events (course_of s given u.run) u.spec x t.part vs) (sym r.4)

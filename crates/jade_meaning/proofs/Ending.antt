@@ -1,5 +1,5 @@
 -- The last event of a task is its end, or a read that has no answer.
-use Rattle.std.proofs.Common.{◌≡◌, ℕ, zero, suc, Bool, true, false, List, [], ◌∷◌, ◌++◌, map, refl, sym, ap, ◌∙◌, subst, drop, None}
+use Rattle.std.proofs.Common.{◌≡◌, ℕ, zero, suc, Bool, true, false, List, [], ◌∷◌, ◌++◌, map, refl, ap, subst, drop, None}
 use Rattle.std.specs.Prelude.{ℤ}
 use Rattle.jade_syntax.specs.declared.tree.Statement.{Statement}
 use Rattle.jade_meaning.specs.declared.holds.PendingEvent.{PendingEvent}
@@ -13,11 +13,10 @@ use Rattle.jade_meaning.specs.Course.{Course, Reads, Writes, Steps, Creates, Cha
 use Rattle.jade_meaning.specs.Talk.{Task, Event, Enter, Enroll, Take, TouchRead, TouchWrite, Wants, Give, Leave, Shift, Resign, Holds, talk, events}
 use Rattle.jade_meaning.specs.Talk.{first_take, touched, creation_gives, enters, kept, change_gives, shifts, change_takes, changed, end_gives, end_leaves}
 use Rattle.jade_meaning.specs.Talk.{start_takes, start_holds}
-use Rattle.jade_meaning.specs.Walk.{First, Passes}
+use Rattle.jade_meaning.specs.Walk.{Passes}
 use Rattle.jade_meaning.specs.steps.Frames.{course_of, transition_on}
 use Rattle.jade_meaning.specs.steps.Holding.{event_of}
 use Rattle.jade_meaning.specs.steps.Configuration.{newborn_task, later, ahead, ready, over, task_from, TellsTransition, Resumes}
-use Rattle.jade_meaning.specs.steps.Agreement.{AgreesWithTalk}
 
 abbrev closes : Event → Bool
 closes (Resign b n) = true
@@ -61,7 +60,8 @@ events_closed (Changes new on) spec h n vs =
 events_closed (Ends b) spec h n vs = closed_after (end_gives spec h ++ end_leaves spec) (Resign b n ∷ []) refl
 
 pub talk_closed : (t : Task) (vs : List ℤ) → closed (talk t vs) ≡ true
-talk_closed t vs = closed_after (start_takes t.spec) (events t.course t.spec (start_holds t.spec) 0 vs) (events_closed t.course t.spec (start_holds t.spec) 0 vs)
+talk_closed t vs = closed_after (start_takes t.spec) (events t.course t.spec (start_holds t.spec) 0 vs)
+    (events_closed t.course t.spec (start_holds t.spec) 0 vs)
 
 pub last_closes : (k : ℕ) (xs : List Event) (e : Event) → closed xs ≡ true → drop k xs ≡ e ∷ [] → closes e ≡ true
 last_closes zero xs e h d = subst (λ ys. closed ys ≡ true) d h
@@ -90,7 +90,8 @@ told_still w [] (Asking o a) c spec h n vs k g = absurd (cc)
 told_still w [] Over c spec h n vs k g = absurd (cc)
 
 -- a transition is told to its end
-pub transition_ends : (s : Setting) (d : Transition) (t u : Configuration) → TellsTransition s d t u → over u.stage ≡ true → ready u.pending.items u.stage ≡ true
+pub transition_ends : (s : Setting) (d : Transition) (t u : Configuration) → TellsTransition s d t u → over u.stage ≡ true
+    → ready u.pending.items u.stage ≡ true
 transition_ends s d t u h =
     told_still (newborn_task s u.newborn) u.pending.items u.stage (Ends None) u.spec u.holds u.part []
     (subst (λ es. closed es ≡ true) (h.0 (Ends None) []) (events_closed (transition_on s d (Ends None)) t.spec t.holds t.part []))

@@ -1,8 +1,31 @@
 -- A course is told by what its expressions have evaluated.
-use Rattle.std.proofs.Common.{◌≡◌, ℕ, zero, suc, ◌+◌, ◌≤◌, Bool, true, false, List, [], ◌∷◌, ◌++◌, length, refl, ap, sym, ◌∙◌, subst, drop, Option, Some, None,
-    Result, Ok, Err, arith, add-one}
+use Rattle.std.proofs.Common.{
+  ◌≡◌,
+  ℕ,
+  zero,
+  suc,
+  ◌+◌,
+  Bool,
+  true,
+  false,
+  List,
+  [],
+  ◌∷◌,
+  ◌++◌,
+  refl,
+  ap,
+  sym,
+  ◌∙◌,
+  subst,
+  drop,
+  Option,
+  Some,
+  None,
+  Result,
+  Ok,
+  add-one,
+}
 use Rattle.std.specs.Prelude.{ℤ, slice_get, if◌then◌else◌}
-use Rattle.std.proofs.lemmas.List.{drop_all}
 use Rattle.jade_base.specs.declared.place.Pos.{Pos}
 use Rattle.jade_base.specs.declared.report.FaultKind.{FaultKind}
 use Rattle.jade_base.specs.declared.report.FaultKind.TheVariants.{Object, Index, Right as RightFault}
@@ -15,11 +38,46 @@ use Rattle.jade_meaning.specs.declared.resolve.Range.{Range}
 use Rattle.jade_meaning.specs.declared.resolve.ResolvedObject.{ResolvedObject}
 use Rattle.jade_meaning.specs.Values.{Given, Gives, Fails, operated, decides, signed, whole, is_index, magnitude}
 use Rattle.jade_meaning.specs.Specification.{Specification, rights_on}
-use Rattle.jade_meaning.specs.Course.{Course, Reads, Writes, Steps, Creates, Changes, Ends, Setting, Mine, On, fault, choose, given, place_of, member, reach,
-    read_cell, write_cell, eval, eval_links, find, run, range_from}
+use Rattle.jade_meaning.specs.Course.{
+  Course,
+  Reads,
+  Writes,
+  Steps,
+  Creates,
+  Changes,
+  Ends,
+  Setting,
+  Mine,
+  On,
+  fault,
+  choose,
+  given,
+  place_of,
+  member,
+  reach,
+  read_cell,
+  write_cell,
+  eval,
+  eval_links,
+  find,
+  run,
+  range_from,
+}
 use Rattle.jade_meaning.specs.steps.Direct.{◌>>=◌, blamed, blame_at, indexed, index_in, member_of}
-use Rattle.jade_meaning.specs.steps.Evaluation.{Evaluation, Got, Awaits, Faults, Answers, kept, ◌>>>◌, answered, evaluate, evaluate_links, evaluate_object,
-    evaluate_read}
+use Rattle.jade_meaning.specs.steps.Evaluation.{
+  Evaluation,
+  Got,
+  Awaits,
+  Faults,
+  Answers,
+  kept,
+  ◌>>>◌,
+  answered,
+  evaluate,
+  evaluate_links,
+  evaluate_object,
+  evaluate_read,
+}
 use Rattle.jade_meaning.specs.steps.Frames.{fed, Tells, evaluate_write, evaluate_store, evaluate_bounds}
 use Rattle.jade_meaning.proofs.Cells.{drop_at}
 
@@ -112,11 +170,11 @@ module _ (s : Setting) (vs : List ℤ) where
     eval_tells (Signed sign at e) m on n =
         let g : Value → Course = λ v. given (signed sign v) at m on in
         bind_tells vs (evaluate s.items m.env m.spec (Answers vs) e n) (λ v k. kept (blamed (signed sign v) at) k) g on (fed (drop n vs) (eval s e m g))
-            (eval_tells e m g n) (λ v k. given_tells vs (signed sign v) at m on k)
+        (eval_tells e m g n) (λ v k. given_tells vs (signed sign v) at m on k)
     eval_tells (Chain e links) m on n =
         let g : Value → Course = λ v. eval_links s links v m on in
         bind_tells vs (evaluate s.items m.env m.spec (Answers vs) e n) (λ v k. evaluate_links s.items m.env m.spec (Answers vs) links v k) g on
-            (fed (drop n vs) (eval s e m g)) (eval_tells e m g n) (λ v k. links_tell links v m on k)
+        (fed (drop n vs) (eval s e m g)) (eval_tells e m g n) (λ v k. links_tell links v m on k)
     eval_tells (Cell o e) m on n =
         let T : ℕ → Evaluation Value = λ k. evaluate s.items m.env m.spec (Answers vs) e k in
         let at = place_of o in
@@ -127,10 +185,10 @@ module _ (s : Setting) (vs : List ℤ) where
         let I : ResolvedObject → Value → Result ℕ Blame = λ f i. indexed (index_in (whole i) f.size) Index at in
         let G : ResolvedObject → Value → ℕ → Evaluation Value = λ f i j. kept (I f i) j >>> C f in
         bind_tells vs (evaluate_object s.items m.env m.spec (Answers vs) o n) (λ f k. T k >>> G f) looked on (fed (drop n vs) (find s o m looked))
-            (find_tells o m looked n) (λ f k.
+        (find_tells o m looked n) (λ f k.
         bind_tells vs (T k) (G f) (reached f) on (fed (drop k vs) (looked f)) (eval_tells e m (reached f) k) (λ i j.
         bind_tells vs (kept (I f i) j) (C f) (reads f) on (fed (drop j vs) (reached f i))
-            (index_tells vs (is_index (whole i) f.size) (magnitude (whole i)) Index at m (reads f) j) (λ c h.
+        (index_tells vs (is_index (whole i) f.size) (magnitude (whole i)) Index at m (reads f) j) (λ c h.
         read_tells vs (is_immediate (rights_on m.spec f.number).reads) f.number c at m on h)))
 
     links_tell : (links : Links) (v : Value) (m : Mine) (on : Value → Course) (n : ℕ) → Tells vs (evaluate_links s.items m.env m.spec (Answers vs) links v n) on
@@ -139,13 +197,13 @@ module _ (s : Setting) (vs : List ℤ) where
     links_tell (Link op at e links) v m on n =
         let G : Value → Course = λ w. given (operated op v w) at m (λ u. eval_links s links u m on) in
         let F : Value → ℕ → Evaluation Value = λ w k. kept (blamed (operated op v w) at) k >>> λ u j. evaluate_links s.items m.env m.spec
-            (Answers vs) links u j in
+        (Answers vs) links u j in
         picked_tells vs (decides op v) (λ n. on v) (λ n. eval s e n (λ w. given (operated op v w) at n (λ u. eval_links s links u n on))) m (Got v n)
-            (evaluate s.items m.env m.spec (Answers vs) e n >>> F) on n refl
+        (evaluate s.items m.env m.spec (Answers vs) e n >>> F) on n refl
         (bind_tells vs (evaluate s.items m.env m.spec (Answers vs) e n) F G on (fed (drop n vs) (eval s e m G)) (eval_tells e m G n) (λ w k.
         bind_tells vs (kept (blamed (operated op v w) at) k) (λ u j. evaluate_links s.items m.env m.spec (Answers vs) links u j)
-            (λ u. eval_links s links u m on) on (fed (drop k vs) (G w)) (given_tells vs (operated op v w) at m (λ u. eval_links s links u m on) k)
-            (λ u j. links_tell links u m on j)))
+        (λ u. eval_links s links u m on) on (fed (drop k vs) (G w)) (given_tells vs (operated op v w) at m (λ u. eval_links s links u m on) k)
+        (λ u j. links_tell links u m on j)))
 
     pub find_tells : (o : Place) (m : Mine) (on : ResolvedObject → Course) (n : ℕ) → Tells vs (evaluate_object s.items m.env m.spec (Answers vs) o n) on
         (fed (drop n vs) (find s o m on))
@@ -154,7 +212,7 @@ module _ (s : Setting) (vs : List ℤ) where
         let r = range_from 0 x s.items in
         let g : Value → Course = λ i. member r (whole i) at m on in
         bind_tells vs (evaluate s.items m.env m.spec (Answers vs) e n) (λ i k. kept (member_of r (whole i) at) k) g on (fed (drop n vs) (eval s e m g))
-            (eval_tells e m g n) (λ i k. member_tells vs (is_index (whole i) r.count) (magnitude (whole i)) r at m on k)
+        (eval_tells e m g n) (λ i k. member_tells vs (is_index (whole i) r.count) (magnitude (whole i)) r at m on k)
 
   -- a store
   write_tells : (b : Bool) (o c : ℕ) (z : ℤ) (at : Pos) (m : Mine) (on : On) (n : ℕ) → Tells vs (if b then Got (o, c, z) n else Faults (blame_at RightFault at))
@@ -177,10 +235,10 @@ module _ (s : Setting) (vs : List ℤ) where
       let F2 : ResolvedObject → ℕ → ℕ → Evaluation (ℕ × ℕ × ℤ) = λ f c h. T v h >>> F3 f c in
       let F1 : ResolvedObject → Value → ℕ → Evaluation (ℕ × ℕ × ℤ) = λ f i j. kept (I f i) j >>> F2 f in
       bind_tells vs (evaluate_object s.items m.env m.spec (Answers vs) o n) (λ f k. T e k >>> F1 f) g0 W (fed (drop n vs) (find s o m g0)) (find_tells o m g0 n)
-          (λ f k.
+      (λ f k.
       bind_tells vs (T e k) (F1 f) (g1 f) W (fed (drop k vs) (g0 f)) (eval_tells e m (g1 f) k) (λ i j.
       bind_tells vs (kept (I f i) j) (F2 f) (g2 f) W (fed (drop j vs) (g1 f i)) (index_tells vs (is_index (whole i) f.size) (magnitude (whole i)) Index at m
-          (g2 f) j) (λ c h.
+      (g2 f) j) (λ c h.
       bind_tells vs (T v h) (F3 f c) (g3 f c) W (fed (drop h vs) (g2 f c)) (eval_tells v m (g3 f c) h) (λ z g.
       write_tells (is_immediate (rights_on m.spec f.number).writes) f.number c (whole z) at m on g))))
 

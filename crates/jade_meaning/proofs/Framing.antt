@@ -1,9 +1,34 @@
 -- Frames that are done one after another are the course of a task.
-use Rattle.std.proofs.Common.{◌≡◌, ℕ, zero, suc, ◌+◌, ◌-◌, ◌<◌, ◌≤◌, Bool, true, false, List, [], ◌∷◌, ◌++◌, map, length, refl, ap, sym, ◌∙◌, subst, drop,
-    Option, Some, None, Result, Ok, Err, add-one}
+use Rattle.std.proofs.Common.{
+  ◌≡◌,
+  ℕ,
+  suc,
+  ◌+◌,
+  ◌-◌,
+  ◌<◌,
+  ◌≤◌,
+  true,
+  false,
+  List,
+  [],
+  ◌∷◌,
+  ◌++◌,
+  length,
+  refl,
+  ap,
+  sym,
+  ◌∙◌,
+  subst,
+  drop,
+  Option,
+  Some,
+  None,
+  Ok,
+  Err,
+}
 use Rattle.std.proofs.lemmas.Bool.{le-ltb, lt-ltb}
 use Rattle.std.proofs.lemmas.List.{drop_all}
-use Rattle.std.specs.Prelude.{ℤ, pos, ◌+ℤ◌, ◌<ℤ◌, ◌≤ℤ◌, slice_get, slice_set, nat_lt, if◌then◌else◌}
+use Rattle.std.specs.Prelude.{ℤ, pos, ◌+ℤ◌, ◌<ℤ◌, ◌≤ℤ◌, slice_get, slice_set}
 use Rattle.jade_base.specs.declared.place.Pos.{Pos}
 use Rattle.jade_base.specs.declared.report.FaultKind.TheVariants.{Cover, Change}
 use Rattle.jade_base.specs.declared.report.Blame.{Blame}
@@ -11,11 +36,10 @@ use Rattle.jade_base.specs.declared.rights.Rights.{Rights}
 use Rattle.jade_syntax.specs.declared.tree.ValueKind.{ValueKind}
 use Rattle.jade_syntax.specs.declared.tree.DeclareWord.{DeclareWord}
 use Rattle.jade_syntax.specs.declared.tree.Statement.{Statement}
-use Rattle.jade_syntax.specs.Abstract.{Name, Expression, Place, Action, Actions, Local, Assign, Store, If, IfElse, For, Withonly, With, Declare}
+use Rattle.jade_syntax.specs.Abstract.{Name, Expression, Place, Action, Actions, Local, Assign, Store, For, Declare}
 use Rattle.jade_syntax.specs.Image.{action, block}
 use Rattle.jade_meaning.specs.declared.frames.Frame.{Frame}
 use Rattle.jade_meaning.specs.declared.frames.Transition.{Transition}
-use Rattle.jade_meaning.specs.declared.frames.Transition.TheVariants.{Silent, Stepped, Asked, Wrote, Created, Changed, Ended}
 use Rattle.jade_meaning.specs.declared.frames.Running.{Running}
 use Rattle.jade_meaning.specs.declared.setting.Task.{Task}
 use Rattle.jade_meaning.specs.declared.source.Pause.{Pause}
@@ -23,18 +47,64 @@ use Rattle.jade_meaning.specs.declared.source.Pause.TheVariants.{Fault, Awaits a
 use Rattle.jade_meaning.specs.declared.values.Value.{Value}
 use Rattle.jade_meaning.specs.declared.values.Value.TheVariants.{IntOf}
 use Rattle.jade_meaning.specs.declared.resolve.ResolvedObject.{ResolvedObject}
-use Rattle.jade_meaning.specs.Values.{whole, holds, turn_count}
+use Rattle.jade_meaning.specs.Values.{holds, turn_count}
 use Rattle.jade_meaning.specs.Changes.{amended, declared}
 use Rattle.jade_base.specs.Rights.{join}
 use Rattle.jade_meaning.specs.Specification.{Specification, rights_on, covers, fitted}
-use Rattle.jade_meaning.specs.Course.{Course, Environment, Reads, Writes, Steps, Creates, Changes, Ends, Setting, Mine, On, Draft, NoDraft, Building, Amending,
-    fault, choose, finish, bind, scoped, turns, amend, declare, assigned, eval, run, run_all, limit_blame, find, step, create, change, child_start, copied,
-    drafted}
+use Rattle.jade_meaning.specs.Course.{
+  Course,
+  Environment,
+  Reads,
+  Writes,
+  Steps,
+  Creates,
+  Changes,
+  Ends,
+  Setting,
+  Mine,
+  On,
+  Draft,
+  NoDraft,
+  Building,
+  Amending,
+  fault,
+  choose,
+  finish,
+  bind,
+  scoped,
+  turns,
+  amend,
+  declare,
+  assigned,
+  run,
+  run_all,
+  limit_blame,
+  step,
+  create,
+  change,
+  child_start,
+  copied,
+  drafted,
+}
 use Rattle.jade_meaning.specs.steps.Perform.{mine_of, changed}
 use Rattle.jade_meaning.specs.steps.Direct.{blame_at, drafted_with, amended_with}
-use Rattle.jade_meaning.specs.steps.Evaluation.{Evaluation, Got, Awaits, Faults, Answers, kept, stopped, evaluate, evaluate_object}
-use Rattle.jade_meaning.specs.steps.Frames.{fed, Tells, frame_on, frames_from, frames_on, begun_with, course_of, transition_on, GoesOn, DoesNext, Did,
-    from_action, paused_as, Enters, opened_with, chosen, evaluate_store, evaluate_bounds}
+use Rattle.jade_meaning.specs.steps.Evaluation.{Evaluation, Got, Answers, stopped, evaluate, evaluate_object}
+use Rattle.jade_meaning.specs.steps.Frames.{
+  fed,
+  Tells,
+  frame_on,
+  frames_from,
+  frames_on,
+  begun_with,
+  course_of,
+  Did,
+  from_action,
+  paused_as,
+  opened_with,
+  chosen,
+  evaluate_store,
+  evaluate_bounds,
+}
 use Rattle.jade_meaning.proofs.Cells.{drop_at}
 use Rattle.jade_meaning.proofs.Following.{turn_less, no_turn}
 use Rattle.jade_meaning.proofs.Evaluating.{fed_ends, fed_steps, fed_writes, fed_creates, fed_changes, eval_tells, find_tells, store_tells, bounds_tell}
@@ -104,7 +174,7 @@ module _ (s : Setting) (vs : List ℤ) (r : Running) where
       (after (record (mine_of r.task) { env = env }))
   local_goes kind x e v k env h g =
       evaluated_as vs (evaluate s.items r.task.scope r.task.spec (Answers vs) e r.used) v k (λ v. after (bind x v (mine_of r.task)))
-          (from_action s vs (Local kind x e) r) h (local_evaluated kind x e)
+      (from_action s vs (Local kind x e) r) h (local_evaluated kind x e)
       ∙ ap (λ n. fed (drop k vs) (after (record (mine_of r.task) { env = n }))) (sym g)
 
   pub assign_goes : (x : Name) (e : Expression) (v : Value) (k : ℕ) (env : Environment) → Got v k ≡ evaluate s.items r.task.scope r.task.spec
@@ -112,14 +182,14 @@ module _ (s : Setting) (vs : List ℤ) (r : Running) where
       (after (record (mine_of r.task) { env = env }))
   assign_goes x e v k env h g =
       evaluated_as vs (evaluate s.items r.task.scope r.task.spec (Answers vs) e r.used) v k
-          (λ v. after (record (mine_of r.task) { env = assigned x v r.task.scope })) (from_action s vs (Assign x e) r) h (assign_evaluated x e)
+      (λ v. after (record (mine_of r.task) { env = assigned x v r.task.scope })) (from_action s vs (Assign x e) r) h (assign_evaluated x e)
       ∙ ap (λ n. fed (drop k vs) (after (record (mine_of r.task) { env = n }))) (sym g)
 
   pub store_goes : (o : Place) (e v : Expression) (w : ℕ × ℕ × ℤ) (k : ℕ) → Got w k ≡ evaluate_store s.items r.task.scope r.task.spec (Answers vs) o e v r.used
       → from_action s vs (Store o e v) r ≡ Writes w.0 w.1 w.2 (fed (drop k vs) (after (mine_of r.task)))
   store_goes o e v w k h =
       evaluated_as vs (evaluate_store s.items r.task.scope r.task.spec (Answers vs) o e v r.used) w k
-          (λ (w : ℕ × ℕ × ℤ). Writes w.0 w.1 w.2 (after (mine_of r.task))) (from_action s vs (Store o e v) r) h (store_evaluated o e v)
+      (λ (w : ℕ × ℕ × ℤ). Writes w.0 w.1 w.2 (after (mine_of r.task))) (from_action s vs (Store o e v) r) h (store_evaluated o e v)
       ∙ fed_writes (drop k vs) w.0 w.1 w.2 (after (mine_of r.task))
 
   -- a frame is put above the others
@@ -132,15 +202,15 @@ module _ (s : Setting) (vs : List ℤ) (r : Running) where
       (mine_of r.task))
   for_goes x low high body b k h =
       evaluated_as vs (evaluate_bounds s.items r.task.scope r.task.spec (Answers vs) low high r.used) b k
-          (λ (b : ℤ × ℤ). turns s.limit (turn_count b.0 b.1) b.0 x (run_all s body) after (mine_of r.task)) (from_action s vs (For x low high body) r) h
-          (for_evaluated x low high body)
+      (λ (b : ℤ × ℤ). turns s.limit (turn_count b.0 b.1) b.0 x (run_all s body) after (mine_of r.task)) (from_action s vs (For x low high body) r) h
+      (for_evaluated x low high body)
 
   -- a block is entered
   pub entered_goes : (body : List Statement) (k : ℕ) (on : On) (q : Running) → frames_on s q.frames.items ≡ opened_with r body s on → q.task ≡ r.task
       → q.used ≡ k → fed (drop k vs) (scoped (run_all s (block body)) on (mine_of r.task)) ≡ course_of s vs q
   entered_goes body k on q e t u =
       ap (λ f. fed (drop k vs) (f (mine_of r.task))) (sym e) ∙ ap (λ x. fed (drop k vs) (frames_on s q.frames.items (mine_of x))) (sym t)
-          ∙ ap (λ j. fed (drop j vs) (frames_on s q.frames.items (mine_of q.task))) (sym u)
+      ∙ ap (λ j. fed (drop j vs) (frames_on s q.frames.items (mine_of q.task))) (sym u)
 
   pub if_goes : (e : Expression) (body : List Statement) (other : Option (List Statement)) (v : Value) (k : ℕ)
       → Got v k ≡ evaluate s.items r.task.scope r.task.spec (Answers vs) e r.used → from_action s vs (chosen e body other) r ≡ fed (drop k vs)
@@ -198,7 +268,7 @@ module _ (s : Setting) (vs : List ℤ) (r : Running) where
       → from_action s vs (Declare how at o) r ≡ fed (drop k vs) (later (record (mine_of r.task) { draft = d }))
   declare_goes how at o f k d h g =
       evaluated_as vs (evaluate_object s.items r.task.scope r.task.spec (Answers vs) o r.used) f k (λ f. declare r.task.draft how f.number at later
-          (mine_of r.task)) (from_action s vs (Declare how at o) r) h (declare_evaluated s vs r how at o)
+      (mine_of r.task)) (from_action s vs (Declare how at o) r) h (declare_evaluated s vs r how at o)
       ∙ ap (fed (drop k vs)) (drafted_goes r.task.draft how f.number at later (mine_of r.task) d refl g)
 
   pub declare_stops : (how : DeclareWord) (at : Pos) (o : Place) (f : ResolvedObject) (k : ℕ) (b : Blame)
@@ -206,7 +276,7 @@ module _ (s : Setting) (vs : List ℤ) (r : Running) where
       → from_action s vs (Declare how at o) r ≡ Ends (Some b)
   declare_stops how at o f k b h g =
       evaluated_as vs (evaluate_object s.items r.task.scope r.task.spec (Answers vs) o r.used) f k (λ f. declare r.task.draft how f.number at later
-          (mine_of r.task)) (from_action s vs (Declare how at o) r) h (declare_evaluated s vs r how at o)
+      (mine_of r.task)) (from_action s vs (Declare how at o) r) h (declare_evaluated s vs r how at o)
       ∙ ap (fed (drop k vs)) (refused_goes r.task.draft how f.number at later (mine_of r.task) b g)
       ∙ fed_ends (drop k vs) (Some b)
 
@@ -218,7 +288,7 @@ pub section_goes : (s : Setting) (vs : List ℤ) (r : Running) (body : List Stat
     ≡ course_of s vs q
 section_goes s vs r body f d u q e g n h t k =
     ap (λ on. fed (drop r.used vs) (scoped (run_all s (block body)) on (record (mine_of r.task) { draft = d })))
-        (sym (ap (frames_on s) g ∙ frames_pushed s r.frames.items f finish))
+    (sym (ap (frames_on s) g ∙ frames_pushed s r.frames.items f finish))
     ∙ ap (λ x. fed (drop r.used vs) (scoped (run_all s (block body)) (frames_on s u.frames.items) (mine_of x))) (sym e)
     ∙ entered_goes s vs u body r.used (frames_on s u.frames.items) q h t (k ∙ n)
 
@@ -231,13 +301,13 @@ module _ (s : Setting) (vs : List ℤ) (r : Running) where
       (fed (drop r.used vs) (on (record (mine_of r.task) { taken = suc r.task.tally.taken })))
   step_goes on h =
       ap (λ b. fed (drop r.used vs) (choose b (λ n. Steps (on (record n { taken = suc n.taken }))) (λ n. Ends (Some limit_blame)) (mine_of r.task)))
-          (lt-ltb r.task.tally.taken s.limit h)
+      (lt-ltb r.task.tally.taken s.limit h)
       ∙ fed_steps (drop r.used vs) (on (record (mine_of r.task) { taken = suc r.task.tally.taken }))
 
   step_stops : (on : On) → s.limit ≤ r.task.tally.taken → begun_with vs (step s.limit on) r ≡ Ends (Some limit_blame)
   step_stops on h =
       ap (λ b. fed (drop r.used vs) (choose b (λ n. Steps (on (record n { taken = suc n.taken }))) (λ n. Ends (Some limit_blame)) (mine_of r.task)))
-          (le-ltb r.task.tally.taken s.limit h)
+      (le-ltb r.task.tally.taken s.limit h)
       ∙ fed_ends (drop r.used vs) (Some limit_blame)
 
   -- the next statement of a block
@@ -248,7 +318,7 @@ module _ (s : Setting) (vs : List ℤ) (r : Running) where
   rest_goes b i a f g gs hs taken h lt t ef eg e1 e2 =
       let rest : On = run_all s (block (drop (i + 1) b)) onward in
       let frames : frames_on s hs ≡ run s (action a) rest = ap (frames_on s) e2 ∙ frames_pushed s gs g finish ∙ eg (frames_on s gs)
-          ∙ ap (run s (action a)) (ap (frames_on s) e1 ∙ frames_pushed s r.frames.items f finish ∙ ef onward) in
+      ∙ ap (run s (action a)) (ap (frames_on s) e1 ∙ frames_pushed s r.frames.items f finish ∙ ef onward) in
       ap (λ l. begun_with vs (run_all s (block l) onward) r) (drop_at b i a h)
       ∙ step_goes (run s (action a) rest) lt
       ∙ ap (λ n. Steps (fed (drop r.used vs) (run s (action a) rest (record (mine_of r.task) { taken = n })))) (sym t)
@@ -278,12 +348,12 @@ module _ (s : Setting) (vs : List ℤ) (r : Running) where
       let low : frames_on s gs ≡ rest j = ap (frames_on s) e1 ∙ frames_pushed s r.frames.items f finish ∙ ef onward in
       let middle : frames_on s hs ≡ left j = ap (frames_on s) e2 ∙ frames_pushed s gs g finish ∙ eg (frames_on s gs) ∙ ap dropping low in
       let frames : frames_on s ks ≡ run_all s (block body) (left (i +ℤ pos 1)) = ap (frames_on s) e3 ∙ frames_pushed s hs k finish ∙ ek (frames_on s hs)
-          ∙ ap (run_all s (block body)) (middle ∙ ap left next) in
+      ∙ ap (run_all s (block body)) (middle ∙ ap left next) in
       ap (λ n. begun_with vs (turns s.limit n i x (run_all s (block body)) onward) r) (turn_less i high less)
       ∙ step_goes turn lt
       ∙ ap (λ n.
-          Steps (fed (drop r.used vs) (run_all s (block body) (left (i +ℤ pos 1)) (record (mine_of r.task) { env = n; taken = suc r.task.tally.taken }))))
-          (sym en)
+      Steps (fed (drop r.used vs) (run_all s (block body) (left (i +ℤ pos 1)) (record (mine_of r.task) { env = n; taken = suc r.task.tally.taken }))))
+      (sym en)
       ∙ ap (λ n. Steps (fed (drop r.used vs) (run_all s (block body) (left (i +ℤ pos 1)) (record (mine_of r.task) { env = env; taken = n })))) (sym t)
       ∙ ap (λ on. Steps (fed (drop r.used vs) (on (record (mine_of r.task) { env = env; taken = taken })))) (sym frames)
 
@@ -292,7 +362,7 @@ module _ (s : Setting) (vs : List ℤ) (r : Running) where
   turn_stops x body i high less le =
       ap (λ n. begun_with vs (turns s.limit n i x (run_all s (block body)) onward) r) (turn_less i high less)
       ∙ step_stops (λ a. scoped (λ q b. run_all s (block body) q (bind x (IntOf i) b)) (turns s.limit (turn_count (i +ℤ pos 1) high) (i +ℤ pos 1) x
-          (run_all s (block body)) onward) a) le
+      (run_all s (block body)) onward) a) le
 
   pub turn_ends : (x : Name) (body : List Statement) (i high : ℤ) → high ≤ℤ i
       → begun_with vs (turns s.limit (turn_count i high) i x (run_all s (block body)) onward) r ≡ course_of s vs r
@@ -304,18 +374,18 @@ module _ (s : Setting) (vs : List ℤ) (r : Running) where
       (body (child_start env child)) (fed (drop r.used vs) (onward (record (mine_of r.task) { draft = NoDraft })))
   create_goes at names body child env e h g =
       let made : Specification → Mine → Course = λ c n. Creates c (body (child_start (copied names n.env ++ s.given) c))
-          (onward (record n { draft = NoDraft })) in
+      (onward (record n { draft = NoDraft })) in
       ap (λ c. fed (drop r.used vs) (choose (covers r.task.spec c) (made c) (fault Cover at) (mine_of r.task))) (sym e)
       ∙ ap (λ b. fed (drop r.used vs) (choose b (made child) (fault Cover at) (mine_of r.task))) h
       ∙ fed_creates (drop r.used vs) child (body (child_start (copied names r.task.scope ++ s.given) child))
-          (onward (record (mine_of r.task) { draft = NoDraft }))
+      (onward (record (mine_of r.task) { draft = NoDraft }))
       ∙ ap (λ n. Creates child (body (child_start n child)) (fed (drop r.used vs) (onward (record (mine_of r.task) { draft = NoDraft })))) (sym g)
 
   pub create_stops : (at : Pos) (names : List Name) (body : On) (child : Specification) → child ≡ fitted r.task.spec (drafted r.task.draft)
       → covers r.task.spec child ≡ false → begun_with vs (create s at names body onward) r ≡ Ends (Some (blame_at Cover at))
   create_stops at names body child e h =
       let made : Specification → Mine → Course = λ c n. Creates c (body (child_start (copied names n.env ++ s.given) c))
-          (onward (record n { draft = NoDraft })) in
+      (onward (record n { draft = NoDraft })) in
       ap (λ c. fed (drop r.used vs) (choose (covers r.task.spec c) (made c) (fault Cover at) (mine_of r.task))) (sym e)
       ∙ ap (λ b. fed (drop r.used vs) (choose b (made child) (fault Cover at) (mine_of r.task))) h
       ∙ fed_ends (drop r.used vs) (Some (blame_at Cover at))
@@ -325,8 +395,8 @@ module _ (s : Setting) (vs : List ℤ) (r : Running) where
       (fed (drop r.used vs) (onward (mine_of t)))
   change_goes t new e g =
       fed_changes (drop r.used vs) (changed r.task).spec (onward (mine_of (changed r.task)))
-          ∙ ap (λ u. Changes u.spec (fed (drop r.used vs) (onward (mine_of u)))) (sym e) ∙ ap (λ n. Changes n (fed (drop r.used vs) (onward (mine_of t))))
-          (sym g)
+      ∙ ap (λ u. Changes u.spec (fed (drop r.used vs) (onward (mine_of u)))) (sym e) ∙ ap (λ n. Changes n (fed (drop r.used vs) (onward (mine_of t))))
+      (sym g)
 
 -- a statement that waits stays to be done
 pub did_next : (s : Setting) (vs : List ℤ) (a : Action) (r q : Running) (o c : ℕ) (hs : List Frame) (f : Frame)
@@ -335,7 +405,7 @@ pub did_next : (s : Setting) (vs : List ℤ) (a : Action) (r q : Running) (o c :
 did_next s vs a r q o c hs f h e k =
     let same : from_action s vs a r ≡ fed (drop q.used vs) (frames_on s hs (mine_of q.task)) =
     ap (from_action s vs a) (sym h.1) ∙ ap (λ on. fed (drop q.used vs) (on (mine_of q.task))) (sym (ap (frames_on s) e ∙ frames_pushed s q.frames.items f finish
-        ∙ k (frames_on s q.frames.items))) in
+    ∙ k (frames_on s q.frames.items))) in
     h.0 ∙ ap (λ x. Reads o c (λ v. fed (v ∷ []) x)) same
 
 -- two frames more

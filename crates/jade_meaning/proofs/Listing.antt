@@ -1,6 +1,28 @@
 -- What is told object by object, gone through from the first.
-use Rattle.std.proofs.Common.{◌≡◌, ℕ, zero, suc, ◌+◌, List, [], ◌∷◌, ◌++◌, map, length, refl, ap, sym, ◌∙◌, append_assoc, Option, Some, None, arith, add-one,
-    add-zero, add-suc}
+use Rattle.std.proofs.Common.{
+  ◌≡◌,
+  ℕ,
+  zero,
+  suc,
+  ◌+◌,
+  List,
+  [],
+  ◌∷◌,
+  ◌++◌,
+  map,
+  length,
+  refl,
+  ap,
+  sym,
+  ◌∙◌,
+  append_assoc,
+  Option,
+  Some,
+  None,
+  arith,
+  add-one,
+  add-zero,
+}
 use Rattle.std.specs.List.{flat_map}
 use Rattle.std.proofs.lemmas.List.{map-append}
 use Rattle.jade_base.specs.declared.rights.Mode.{Mode}
@@ -23,7 +45,7 @@ one_more_listed f o zero = append_nil (f o) ∙ ap f (sym (add-zero o))
 one_more_listed f o (suc n) =
     let e : suc o + n ≡ o + suc n = omega arith in
     ap (λ xs. f o ++ xs) (one_more_listed f (suc o) n ∙ ap (λ k. flat_map f (numbers (suc o) n) ++ f k) e)
-        ∙ sym (append_assoc (f o) (flat_map f (numbers (suc o) n)) (f (o + suc n)))
+    ∙ sym (append_assoc (f o) (flat_map f (numbers (suc o) n)) (f (o + suc n)))
 
 one_more_mapped : {A : Type 0} (f : ℕ → A) (o n : ℕ) → map f (numbers o (suc n)) ≡ map f (numbers o n) ++ f (o + n) ∷ []
 one_more_mapped f o zero = ap (λ k. f k ∷ []) (sym (add-zero o))
@@ -38,7 +60,7 @@ told_more g f first old new o e h =
     let z : 0 + o ≡ o = omega arith in
     e ∙ ap (λ xs. xs ++ f o) h ∙ append_assoc (map g first) (flat_map f (numbers 0 o)) (f o)
     ∙ ap (λ xs. map g first ++ xs) (ap (λ k. flat_map f (numbers 0 o) ++ f k) (sym z) ∙ sym (one_more_listed f 0 o) ∙ ap (λ k. flat_map f (numbers 0 k))
-        (sym (add-one o)))
+    (sym (add-one o)))
 
 -- an event more, or none
 pub told_some : (t : Task) (old new : List PendingEvent) (e : PendingEvent) (es : List Event) → new ≡ old ++ e ∷ [] → events_of t (Some e) ≡ es
@@ -53,7 +75,7 @@ pub kept_more : {A : Type 0} (f : ℕ → A) (old new : List A) (o : ℕ) → ne
 kept_more f old new o e h =
     let z : 0 + o ≡ o = omega arith in
     e ∙ ap (λ xs. xs ++ f o ∷ []) h ∙ ap (λ k. map f (numbers 0 o) ++ f k ∷ []) (sym z) ∙ sym (one_more_mapped f 0 o)
-        ∙ ap (λ k. map f (numbers 0 k)) (sym (add-one o))
+    ∙ ap (λ k. map f (numbers 0 k)) (sym (add-one o))
 
 numbers_later : {A : Type 0} (f : ℕ → A) (o n : ℕ) → map f (numbers (suc o) n) ≡ map (λ k. f (suc k)) (numbers o n)
 numbers_later f o zero = refl

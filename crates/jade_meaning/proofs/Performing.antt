@@ -8,8 +8,36 @@ use Rattle.jade_base.specs.declared.report.Blame.{Blame}
 use Rattle.jade_base.specs.declared.rights.Rights.{Rights}
 use Rattle.jade_base.specs.Rights.{is_immediate}
 use Rattle.jade_syntax.specs.declared.tree.DeclareWord.{DeclareWord}
-use Rattle.jade_syntax.specs.Abstract.{Name, Expression, Whole, Truth, Variable, Group, Signed, Chain, Cell, Links, Last, Link, Place, Alone, Member, Action,
-    Local, Assign, Store, If, IfElse, For, Withonly, With, Declare, Actions, Done as NoMore, Then}
+use Rattle.jade_syntax.specs.Abstract.{
+  Name,
+  Expression,
+  Whole,
+  Truth,
+  Variable,
+  Group,
+  Signed,
+  Chain,
+  Cell,
+  Links,
+  Last,
+  Link,
+  Place,
+  Alone,
+  Member,
+  Action,
+  Local,
+  Assign,
+  Store,
+  If,
+  IfElse,
+  For,
+  Withonly,
+  With,
+  Declare,
+  Actions,
+  Done as NoMore,
+  Then,
+}
 use Rattle.jade_meaning.specs.declared.run_state.RunState.{RunState}
 use Rattle.jade_meaning.specs.declared.setting.Task.{Task}
 use Rattle.jade_meaning.specs.declared.values.Value.{Value}
@@ -19,14 +47,78 @@ use Rattle.jade_meaning.specs.declared.resolve.ResolvedObject.{ResolvedObject}
 use Rattle.jade_meaning.specs.Values.{Given, Gives, Fails, operated, decides, signed, whole, holds, is_index, magnitude, turn_count}
 use Rattle.jade_meaning.specs.Changes.{amended}
 use Rattle.jade_meaning.specs.Specification.{Specification, rights_on, covers, fitted}
-use Rattle.jade_meaning.specs.Course.{Course, Reads, Writes, Steps, Creates, Ends, Setting, Mine, On, Draft, NoDraft, Building, Amending, drafted, finish,
-    fault, choose, step, given, place_of, member, reach, read_cell, write_cell, bind, leave, scoped, turns, amend, declare, create, change, child_start, copied,
-    assigned, eval, eval_links, find, run, run_all, range_from, limit_blame, none_of}
+use Rattle.jade_meaning.specs.Course.{
+  Course,
+  Reads,
+  Writes,
+  Steps,
+  Creates,
+  Ends,
+  Setting,
+  Mine,
+  On,
+  Draft,
+  NoDraft,
+  Building,
+  Amending,
+  drafted,
+  finish,
+  fault,
+  choose,
+  step,
+  given,
+  place_of,
+  member,
+  reach,
+  read_cell,
+  write_cell,
+  bind,
+  leave,
+  scoped,
+  turns,
+  amend,
+  declare,
+  create,
+  change,
+  child_start,
+  copied,
+  assigned,
+  eval,
+  eval_links,
+  find,
+  run,
+  run_all,
+  range_from,
+  limit_blame,
+  none_of,
+}
 use Rattle.jade_meaning.specs.Serial.{Path, cell}
 use Rattle.jade_meaning.specs.steps.Carry.{carried, noted, put}
 use Rattle.jade_meaning.specs.steps.Direct.{◌>>=◌, blamed, blame_at, indexed, index_in, member_of, read_of, worth, linked, located, drafted_with, amended_with}
-use Rattle.jade_meaning.specs.steps.Perform.{Outcome, Goes, Stops, mine_of, then_on, valued, with_variable, begun, within, written, turned_once, turned, ended,
-    child_task, next_path, created, changed, value_at, object_at, stored_in, perform, perform_all}
+use Rattle.jade_meaning.specs.steps.Perform.{
+  Outcome,
+  Goes,
+  Stops,
+  mine_of,
+  then_on,
+  valued,
+  with_variable,
+  begun,
+  within,
+  written,
+  turned_once,
+  turned,
+  ended,
+  child_task,
+  next_path,
+  created,
+  changed,
+  value_at,
+  object_at,
+  stored_in,
+  perform,
+  perform_all,
+}
 
 -- what is done with a value, or the end with a fault
 abbrev pub resumes : {A : Type 0} → Result A Blame → (A → Course) → Course
@@ -81,11 +173,11 @@ module _ (s : Setting) (p : Path) (k n : ℕ) (l : RunState) where
     eval_is (Signed sign at e) m on =
         eval_is e m (λ v. given (signed sign v) at m on)
         ∙ bound_is p k n l (worth s.items m.env m.spec l.objects e) (λ v. blamed (signed sign v) at) (λ v. given (signed sign v) at m on) on
-            (λ v. given_is p k n l (signed sign v) at m on)
+        (λ v. given_is p k n l (signed sign v) at m on)
     eval_is (Chain e links) m on =
         eval_is e m (λ v. eval_links s links v m on)
         ∙ bound_is p k n l (worth s.items m.env m.spec l.objects e) (λ v. linked s.items m.env m.spec l.objects links v) (λ v. eval_links s links v m on) on
-            (λ v. links_is links v m on)
+        (λ v. links_is links v m on)
     eval_is (Cell o e) m on =
         let W = worth s.items m.env m.spec l.objects e in
         let reads : ResolvedObject → ℕ → Course = λ f c. read_cell f.number c (place_of o) m on in
@@ -107,11 +199,11 @@ module _ (s : Setting) (p : Path) (k n : ℕ) (l : RunState) where
         let G : Value → Course = λ w. given (operated op v w) at m (λ u. eval_links s links u m on) in
         let F : Value → Result Value Blame = λ w. blamed (operated op v w) at >>= λ u. linked s.items m.env m.spec l.objects links u in
         picked_is p k n l (decides op v) (λ n. on v) (λ n. eval s e n (λ w. given (operated op v w) at n (λ u. eval_links s links u n on))) m (Ok v)
-            (W >>= F) on refl
+        (W >>= F) on refl
         (eval_is e m G ∙ bound_is p k n l W F G on (λ w.
         given_is p k n l (operated op v w) at m (λ u. eval_links s links u m on)
         ∙ bound_is p k n l (blamed (operated op v w) at) (λ u. linked s.items m.env m.spec l.objects links u) (λ u. eval_links s links u m on) on
-            (λ u. links_is links u m on)))
+        (λ u. links_is links u m on)))
 
     pub find_is : (o : Place) (m : Mine) (on : ResolvedObject → Course) → carried p (find s o m on) k n l ≡ carried p
         (resumes (located s.items m.env m.spec l.objects o) on) k n l
@@ -120,7 +212,7 @@ module _ (s : Setting) (p : Path) (k n : ℕ) (l : RunState) where
         let r = range_from 0 x s.items in
         eval_is e m (λ i. member r (whole i) at m on)
         ∙ bound_is p k n l (worth s.items m.env m.spec l.objects e) (λ i. member_of r (whole i) at) (λ i. member r (whole i) at m on) on
-            (λ i. member_is p k n l (is_index (whole i) r.count) (magnitude (whole i)) r at m on)
+        (λ i. member_is p k n l (is_index (whole i) r.count) (magnitude (whole i)) r at m on)
 
 module _ (p : Path) where
   valued_is : {A : Type 0} (on : On) (r : Result A Blame) (t : Task) (l : RunState) (g : A → Course) (f : A → Outcome)
@@ -185,7 +277,7 @@ module _ (p : Path) where
       let turn : On = λ a. scoped (λ k b. body k (bind x (IntOf i) b)) rest a in
       begun_is turn limit t l
       ∙ then_is rest turn (begun limit t l) (λ u m. within u (f (with_variable x (IntOf i) u) m))
-          (λ u m. h (λ n. rest (leave (mine_of u) n)) (with_variable x (IntOf i) u) m ∙ within_is rest u (f (with_variable x (IntOf i) u) m))
+      (λ u m. h (λ n. rest (leave (mine_of u) n)) (with_variable x (IntOf i) u) m ∙ within_is rest u (f (with_variable x (IntOf i) u) m))
       ∙ then_is on rest (turned_once limit i x f t l) (turned limit n (i +ℤ pos 1) x f) (λ u m. turns_is limit n (i +ℤ pos 1) x body f h on u m)
 
 -- a task that has gone through its course
@@ -198,11 +290,11 @@ create_at : (s : Setting) (p : Path) (on : On) (b : Bool) (at : Pos) (names : Li
     (f q u m)) → carried p (choose b (λ n. Creates child (body (child_start (copied names n.env ++ s.given) child)) (on (record n { draft = NoDraft })))
     (fault Cover at) (mine_of t)) t.tally.children t.tally.part l
     ≡ continues p on (if b then Goes (record t { draft = NoDraft; tally = record { taken = t.tally.taken; part = 0; children = suc t.tally.children } })
-        (ended (next_path p t) (f (next_path p t) (child_task (copied names t.scope ++ s.given) child) (noted p t.tally.children t.tally.part None l)))
-        else Stops (blame_at Cover at) (record t { draft = NoDraft }) l)
+    (ended (next_path p t) (f (next_path p t) (child_task (copied names t.scope ++ s.given) child) (noted p t.tally.children t.tally.part None l)))
+    else Stops (blame_at Cover at) (record t { draft = NoDraft }) l)
 create_at s p on true at names body f t l child h =
     ap (carried p (on (record (mine_of t) { draft = NoDraft })) (suc t.tally.children) 0)
-        (h (next_path p t) (child_task (copied names t.scope ++ s.given) child) (noted p t.tally.children t.tally.part None l))
+    (h (next_path p t) (child_task (copied names t.scope ++ s.given) child) (noted p t.tally.children t.tally.part None l))
 create_at s p on false at names body f t l child h = refl
 
 module _ (s : Setting) where
@@ -235,20 +327,20 @@ module _ (s : Setting) where
         ∙ valued_is p on (I f i) t l (g2 f) (f3 f) (λ c.
         eval_is s p k n l v m (g3 f c)
         ∙ valued_is p on (value_at s v t l) t l (g3 f c) (λ z. written f.number c (whole z) at t l)
-            (λ z. written_at p on (is_immediate (rights_on t.spec f.number).writes) f.number c (whole z) at t l))))
+        (λ z. written_at p on (is_immediate (rights_on t.spec f.number).writes) f.number c (whole z) at t l))))
     perform_is p (If e first) on t l =
         let g : Value → Course = λ v. choose (holds v) (scoped (run_all s first) on) on (mine_of t) in
         eval_is s p t.tally.children t.tally.part l e (mine_of t) g
         ∙ valued_is p on (value_at s e t l) t l g (λ v. if holds v then within t (perform_all s p first t l) else Goes t l) (λ v.
         picked_at p on (scoped (run_all s first) on) on (holds v) t l (within t (perform_all s p first t l)) (Goes t l)
-            (all_is p first (λ n. on (leave (mine_of t) n)) t l ∙ within_is p on t (perform_all s p first t l)) refl)
+        (all_is p first (λ n. on (leave (mine_of t) n)) t l ∙ within_is p on t (perform_all s p first t l)) refl)
     perform_is p (IfElse e first other) on t l =
         let g : Value → Course = λ v. choose (holds v) (scoped (run_all s first) on) (scoped (run_all s other) on) (mine_of t) in
         eval_is s p t.tally.children t.tally.part l e (mine_of t) g
         ∙ valued_is p on (value_at s e t l) t l g (λ v. if holds v then within t (perform_all s p first t l) else within t (perform_all s p other t l)) (λ v.
         picked_at p on (scoped (run_all s first) on) (scoped (run_all s other) on) (holds v) t l (within t (perform_all s p first t l))
-            (within t (perform_all s p other t l)) (all_is p first (λ n. on (leave (mine_of t) n)) t l ∙ within_is p on t (perform_all s p first t l))
-            (all_is p other (λ n. on (leave (mine_of t) n)) t l ∙ within_is p on t (perform_all s p other t l)))
+        (within t (perform_all s p other t l)) (all_is p first (λ n. on (leave (mine_of t) n)) t l ∙ within_is p on t (perform_all s p first t l))
+        (all_is p other (λ n. on (leave (mine_of t) n)) t l ∙ within_is p on t (perform_all s p other t l)))
     perform_is p (For x low high body) on t l =
         let m = mine_of t in
         let k = t.tally.children in
@@ -259,15 +351,15 @@ module _ (s : Setting) where
         ∙ valued_is p on (value_at s low t l) t l (λ a. eval s high m (g1 a)) (λ a. valued (value_at s high t l) t l (f1 a)) (λ a.
         eval_is s p k n l high m (g1 a)
         ∙ valued_is p on (value_at s high t l) t l (g1 a) (f1 a) (λ b. turns_is p s.limit (turn_count (whole a) (whole b)) (whole a) x (run_all s body)
-            (perform_all s p body) (λ k u w. all_is p body k u w) on t l))
+        (perform_all s p body) (λ k u w. all_is p body k u w) on t l))
     perform_is p (Withonly at section names body) on t l =
         let u : Task = record t { draft = Building (none_of s.items) } in
         all_is p section (λ n. (create s at names (run_all s body finish) on) (leave (mine_of u) n)) u l
-            ∙ within_is p (create s at names (run_all s body finish) on) u (perform_all s p section u l)
+        ∙ within_is p (create s at names (run_all s body finish) on) u (perform_all s p section u l)
         ∙ then_is p on (create s at names (run_all s body finish) on) (within u (perform_all s p section u l))
-            (created s p at names (λ q. perform_all s q body)) (λ w m.
+        (created s p at names (λ q. perform_all s q body)) (λ w m.
         create_at s p on (covers w.spec (fitted w.spec (drafted w.draft))) at names (run_all s body finish) (λ q. perform_all s q body) w m
-            (fitted w.spec (drafted w.draft)) (λ q c d. all_is q body finish c d ∙ ended_is q (perform_all s q body c d)))
+        (fitted w.spec (drafted w.draft)) (λ q c d. all_is q body finish c d ∙ ended_is q (perform_all s q body c d)))
     perform_is p (With at section) on t l =
         let u : Task = record t { draft = Amending t.spec } in
         all_is p section (λ n. (change on) (leave (mine_of u) n)) u l ∙ within_is p (change on) u (perform_all s p section u l)
@@ -276,7 +368,7 @@ module _ (s : Setting) where
         let g : ResolvedObject → Course = λ f. declare t.draft how f.number at on (mine_of t) in
         find_is s p t.tally.children t.tally.part l o (mine_of t) g
         ∙ valued_is p on (object_at s o t l) t l g (λ f. valued (drafted_with t.draft how f.number at) t l (λ d. Goes (record t { draft = d }) l))
-            (λ f. declare_is p on t.draft how f.number at t l refl)
+        (λ f. declare_is p on t.draft how f.number at t l refl)
 
     pub all_is : (p : Path) (a : Actions) (on : On) (t : Task) (l : RunState) → carried p (run_all s a on (mine_of t)) t.tally.children t.tally.part l
         ≡ continues p on (perform_all s p a t l)

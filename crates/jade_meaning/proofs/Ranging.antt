@@ -42,7 +42,7 @@ module _ (items : List Item) (o i : ℕ) (item : Item) (at_i : slice_get items i
       let front = replicate (amount count.value) (amount size.value) in
       let d : sizes (drop i items) ≡ front ++ sizes (drop (i + 1) items) = sizes_from (Family y at count size) e in
       let many : length (front ++ sizes (drop (i + 1) items)) ≡ length front + length (sizes (drop (i + 1) items)) =
-          length-append front (sizes (drop (i + 1) items)) in
+      length-append front (sizes (drop (i + 1) items)) in
       let n : length front ≡ amount count.value = length-replicate (amount count.value) (amount size.value) in
       record { counted = omega (arith, ap length d, h.counted, many, n, f, g) }
 
@@ -51,7 +51,7 @@ module _ (items : List Item) (o i : ℕ) (item : Item) (at_i : slice_get items i
       let front = replicate (amount count.value) (amount size.value) in
       let d : sizes (drop i items) ≡ front ++ sizes (drop (i + 1) items) = sizes_from (Family y at count size) e in
       let many : length (front ++ sizes (drop (i + 1) items)) ≡ length front + length (sizes (drop (i + 1) items)) =
-          length-append front (sizes (drop (i + 1) items)) in
+      length-append front (sizes (drop (i + 1) items)) in
       let n : length front ≡ amount count.value = length-replicate (amount count.value) (amount size.value) in
       omega (arith, ap length d, h.counted, many, n, g)
 
@@ -77,7 +77,7 @@ module _ (x : Name) (items : List Item) (o i : ℕ) (item : Item) (at_i : slice_
       let found : Range = record { first = o; count = amount count.value; size = amount size.value } in
       ap (λ k. record { first = o; count = k; size = n }) g ∙ ap (λ k. record { first = o; count = amount count.value; size = k }) f
       ∙ sym (h ∙ ap (range_from o x) (opened (Family y at count size) e)
-          ∙ ap (λ b. if b then found else range_from (o + amount count.value) x (drop (i + 1) items)) s)
+      ∙ ap (λ b. if b then found else range_from (o + amount count.value) x (drop (i + 1) items)) s)
 
   pub single_within : (y : Name) (at : Pos) (size : Number) → item ≡ Single y at size → Passed x items o i → o + 1 ≤ length (sizes items)
   single_within y at size e h =
@@ -91,7 +91,7 @@ module _ (x : Name) (items : List Item) (o i : ℕ) (item : Item) (at_i : slice_
       let front = replicate k (amount size.value) in
       let d : sizes (drop i items) ≡ front ++ sizes (drop (i + 1) items) = ap sizes (opened (Family y at count size) e) in
       let many : length (front ++ sizes (drop (i + 1) items)) ≡ length front + length (sizes (drop (i + 1) items)) =
-          length-append front (sizes (drop (i + 1) items)) in
+      length-append front (sizes (drop (i + 1) items)) in
       let n : length front ≡ k = length-replicate k (amount size.value) in
       omega (arith, ap length d, h.counted, many, n, f)
 
@@ -120,7 +120,7 @@ module _ (x : Name) (items : List Item) (o i : ℕ) (item : Item) (at_i : slice_
       let rest = sizes (drop (i + 1) items) in
       let k = amount count.value in
       let many : length (replicate k (amount size.value) ++ rest) ≡ k + length rest = length-append (replicate k (amount size.value)) rest
-          ∙ ap (λ t. t + length rest) (length-replicate k (amount size.value)) in
+      ∙ ap (λ t. t + length rest) (length-replicate k (amount size.value)) in
       let more : (o + k) + length rest ≡ o + (k + length rest) = omega arith in
       record {
         same = h.same ∙ ap (range_from o x) (opened (Family y at count size) e) ∙ ap (λ b. if b then found else range_from (o + k) x (drop (i + 1) items)) s

@@ -7,7 +7,7 @@ use Rattle.jade_syntax.specs.declared.tree.Item.{Item}
 use Rattle.jade_meaning.specs.Specification.{Specification}
 use Rattle.jade_meaning.specs.Serial.{Path}
 use Rattle.jade_syntax.specs.Abstract.{AbstractProgram}
-use Rattle.jade_syntax.specs.Objects.{sizes, input_names}
+use Rattle.jade_syntax.specs.Objects.{sizes}
 use Rattle.jade_syntax.specs.Limits.{within_limits, is_within, few_inputs}
 use Rattle.jade_base.specs.Rights.{both_rights}
 use Rattle.jade_meaning.specs.declared.run_state.RunState.{RunState}
@@ -53,13 +53,13 @@ performed_by p ns limit n items given env spec path start last a b c d e f g h =
     ∙ ap (λ x. ended path (perform_all (record { items = items; given = given; limit = limit }) path p.main (child_task env spec) x)) g
     ∙ ap (λ x. ended x (perform_all (record { items = items; given = given; limit = limit }) x p.main (child_task env spec) first)) f
     ∙ ap (λ x. ended (0 ∷ []) (perform_all (record { items = items; given = given; limit = limit }) (0 ∷ []) p.main (child_task env x) first))
-        (e ∙ ap (λ k. replicate k both_rights) d)
+    (e ∙ ap (λ k. replicate k both_rights) d)
     ∙ ap (λ x. ended (0 ∷ []) (perform_all (record { items = items; given = given; limit = limit }) (0 ∷ []) p.main
-        (child_task x (replicate (length (sizes items)) both_rights)) first)) c
+    (child_task x (replicate (length (sizes items)) both_rights)) first)) c
     ∙ ap (λ x. ended (0 ∷ []) (perform_all (record { items = items; given = x; limit = limit }) (0 ∷ []) p.main
-        (child_task x (replicate (length (sizes items)) both_rights)) first)) b
+    (child_task x (replicate (length (sizes items)) both_rights)) first)) b
     ∙ ap (λ x. ended (0 ∷ []) (perform_all (record { items = x; given = inputs p.items ns; limit = limit }) (0 ∷ []) p.main
-        (child_task (inputs p.items ns) (replicate (length (sizes x)) both_rights)) first)) a)
+    (child_task (inputs p.items ns) (replicate (length (sizes x)) both_rights)) first)) a)
 
 -- a program that keeps the limits has at most 4,096 objects
 pub few_objects : (items : List Item) → within_limits items ≡ true → length (sizes items) ≤ 4096

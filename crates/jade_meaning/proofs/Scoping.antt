@@ -1,8 +1,7 @@
 -- Variables in scope, kept with the newest last.
-use Rattle.std.proofs.Common.{◌≡◌, ℕ, suc, ◌+◌, ◌-◌, ◌<◌, ◌≤◌, List, [], ◌∷◌, ◌++◌, ap, sym, ◌∙◌, take, drop, length, arith, add-one, append_assoc, true, false}
-use Rattle.std.specs.Prelude.{map, reverse, slice_index_or, slice_set, if◌then◌else◌}
-use Rattle.std.proofs.lemmas.List.{take_more, map-append, reverse-append, length-reverse, length-map, set_split, take-append-drop, length-drop}
-use Rattle.std.proofs.Math.Seq.{drop-append_seam}
+use Rattle.std.proofs.Common.{◌≡◌, ℕ, suc, ◌+◌, ◌≤◌, List, [], ◌∷◌, ◌++◌, ap, sym, ◌∙◌, take, drop, length, arith, add-one, append_assoc, true, false}
+use Rattle.std.specs.Prelude.{slice_index_or, slice_set, if◌then◌else◌}
+use Rattle.std.proofs.lemmas.List.{set_split}
 use Rattle.jade_syntax.specs.Abstract.{Name}
 use Rattle.jade_syntax.specs.Numbering.{same_name}
 use Rattle.jade_syntax.proofs.Newest.{both, newest, oldest_of}
@@ -15,13 +14,13 @@ pub value_here : (x : Name) (bs : List Bound) (i j : ℕ) (b : Bound) → i + 1 
     → value_of x (in_scope (take j bs)) ≡ b.value
 value_here x bs i j b h lt e s =
     ap (λ k. value_of x (in_scope (take k bs))) (sym h) ∙ ap (value_of x) (newest binding bs i b (omega arith) e)
-        ∙ ap (λ t. if t then b.value else value_of x (in_scope (take i bs))) s
+    ∙ ap (λ t. if t then b.value else value_of x (in_scope (take i bs))) s
 
 pub value_below : (x : Name) (bs : List Bound) (i j : ℕ) (b : Bound) → i + 1 ≡ j → j ≤ length bs → b ≡ slice_index_or bs i b → same_name x b.name.now ≡ false
     → value_of x (in_scope (take j bs)) ≡ value_of x (in_scope (take i bs))
 value_below x bs i j b h lt e s =
     ap (λ k. value_of x (in_scope (take k bs))) (sym h) ∙ ap (value_of x) (newest binding bs i b (omega arith) e)
-        ∙ ap (λ t. if t then b.value else value_of x (in_scope (take i bs))) s
+    ∙ ap (λ t. if t then b.value else value_of x (in_scope (take i bs))) s
 
 -- the variables from i on are not of this name
 abbrev pub Passed : Name → Value → List Bound → ℕ → Type 0
@@ -34,7 +33,7 @@ passed_more x v bs i j b h lt e d s p =
     ∙ ap (λ k. in_scope (drop k bs) ++ assigned x v (in_scope (take k bs))) (sym h)
     ∙ ap (λ y. in_scope (drop (i + 1) bs) ++ assigned x v y) (newest binding bs i b (omega arith) e)
     ∙ ap (λ t. in_scope (drop (i + 1) bs) ++ (if t then record (binding b) { value = v } ∷ in_scope (take i bs) else binding b ∷ assigned x v
-        (in_scope (take i bs)))) s
+    (in_scope (take i bs)))) s
     ∙ sym (append_assoc (in_scope (drop (i + 1) bs)) (binding b ∷ []) (assigned x v (in_scope (take i bs))))
     ∙ ap (λ y. y ++ assigned x v (in_scope (take i bs))) (sym (ap in_scope d ∙ oldest_of binding b (drop (i + 1) bs)))
 
@@ -51,4 +50,4 @@ assigned_here x v bs i j b c h lt e f g s p =
     ∙ ap (λ k. in_scope (drop k bs) ++ assigned x v (in_scope (take k bs))) (sym h)
     ∙ ap (λ y. in_scope (drop (i + 1) bs) ++ assigned x v y) (newest binding bs i b (omega arith) e)
     ∙ ap (λ t. in_scope (drop (i + 1) bs) ++ (if t then record (binding b) { value = v } ∷ in_scope (take i bs) else binding b ∷ assigned x v
-        (in_scope (take i bs)))) s)
+    (in_scope (take i bs)))) s)

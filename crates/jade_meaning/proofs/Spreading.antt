@@ -1,11 +1,10 @@
 -- A specification by its objects and the same by object number have the same rights, and cover the same.
-use Rattle.std.proofs.Common.{◌≡◌, ℕ, zero, suc, ◌+◌, ◌<◌, Bool, true, false, ◌&&◌, List, [], ◌∷◌, map, length, refl, sym, ap, subst, ◌∙◌, arith}
-use Rattle.std.specs.Prelude.{slice_index_or}
+use Rattle.std.proofs.Common.{◌≡◌, ℕ, zero, suc, ◌+◌, ◌<◌, Bool, true, false, ◌&&◌, List, map, length, refl, sym, ap, subst, ◌∙◌, arith}
 use Rattle.jade_base.specs.declared.place.ObjectId.{ObjectId}
 use Rattle.jade_base.specs.declared.rights.Rights.{Rights}
-use Rattle.jade_base.specs.Rights.{no_rights, covered}
+use Rattle.jade_base.specs.Rights.{covered}
 use Rattle.jade_base.specs.Specification.{rights_in}
-use Rattle.jade_meaning.specs.Specification.{Specification, rights_on, numbers, all_covered, covers}
+use Rattle.jade_meaning.specs.Specification.{Specification, rights_on, numbers, all_covered}
 use Rattle.jade_meaning.specs.Spread.{spread, SpreadAgrees}
 
 on_number : (f : ℕ → Rights) (i n k : ℕ) → k < n → rights_on (map f (numbers i n)) k ≡ f (i + k)
@@ -65,11 +64,11 @@ module _ (n : ℕ) (parent child : List (ObjectId × Rights)) where
     same = same_in parent;
     if_covers = λ h o lt.
         let all : all_covered (spread n parent) (spread n child) (numbers 0 n) ≡ true =
-            ap (all_covered (spread n parent) (spread n child)) (sym counted) ∙ h in
+        ap (all_covered (spread n parent) (spread n child)) (sym counted) ∙ h in
         let e : 0 + o ≡ o = omega arith in
         sym (rewritten o lt) ∙ subst (CoveredOn (spread n parent) (spread n child)) e (each_of (spread n parent) (spread n child) 0 n o all lt);
     if_covered = λ h.
         ap (all_covered (spread n parent) (spread n child)) counted
         ∙ all_of (spread n parent) (spread n child) 0 n (λ k lt.
-            let e : k ≡ 0 + k = omega arith in subst (CoveredOn (spread n parent) (spread n child)) e (rewritten k lt ∙ h k lt));
+        let e : k ≡ 0 + k = omega arith in subst (CoveredOn (spread n parent) (spread n child)) e (rewritten k lt ∙ h k lt));
   }

@@ -1,6 +1,35 @@
 -- A run that stops where the answer is known has the answer of the serial run.
-use Rattle.std.proofs.Common.{◌≡◌, ℕ, zero, suc, ◌+◌, ◌-◌, ◌<◌, ◌≤◌, Bool, true, false, ◌&&◌, List, [], ◌∷◌, ◌++◌, map, refl, sym, ap, ◌∙◌, subst, Option, Some,
-    None, arith, append-nil, append_assoc, add-zero}
+use Rattle.std.proofs.Common.{
+  ◌≡◌,
+  ℕ,
+  zero,
+  suc,
+  ◌+◌,
+  ◌-◌,
+  ◌<◌,
+  ◌≤◌,
+  Bool,
+  true,
+  false,
+  ◌&&◌,
+  List,
+  [],
+  ◌∷◌,
+  ◌++◌,
+  map,
+  refl,
+  sym,
+  ap,
+  ◌∙◌,
+  subst,
+  Option,
+  Some,
+  None,
+  arith,
+  append-nil,
+  append_assoc,
+  add-zero,
+}
 use Rattle.std.specs.Prelude.{ℤ, nat_eq, nat_lt, if◌then◌else◌}
 use Rattle.std.specs.declared.cmp.Ordering.{Ordering}
 use Rattle.std.specs.declared.cmp.Ordering.TheVariants.{Less, Equal, Greater}
@@ -16,12 +45,56 @@ use Rattle.jade_syntax.specs.Abstract.{AbstractProgram}
 use Rattle.jade_syntax.specs.Objects.{sizes}
 use Rattle.jade_meaning.specs.Course.{Course, Reads, Writes, Steps, Creates, Changes, Ends, root_course, limit_blame}
 use Rattle.jade_meaning.specs.Talk.{Task}
-use Rattle.jade_meaning.specs.Serial.{Mark, Path, Store, Deed, DidRead, DidWrite, DidCreate, DidEnd, serial, own, under, after, cell, with_cell, done_to, zeros,
-    Part, parts, part_of_deed, serial_run}
+use Rattle.jade_meaning.specs.Serial.{
+  Mark,
+  Path,
+  Store,
+  Deed,
+  DidRead,
+  DidWrite,
+  DidCreate,
+  DidEnd,
+  serial,
+  own,
+  under,
+  after,
+  cell,
+  with_cell,
+  done_to,
+  zeros,
+  Part,
+  parts,
+  part_of_deed,
+  serial_run,
+}
 use Rattle.jade_meaning.specs.Laws.{Every, child_path}
 use Rattle.jade_base.specs.Places.{is_before, path_order}
-use Rattle.jade_meaning.specs.Answer.{Answer, Faulted, Cells, key, first_fault, limit_place, blame_of, decided, Run, Stopped, Through, noted, noted_all,
-    then_on, stopping, run_answer, run_marks, accesses, access_deed, filed, by_key, parts_by_key, PartsStandByKey, StoppingAgrees}
+use Rattle.jade_meaning.specs.Answer.{
+  Answer,
+  Faulted,
+  Cells,
+  key,
+  first_fault,
+  limit_place,
+  blame_of,
+  decided,
+  Run,
+  Stopped,
+  Through,
+  noted,
+  noted_all,
+  then_on,
+  stopping,
+  run_answer,
+  run_marks,
+  accesses,
+  access_deed,
+  filed,
+  by_key,
+  parts_by_key,
+  PartsStandByKey,
+  StoppingAgrees,
+}
 
 -- going through the parts: what is left of the limit, or where it ends
 data Scan : Type 0 where
@@ -149,8 +222,8 @@ parts_both : (k left : ℕ) (inner rest : List Mark) → scan left (parts (map (
     (λ l. scan l (parts rest))
 parts_both k left inner rest =
     ap (scan left) (filter_map-append _ (map (under k) inner) rest) ∙ scan_append left (parts (map (under k) inner)) (parts rest)
-        ∙ ap (λ ps. next (scan left ps) (λ l. scan l (parts rest))) (parts_under k inner) ∙ ap (λ s. next s (λ l. scan l (parts rest)))
-        (scan_map k left (parts inner))
+    ∙ ap (λ ps. next (scan left ps) (λ l. scan l (parts rest))) (parts_under k inner) ∙ ap (λ s. next s (λ l. scan l (parts rest)))
+    (scan_map k left (parts inner))
 
 accesses_both : (k : ℕ) (inner rest : List Mark) → accesses (map (under k) inner ++ rest) ≡ map (under k) (accesses inner) ++ accesses rest
 accesses_both k inner rest =
@@ -158,20 +231,31 @@ accesses_both k inner rest =
 
 both_fit : (r : Run) (k : ℕ) (inner rest : List Mark) (left less : ℕ) (ns : List Mark) → scan left (parts inner) ≡ Ran less → accesses inner ≡ ns
     → Fits r rest less → Fits (noted_all (map (under k) ns) r) (map (under k) inner ++ rest) left
-both_fit (Stopped p b xs) k inner rest left less ns e f h =
-    (parts_both k left inner rest ∙ ap (λ s. next (scan_under k s) (λ l. scan l (parts rest))) e
-        ∙ h.0, (h.1.0, accesses_both k inner rest ∙ ap (λ x. map (under k) x ++ accesses rest) f ∙ ap (λ x. map (under k) ns ++ x) h.1.1
-        ∙ sym (append_assoc (map (under k) ns) xs h.1.0)))
-both_fit (Through l xs) k inner rest left less ns e f h =
-    (parts_both k left inner rest ∙ ap (λ s. next (scan_under k s) (λ l. scan l (parts rest))) e ∙ h.0, accesses_both k inner rest
-        ∙ ap (λ x. map (under k) x ++ accesses rest) f ∙ ap (λ x. map (under k) ns ++ x) h.1)
+both_fit (Stopped p b xs) k inner rest left less ns e f h = (
+  parts_both k left inner rest ∙ ap (λ s. next (scan_under k s) (λ l. scan l (parts rest))) e
+      ∙ h.0,
+  (
+    h.1.0,
+    accesses_both k inner rest ∙ ap (λ x. map (under k) x ++ accesses rest) f ∙ ap (λ x. map (under k) ns ++ x) h.1.1
+        ∙ sym (append_assoc (map (under k) ns) xs h.1.0),
+  ),
+)
+both_fit (Through l xs) k inner rest left less ns e f h = (
+  parts_both k left inner rest ∙ ap (λ s. next (scan_under k s) (λ l. scan l (parts rest))) e ∙ h.0,
+  accesses_both k inner rest
+      ∙ ap (λ x. map (under k) x ++ accesses rest) f ∙ ap (λ x. map (under k) ns ++ x) h.1,
+)
 
 child_fits : (r : Run) (k : ℕ) (inner rest : List Mark) (left : ℕ) (on : ℕ → List Mark → Run) → Fits r inner left
     → ((less : ℕ) (ns : List Mark) → accesses inner ≡ ns → Fits (on less ns) rest less) → Fits (then_on k r on) (map (under k) inner ++ rest) left
-child_fits (Stopped p b ns) k inner rest left on h g =
-    (parts_both k left inner rest ∙ ap (λ s. next (scan_under k s) (λ l. scan l (parts rest))) h.0,
-        (map (under k) h.1.0 ++ accesses rest, accesses_both k inner rest ∙ ap (λ x. map (under k) x ++ accesses rest) h.1.1
-        ∙ ap (λ x. x ++ accesses rest) (map-append (under k) ns h.1.0) ∙ append_assoc (map (under k) ns) (map (under k) h.1.0) (accesses rest)))
+child_fits (Stopped p b ns) k inner rest left on h g = (
+  parts_both k left inner rest ∙ ap (λ s. next (scan_under k s) (λ l. scan l (parts rest))) h.0,
+  (
+    map (under k) h.1.0 ++ accesses rest,
+    accesses_both k inner rest ∙ ap (λ x. map (under k) x ++ accesses rest) h.1.1
+        ∙ ap (λ x. x ++ accesses rest) (map-append (under k) ns h.1.0) ∙ append_assoc (map (under k) ns) (map (under k) h.1.0) (accesses rest),
+  ),
+)
 child_fits (Through less ns) k inner rest left on h g = both_fit (on less ns) k inner rest left less ns h.0 h.1 (g less ns h.1)
 
 -- where more steps than the limit are begun, the part ends the scan
@@ -181,7 +265,7 @@ beyond (Writes o c v on) k n left store lt = beyond on k n left (with_cell store
 beyond (Steps on) k n left store lt = beyond on k (suc n) left store (omega arith)
 beyond (Creates child body on) k n left store lt =
     ap (λ t. next (if t then Halted [] limit_blame else Ran (left - n))
-        (λ l. scan l (parts (map (under k) (serial body 0 0 store) ++ serial on (suc k) 0 (after (serial body 0 0 store) store))))) (lt-ltb left n lt)
+    (λ l. scan l (parts (map (under k) (serial body 0 0 store) ++ serial on (suc k) 0 (after (serial body 0 0 store) store))))) (lt-ltb left n lt)
 beyond (Changes new on) k n left store lt = beyond on k n left store lt
 beyond (Ends b) k n left store lt =
     ap (λ t. next (if t then Halted [] limit_blame else by_blame b [] (left - n)) (λ l. Ran l)) (lt-ltb left n lt)
@@ -200,10 +284,10 @@ fits (Creates child body on) k n left store =
     let first = subst (Fits (stopping body 0 left store) inner) (add-zero left) (fits body 0 0 left store) in
     let st = after inner store in
     let then_fits = λ (less : ℕ) (ns : List Mark) (e : accesses inner ≡ ns). subst (λ s. Fits (stopping on (suc k) less s) (serial on (suc k) 0 st) less)
-        (sym (ap (λ x. after x store) (sym e) ∙ accesses_after inner store)) (subst (Fits (stopping on (suc k) less st) (serial on (suc k) 0 st))
-        (add-zero less) (fits on (suc k) 0 less st)) in
+    (sym (ap (λ x. after x store) (sym e) ∙ accesses_after inner store)) (subst (Fits (stopping on (suc k) less st) (serial on (suc k) 0 st))
+    (add-zero less) (fits on (suc k) 0 less st)) in
     made_fits _ k n t _ left (child_fits (stopping body 0 left store) k inner _ left (λ less ms. stopping on (suc k) less (after ms store)) first
-        (λ less ns e. then_fits less ns e))
+    (λ less ns e. then_fits less ns e))
 fits (Changes new on) k n left store = fits on k n left store
 fits (Ends None) k n left store = (part_in_front left k n [], refl)
 fits (Ends (Some b)) k n left store =
@@ -248,9 +332,11 @@ lie_from (Steps on) k n store = lie_from on k (suc n) store
 lie_from (Creates child body on) k n store =
     let inner = serial body 0 0 store in
     let rest = serial on (suc k) 0 (after inner store) in
-    let later = every_with (LiesFrom (suc k)) (LiesFrom k) (λ p h. omega arith) _ (lie_from on (suc k) 0 (after inner store)) in
-    (omega arith, subst (Every (LiesFrom k)) (sym (parts_both_are k inner rest))
-        (every_append (LiesFrom k) _ _ (every_map (LiesFrom k) (part_under k) (parts inner) (every_true _ (λ p. omega arith) (parts inner))) later))
+    let later = every_with (LiesFrom (suc k)) (LiesFrom k) (λ p h. omega arith) _ (lie_from on (suc k) 0 (after inner store)) in (
+      omega arith,
+      subst (Every (LiesFrom k)) (sym (parts_both_are k inner rest))
+          (every_append (LiesFrom k) _ _ (every_map (LiesFrom k) (part_under k) (parts inner) (every_true _ (λ p. omega arith) (parts inner))) later),
+    )
 lie_from (Changes new on) k n store = lie_from on k n store
 lie_from (Ends b) k n store = (omega arith, tt)
 
@@ -291,9 +377,10 @@ before_later k p q h = go q.path h
 
 ascend_under : (k : ℕ) (ps : List Part) → KeysAscend ps → KeysAscend (map (part_under k) ps)
 ascend_under k [] h = tt
-ascend_under k (p ∷ ps) h =
-    (every_map _ (part_under k) ps (every_with (λ (q : Part). is_before (key p) (key q) ≡ true) _ (λ q e. before_same k (key p) (key q) ∙ e) ps h.0),
-        ascend_under k ps h.1)
+ascend_under k (p ∷ ps) h = (
+  every_map _ (part_under k) ps (every_with (λ (q : Part). is_before (key p) (key q) ≡ true) _ (λ q e. before_same k (key p) (key q) ∙ e) ps h.0),
+  ascend_under k ps h.1,
+)
 
 ascend_append : (k : ℕ) (ps qs : List Part) → KeysAscend ps → KeysAscend qs → Every (λ p. Every (λ q. is_before (key p) (key q) ≡ true) qs) ps
     → KeysAscend (ps ++ qs)
@@ -310,12 +397,12 @@ ascend (Creates child body on) k n store =
     let late = lie_from on (suc k) 0 (after inner store) in
     let inside = map (part_under k) (parts inner) in
     let own_before : Every (λ (q : Part). is_before (k ∷ []) (key q) ≡ true) (inside ++ parts rest) =
-        every_append _ inside (parts rest) (every_map _ (part_under k) (parts inner) (every_true _ (λ q. before_longer k q.path q.children) (parts inner)))
-        (every_with (LiesFrom (suc k)) _ (λ q h. before_later k [] q h) (parts rest) late) in
+    every_append _ inside (parts rest) (every_map _ (part_under k) (parts inner) (every_true _ (λ q. before_longer k q.path q.children) (parts inner)))
+    (every_with (LiesFrom (suc k)) _ (λ q h. before_later k [] q h) (parts rest) late) in
     let all_before : Every (λ (p : Part). Every (λ (q : Part). is_before (key p) (key q) ≡ true) (parts rest)) inside = every_map _ (part_under k) (parts inner)
-        (every_true _ (λ p. every_with (LiesFrom (suc k)) _ (λ q h. before_later k (key p) q h) (parts rest) late) (parts inner)) in
+    (every_true _ (λ p. every_with (LiesFrom (suc k)) _ (λ q h. before_later k (key p) q h) (parts rest) late) (parts inner)) in
     let both = ascend_append k inside (parts rest) (ascend_under k (parts inner) (ascend body 0 0 store)) (ascend on (suc k) 0 (after inner store))
-        all_before in
+    all_before in
     let e = parts_both_are k inner rest in
     (subst (Every (λ (q : Part). is_before (k ∷ []) (key q) ≡ true)) (sym e) own_before, subst KeysAscend (sym e) both)
 ascend (Changes new on) k n store = ascend on k n store
@@ -451,8 +538,8 @@ root_scan (Stopped p b ns) ms limit store h =
     sym (ap (λ s. scan_answer s (after (map (under 0) ms) store)) (scan_root ms limit (Halted p b) h.0))
 root_scan (Through less ns) ms limit store h =
     ap (λ x. Cells (after x store)) (append-nil (map (under 0) ns) ∙ ap (map (under 0)) (sym h.1) ∙ sym (accesses_under 0 ms))
-        ∙ ap Cells (accesses_after (map (under 0) ms) store)
-        ∙ sym (ap (λ s. scan_answer s (after (map (under 0) ms) store)) (scan_root ms limit (Ran less) h.0))
+    ∙ ap Cells (accesses_after (map (under 0) ms) store)
+    ∙ sym (ap (λ s. scan_answer s (after (map (under 0) ms) store)) (scan_root ms limit (Ran less) h.0))
 
 root_first : (r : Run) (ms : List Mark) (limit : ℕ) → Fits r ms limit → (rest : List Mark) × (accesses (map (under 0) ms) ≡ run_marks (at_root r) ++ rest)
 root_first (Stopped p b ns) ms limit h =

@@ -1,5 +1,5 @@
 -- Where the cells are those of a store, an expression comes to what it is worth there.
-use Rattle.std.proofs.Common.{◌≡◌, ℕ, Bool, true, false, List, refl, ap, sym, ◌∙◌, Some, None, Result, Ok, Err}
+use Rattle.std.proofs.Common.{◌≡◌, ℕ, Bool, true, false, List, refl, ap, ◌∙◌, Result, Ok, Err}
 use Rattle.std.specs.Prelude.{if◌then◌else◌}
 use Rattle.jade_base.specs.declared.place.Pos.{Pos}
 use Rattle.jade_base.specs.declared.report.FaultKind.TheVariants.{Index, Right as RightFault}
@@ -45,10 +45,10 @@ module _ (items : List Item) (env : Environment) (spec : Specification) (l : Sto
     evaluate_is (Group e) n = evaluate_is e n
     evaluate_is (Signed sign at e) n =
         bind_evaluated (evaluate items env spec (Stored l) e n) (worth items env spec l e) (λ v k. kept (blamed (signed sign v) at) k)
-            (λ v. blamed (signed sign v) at) n (evaluate_is e n) (λ v. refl)
+        (λ v. blamed (signed sign v) at) n (evaluate_is e n) (λ v. refl)
     evaluate_is (Chain e links) n =
         bind_evaluated (evaluate items env spec (Stored l) e n) (worth items env spec l e) (λ v k. evaluate_links items env spec (Stored l) links v k)
-            (λ v. linked items env spec l links v) n (evaluate_is e n) (λ v. links_is links v n)
+        (λ v. linked items env spec l links v) n (evaluate_is e n) (λ v. links_is links v n)
     evaluate_is (Cell o e) n =
         let T : ℕ → Evaluation Value = λ k. evaluate items env spec (Stored l) e k in
         let C : ResolvedObject → ℕ → ℕ → Evaluation Value = λ f c h. evaluate_read spec (Stored l) f.number c (place_of o) h in
@@ -57,11 +57,11 @@ module _ (items : List Item) (env : Environment) (spec : Specification) (l : Sto
         let g : ResolvedObject → Value → ℕ → Evaluation Value = λ f i j. kept (I f i) j >>> C f in
         let q : ResolvedObject → Value → Result Value Blame = λ f i. I f i >>= R f in
         let cells : (f : ResolvedObject) (c : ℕ) → C f c n ≡ kept (R f c) n = λ f c. cell_at (is_immediate (rights_on spec f.number).reads) l f.number c
-            (place_of o) n in
+        (place_of o) n in
         let inner : (f : ResolvedObject) → (T n >>> g f) ≡ kept (worth items env spec l e >>= q f) n = λ f. bind_evaluated (T n) (worth items env spec l e)
-            (g f) (q f) n (evaluate_is e n) (λ i. bind_kept (I f i) (C f) (R f) n (cells f)) in
+        (g f) (q f) n (evaluate_is e n) (λ i. bind_kept (I f i) (C f) (R f) n (cells f)) in
         bind_evaluated (evaluate_object items env spec (Stored l) o n) (located items env spec l o) (λ f k. T k >>> g f) (λ f. worth items env spec l e
-            >>= q f) n (place_is o n) inner
+        >>= q f) n (place_is o n) inner
 
     links_is : (links : Links) (v : Value) (n : ℕ) → evaluate_links items env spec (Stored l) links v n ≡ kept (linked items env spec l links v) n
     links_is Last v n = refl
@@ -70,14 +70,14 @@ module _ (items : List Item) (env : Environment) (spec : Specification) (l : Sto
         let G : Value → Result Value Blame = λ w. blamed (operated op v w) at >>= λ u. linked items env spec l links u in
         picked_at (decides op v) (Got v n) (evaluate items env spec (Stored l) e n >>> F) (Ok v) (worth items env spec l e >>= G) n refl
         (bind_evaluated (evaluate items env spec (Stored l) e n) (worth items env spec l e) F G n (evaluate_is e n)
-            (λ w. bind_kept (blamed (operated op v w) at) (λ u j. evaluate_links items env spec (Stored l) links u j) (λ u. linked items env spec l links u) n
-            (λ u. links_is links u n)))
+        (λ w. bind_kept (blamed (operated op v w) at) (λ u j. evaluate_links items env spec (Stored l) links u j) (λ u. linked items env spec l links u) n
+        (λ u. links_is links u n)))
 
     pub place_is : (o : Place) (n : ℕ) → evaluate_object items env spec (Stored l) o n ≡ kept (located items env spec l o) n
     place_is (Alone x at) n = refl
     place_is (Member x at e) n =
         bind_evaluated (evaluate items env spec (Stored l) e n) (worth items env spec l e) (λ i k. kept (member_of (range_from 0 x items) (whole i) at) k)
-            (λ i. member_of (range_from 0 x items) (whole i) at) n (evaluate_is e n) (λ i. refl)
+        (λ i. member_of (range_from 0 x items) (whole i) at) n (evaluate_is e n) (λ i. refl)
 
 -- what code has evaluated is what it is worth
 pub got_is : {A : Type 0} (w : Result A Blame) (v : A) (k n : ℕ) → Got v k ≡ kept w n → Ok v ≡ w

@@ -1,6 +1,30 @@
 -- Each task of the serial run says by itself what it does there.
-use Rattle.std.proofs.Common.{◌≡◌, ℕ, suc, ◌<◌, ◌≤◌, Bool, true, false, ◌&&◌, List, [], ◌∷◌, ◌++◌, map, refl, sym, ap, ◌∙◌, subst, Option, Some, None, arith,
-    append-nil}
+use Rattle.std.proofs.Common.{
+  ◌≡◌,
+  ℕ,
+  suc,
+  ◌<◌,
+  ◌≤◌,
+  Bool,
+  true,
+  false,
+  ◌&&◌,
+  List,
+  [],
+  ◌∷◌,
+  ◌++◌,
+  map,
+  refl,
+  sym,
+  ap,
+  ◌∙◌,
+  subst,
+  Option,
+  Some,
+  None,
+  arith,
+  append-nil,
+}
 use Rattle.std.specs.Prelude.{slice_get, zero, ℤ, nat_eq, is_none, if◌then◌else◌}
 use Rattle.std.specs.List.{filter_map, cons_option, flat_map}
 use Rattle.std.proofs.lemmas.List.Elements.{filter_map-append}
@@ -12,12 +36,74 @@ use Rattle.jade_meaning.specs.Specification.{Specification, rights_on, objects}
 use Rattle.jade_syntax.specs.Abstract.{AbstractProgram}
 use Rattle.jade_syntax.specs.Objects.{sizes}
 use Rattle.jade_meaning.specs.Course.{Course, Reads, Writes, Steps, Creates, Changes, Ends, root_course}
-use Rattle.jade_meaning.specs.Talk.{Task, Event, Enter, Enroll, TouchRead, TouchWrite, Wants, Give, Leave, talk, events, Holds, held, when, take_in, first_take,
-    touched, start_holds, start_takes, creation_gives, enters, kept, change_gives, shift, shifts, taken_anew, change_takes, changed, end_gives, end_leaves}
-use Rattle.jade_meaning.specs.Serial.{Mark, Path, Store, Deed, DidRead, DidWrite, DidCreate, DidEnd, serial, own, under, after, cell, with_cell, deeds_at,
-    read_of, same_path, zeros}
-use Rattle.jade_meaning.specs.Laws.{deed_of, deeds, ends_with_resign, IsOver, DoesIts, Every, ChildDoesIts, child_path, root_task, TalkFollowsSerial, Extends,
-    same_events, answered, one_more}
+use Rattle.jade_meaning.specs.Talk.{
+  Task,
+  Event,
+  Enter,
+  Enroll,
+  TouchRead,
+  TouchWrite,
+  Wants,
+  Give,
+  Leave,
+  talk,
+  events,
+  Holds,
+  held,
+  when,
+  take_in,
+  first_take,
+  touched,
+  start_holds,
+  start_takes,
+  creation_gives,
+  enters,
+  kept,
+  change_gives,
+  shift,
+  shifts,
+  taken_anew,
+  change_takes,
+  changed,
+  end_gives,
+  end_leaves,
+}
+use Rattle.jade_meaning.specs.Serial.{
+  Mark,
+  Path,
+  Store,
+  Deed,
+  DidRead,
+  DidWrite,
+  DidCreate,
+  DidEnd,
+  serial,
+  own,
+  under,
+  after,
+  cell,
+  with_cell,
+  deeds_at,
+  read_of,
+  same_path,
+  zeros,
+}
+use Rattle.jade_meaning.specs.Laws.{
+  deed_of,
+  deeds,
+  ends_with_resign,
+  IsOver,
+  DoesIts,
+  Every,
+  ChildDoesIts,
+  child_path,
+  root_task,
+  TalkFollowsSerial,
+  Extends,
+  same_events,
+  answered,
+  one_more,
+}
 
 -- events of which no deed tells
 abbrev IsQuiet : List Event → Type 0
@@ -54,7 +140,7 @@ quiet_starts spec = quiet_all _ (λ o. quiet_take (mode_of (rights_on spec o)) o
 quiet_creation : (child : Specification) (h : Holds) → IsQuiet (creation_gives child h ++ enters child)
 quiet_creation child h =
     quiet_both (creation_gives child h) (enters child) (quiet_all _ (λ o. quiet_when _ (Give o) refl) (objects child))
-        (quiet_all _ (λ o. quiet_when _ (Enter o (rights_on child o)) refl) (objects child))
+    (quiet_all _ (λ o. quiet_when _ (Enter o (rights_on child o)) refl) (objects child))
 
 quiet_shift : (old new : Rights) (o : ℕ) → IsQuiet (shift old new o)
 quiet_shift old new o = quiet_if (same_rights old new) _ _ refl (quiet_if (has_rights new) _ _ refl refl)
@@ -62,13 +148,13 @@ quiet_shift old new o = quiet_if (same_rights old new) _ _ refl (quiet_if (has_r
 quiet_change : (old new : Specification) (h : Holds) → IsQuiet (change_gives new h ++ shifts old new ++ change_takes old new h)
 quiet_change old new h =
     quiet_both (change_gives new h ++ shifts old new) (change_takes old new h) (quiet_both (change_gives new h) (shifts old new)
-        (quiet_all _ (λ o. quiet_when _ (Give o) refl) (objects new)) (quiet_all _ (λ o. quiet_shift (rights_on old o) (rights_on new o) o) (objects new)))
-        (quiet_all _ (λ o. quiet_if (taken_anew old new h o) _ _ (quiet_take (mode_of (rights_on new o)) o) refl) (objects new))
+    (quiet_all _ (λ o. quiet_when _ (Give o) refl) (objects new)) (quiet_all _ (λ o. quiet_shift (rights_on old o) (rights_on new o) o) (objects new)))
+    (quiet_all _ (λ o. quiet_if (taken_anew old new h o) _ _ (quiet_take (mode_of (rights_on new o)) o) refl) (objects new))
 
 quiet_end : (spec : Specification) (h : Holds) → IsQuiet (end_gives spec h ++ end_leaves spec)
 quiet_end spec h =
     quiet_both (end_gives spec h) (end_leaves spec) (quiet_all _ (λ o. quiet_when _ (Give o) refl) (objects spec))
-        (quiet_all _ (λ o. quiet_when _ (Leave o) refl) (objects spec))
+    (quiet_all _ (λ o. quiet_when _ (Leave o) refl) (objects spec))
 
 -- marks of a child are none of the task's own
 not_own : (k : ℕ) (ms ns : List Mark) → deeds_at [] (map (under k) ms ++ ns) ≡ deeds_at [] ns
@@ -90,7 +176,7 @@ says (Creates child body on) k n store spec h =
     let e = not_own k inner rest in
     let same = says on (suc k) 0 (after inner store) spec (kept child h) in
     quiet_front (creation_gives child h ++ enters child) _ (quiet_creation child h)
-        ∙ ap (λ ds. DidCreate t n ∷ ds) (subst (λ ds. deeds (events on spec (kept child h) 0 (filter_map read_of ds)) ≡ ds) (sym e) same)
+    ∙ ap (λ ds. DidCreate t n ∷ ds) (subst (λ ds. deeds (events on spec (kept child h) 0 (filter_map read_of ds)) ≡ ds) (sym e) same)
 says (Steps on) k n store spec h = says on k (suc n) store spec h
 says (Changes new on) k n store spec h =
     quiet_front (change_gives new h ++ shifts spec new ++ change_takes spec new h) _ (quiet_change spec new h) ∙ says on k n store new (changed spec new h)
@@ -118,7 +204,7 @@ finishes (Creates child body on) k n store spec h =
     let rest = serial on (suc k) 0 (after inner store) in
     let t : Task = record { spec = child; course = body } in
     let go = subst (λ ds. IsOver (events on spec (kept child h) 0 (filter_map read_of ds))) (sym (not_own k inner rest))
-        (finishes on (suc k) 0 (after inner store) spec (kept child h)) in
+    (finishes on (suc k) 0 (after inner store) spec (kept child h)) in
     ends_on (creation_gives child h ++ enters child) (ends_on (Enroll t n ∷ []) go)
 finishes (Steps on) k n store spec h = finishes on k (suc n) store spec h
 finishes (Changes new on) k n store spec h =
@@ -162,7 +248,7 @@ lie_from (Writes o c v on) k n store = (omega arith, lie_from on k n (with_cell 
 lie_from (Creates child body on) k n store =
     let inner = serial body 0 0 store in
     let later = every_with (λ (m : Mark). suc k ≤ first_of m.path m.children) (λ (m : Mark). k ≤ first_of m.path m.children) (λ m h. omega arith) _
-        (lie_from on (suc k) 0 (after inner store)) in
+    (lie_from on (suc k) 0 (after inner store)) in
     (omega arith, every_append _ (map (under k) inner) _ (every_map _ (under k) inner (every_true _ (λ m. omega arith) inner)) later)
 lie_from (Steps on) k n store = lie_from on k (suc n) store
 lie_from (Changes new on) k n store = lie_from on k n store
@@ -191,7 +277,7 @@ below : (k : ℕ) (q : Path) (ms : List Mark) → deeds_at (k ∷ q) (map (under
 below k q [] = refl
 below k q (m ∷ ms) =
     ap (λ b. cons_option (if b && same_path m.path q then Some m.deed else None) (deeds_at (k ∷ q) (map (under k) ms))) (same_number k)
-        ∙ ap (λ ds. cons_option (seen m.path m.deed q) ds) (below k q ms)
+    ∙ ap (λ ds. cons_option (seen m.path m.deed q) ds) (below k q ms)
 
 -- and no other's
 beside : (k j : ℕ) (q : Path) (ms : List Mark) → nat_eq k j ≡ false → deeds_at (j ∷ q) (map (under k) ms) ≡ []
@@ -216,7 +302,7 @@ ChildrenDo ms ns = Every (λ m. ChildDoesIts ms (child_path m.path m.children) m
 one_more_own : (k : ℕ) (d : Deed) (ms : List Mark) → ChildrenDo ms ms → ChildrenDo (own k d ∷ ms) ms
 one_more_own k d ms h =
     every_with (λ (m : Mark). ChildDoesIts ms (child_path m.path m.children) m.deed) _ (λ m g. moved ms (own k d ∷ ms) (child_path m.path m.children)
-        (child_path m.path m.children) m.deed (longer m.path m.children d (deeds_at (child_path m.path m.children) ms)) g) ms h
+    (child_path m.path m.children) m.deed (longer m.path m.children d (deeds_at (child_path m.path m.children) ms)) g) ms h
 
 -- marks of another child in front do not matter to a child that comes later
 past_other : (k : ℕ) (inner rest : List Mark) (p : Path) (part : ℕ) → suc k ≤ first_of p part → deeds_at (child_path p part) (map (under k) inner ++ rest)
@@ -225,14 +311,14 @@ past_other k inner rest [] part le =
     filter_map-append _ (map (under k) inner) rest ∙ ap (λ ds. ds ++ deeds_at (part ∷ []) rest) (beside k part [] inner (ne_eqb k part (λ e. omega arith)))
 past_other k inner rest (j ∷ p) part le =
     filter_map-append _ (map (under k) inner) rest ∙ ap (λ ds. ds ++ deeds_at (child_path (j ∷ p) part) rest)
-        (beside k j (child_path p part) inner (ne_eqb k j (λ e. omega arith)))
+    (beside k j (child_path p part) inner (ne_eqb k j (λ e. omega arith)))
 
 -- and those of what comes later do not matter to the child
 before_other : (k : ℕ) (q : Path) (inner rest : List Mark) → Every (λ m. suc k ≤ first_of m.path m.children) rest
     → deeds_at (k ∷ q) (map (under k) inner ++ rest) ≡ deeds_at q inner
 before_other k q inner rest h =
     filter_map-append _ (map (under k) inner) rest ∙ ap (λ ds. deeds_at (k ∷ q) (map (under k) inner) ++ ds) (not_yet rest (suc k) k q (omega arith) h)
-        ∙ append-nil _ ∙ below k q inner
+    ∙ append-nil _ ∙ below k q inner
 
 each : (c : Course) (k n : ℕ) (store : Store) → ChildrenDo (serial c k n store) (serial c k n store)
 each (Reads o c on) k n store = let v = cell store o c in (tt, one_more_own k (DidRead o c v) _ (each (on v) k n store))
@@ -245,12 +331,12 @@ each (Creates child body on) k n store =
     let late = lie_from on (suc k) 0 (after inner store) in
     let first : DoesIts (deeds_at (k ∷ []) both) t = subst (λ ds. DoesIts ds t) (sym (before_other k [] inner rest late)) (does_its t 0 store) in
     let inside = every_map (λ (m : Mark). ChildDoesIts both (child_path m.path m.children) m.deed) (under k) inner
-        (every_with (λ (m : Mark). ChildDoesIts inner (child_path m.path m.children) m.deed) _ (λ m g. moved inner both (child_path m.path m.children)
-        (k ∷ child_path m.path m.children) m.deed (before_other k (child_path m.path m.children) inner rest late) g) inner (each body 0 0 store)) in
+    (every_with (λ (m : Mark). ChildDoesIts inner (child_path m.path m.children) m.deed) _ (λ m g. moved inner both (child_path m.path m.children)
+    (k ∷ child_path m.path m.children) m.deed (before_other k (child_path m.path m.children) inner rest late) g) inner (each body 0 0 store)) in
     let later = every_with (λ (m : Mark). ChildDoesIts rest (child_path m.path m.children) m.deed × (suc k ≤ first_of m.path m.children))
-        (λ (m : Mark). ChildDoesIts both (child_path m.path m.children) m.deed) (λ m g. moved rest both (child_path m.path m.children)
-        (child_path m.path m.children) m.deed (past_other k inner rest m.path m.children g.1) g.0) rest
-        (every_both _ _ rest (each on (suc k) 0 (after inner store)) late) in
+    (λ (m : Mark). ChildDoesIts both (child_path m.path m.children) m.deed) (λ m g. moved rest both (child_path m.path m.children)
+    (child_path m.path m.children) m.deed (past_other k inner rest m.path m.children g.1) g.0) rest
+    (every_both _ _ rest (each on (suc k) 0 (after inner store)) late) in
     (first, one_more_own k (DidCreate t n) both (every_append _ (map (under k) inner) rest inside later))
 each (Steps on) k n store = each on k (suc n) store
 each (Changes new on) k n store = each on k n store

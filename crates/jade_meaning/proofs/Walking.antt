@@ -1,6 +1,33 @@
 -- A task that is walked, event by event.
-use Rattle.std.proofs.Common.{◌≡◌, ℕ, zero, suc, ◌+◌, ◌≤◌, Bool, true, false, List, [], ◌∷◌, ◌++◌, map, length, refl, ap, sym, ◌∙◌, subst, append_assoc, drop,
-    Option, Some, None, ◌<◌, arith, add-one}
+use Rattle.std.proofs.Common.{
+  ◌≡◌,
+  ℕ,
+  zero,
+  suc,
+  ◌+◌,
+  ◌≤◌,
+  true,
+  false,
+  List,
+  [],
+  ◌∷◌,
+  ◌++◌,
+  map,
+  length,
+  refl,
+  ap,
+  sym,
+  ◌∙◌,
+  subst,
+  append_assoc,
+  drop,
+  Option,
+  Some,
+  None,
+  ◌<◌,
+  arith,
+  add-one,
+}
 use Rattle.std.specs.Prelude.{ℤ, slice_get}
 use Rattle.std.proofs.lemmas.List.{drop_all, drop-append-le}
 use Rattle.jade_base.specs.declared.place.ObjectId.{ObjectId}
@@ -23,7 +50,7 @@ use Rattle.jade_meaning.specs.steps.Agreement.{AgreesWithTalk}
 use Rattle.jade_meaning.specs.Walks.{Walk}
 use Rattle.jade_meaning.specs.declared.frames.Newborn.{Newborn}
 use Rattle.jade_syntax.specs.declared.tree.Item.{Item}
-use Rattle.jade_meaning.specs.Walk.{setting_of, begun_as, First, act_of, carried_of, is_answered, Passes, Bears, IsChildOf, task_of, upcoming}
+use Rattle.jade_meaning.specs.Walk.{setting_of, begun_as, First, act_of, carried_of, is_answered, Passes, Bears, IsChildOf, task_of}
 use Rattle.jade_meaning.specs.steps.Walking.{goes_with, read_of, enrolls, creates}
 use Rattle.jade_meaning.proofs.Ending.{talk_closed, last_closes, not_last}
 use Rattle.jade_meaning.proofs.Cells.{drop_at}
@@ -109,7 +136,7 @@ answer_agrees s env spec body answers more done next told t u v st f le m n same
     let c : Course = course_of s answers t.run in
     let X : Course = frames_on s t.run.frames.items (mine_of t.run.task) in
     let course : course_of s more t.run ≡ fed (v ∷ []) c = ap (λ vs. fed (drop t.run.used vs) X) m
-        ∙ ap (λ vs. fed vs X) (drop-append-le t.run.used answers (v ∷ []) le) ∙ fed_append X (drop t.run.used answers) (v ∷ []) in
+    ∙ ap (λ vs. fed vs X) (drop-append-le t.run.used answers (v ∷ []) le) ∙ fed_append X (drop t.run.used answers) (v ∷ []) in
     record {
       known = λ vs.
           let r = reads_next W (drop told t.pending.items) t.stage c t.spec t.holds t.part v st.ready (first_told st (Passes (Some v)) f) vs in
@@ -143,7 +170,7 @@ pass_left s env spec body answers done next told later' t st f n k rd =
       known = λ vs.
           let rest : List Event = later t.stage c t.spec t.holds t.part vs in
           let all : drop done (talk T (answers ++ vs)) ≡ event_of W r.0 ∷ (map (event_of W) r.1 ++ rest) = st.known vs
-              ∙ ap (λ xs. map (event_of W) xs ++ rest) r.2 in
+          ∙ ap (λ xs. map (event_of W) xs ++ rest) r.2 in
           ap (λ k. drop k (talk T (answers ++ vs))) n
           ∙ drop_next done (talk T (answers ++ vs)) (event_of W r.0) (map (event_of W) r.1 ++ rest) all
           ∙ ap (λ xs. map (event_of W) xs ++ rest) (sym (ap (λ j. drop j t.pending.items) k ∙ drop_next told t.pending.items r.0 r.1 r.2));
@@ -176,13 +203,13 @@ not_over s env spec body answers done told later' t st f k rd =
     let c : Course = course_of s answers t.run in
     let r = passes_next W (drop told t.pending.items) t.stage c t.spec t.holds t.part st.ready (first_told st (Passes None) f) in
     let nil : r.1 ≡ [] = sym (ap (λ j. drop j t.pending.items) k ∙ drop_next told t.pending.items r.0 r.1 r.2)
-        ∙ none_left (drop later' t.pending.items) t.stage rd in
+    ∙ none_left (drop later' t.pending.items) t.stage rd in
     not_the_end t.stage (λ e.
-        let one : drop done (talk T answers) ≡ event_of W r.0 ∷ [] =
-            now_known st
-            ∙ ap (λ xs. map (event_of W) xs ++ later t.stage c t.spec t.holds t.part []) (r.2 ∙ ap (λ xs. r.0 ∷ xs) nil)
-            ∙ ap (λ x. event_of W r.0 ∷ later x c t.spec t.holds t.part []) e in
-        not_last W r.0 (subst (λ xs. First xs (Passes None)) one f) (last_closes done (talk T answers) (event_of W r.0) (talk_closed T answers) one))
+    let one : drop done (talk T answers) ≡ event_of W r.0 ∷ [] =
+    now_known st
+    ∙ ap (λ xs. map (event_of W) xs ++ later t.stage c t.spec t.holds t.part []) (r.2 ∙ ap (λ xs. r.0 ∷ xs) nil)
+    ∙ ap (λ x. event_of W r.0 ∷ later x c t.spec t.holds t.part []) e in
+    not_last W r.0 (subst (λ xs. First xs (Passes None)) one f) (last_closes done (talk T answers) (event_of W r.0) (talk_closed T answers) one))
 
 pub pass_on : (s : Setting) (env : Environment) (spec : Specification) (body : List Statement) (answers : List ℤ) (done next told later' : ℕ)
     (t u : Configuration) → AgreesWithTalk s env spec body answers done told t → First (drop done (talk (task_from s env spec body) answers)) (Passes None)
@@ -200,7 +227,7 @@ pass_on s env spec body answers done next told later' t u st f n k rd ov same ru
       known = λ vs.
           let rest : List Event = later t.stage c t.spec t.holds t.part vs in
           let all : drop done (talk T (answers ++ vs)) ≡ event_of W r.0 ∷ (map (event_of W) r.1 ++ rest) = st.known vs
-              ∙ ap (λ xs. map (event_of W) xs ++ rest) r.2 in
+          ∙ ap (λ xs. map (event_of W) xs ++ rest) r.2 in
           ap (λ k. drop k (talk T (answers ++ vs))) n
           ∙ drop_next done (talk T (answers ++ vs)) (event_of W r.0) (map (event_of W) r.1 ++ rest) all
           ∙ ap (λ xs. map (event_of W) xs ++ rest) nil
@@ -256,8 +283,8 @@ is_child v nb items given limit env spec child e a b c d f =
     let body = nb.body.now in
     let same : child ≡ begun_as v.items v.given v.limit nb.scope nb.spec body =
     e ∙ ap (λ x. begun_as x given limit env spec body) a ∙ ap (λ x. begun_as v.items x limit env spec body) b
-        ∙ ap (λ x. begun_as v.items v.given x env spec body) c ∙ ap (λ x. begun_as v.items v.given v.limit x spec body) d
-        ∙ ap (λ x. begun_as v.items v.given v.limit nb.scope x body) f in
+    ∙ ap (λ x. begun_as v.items v.given x env spec body) c ∙ ap (λ x. begun_as v.items v.given v.limit x spec body) d
+    ∙ ap (λ x. begun_as v.items v.given v.limit nb.scope x body) f in
     record {
       task = ap task_of same;
       items = ap (λ (w : Walk). w.items) same;

@@ -1,6 +1,30 @@
 -- What a task goes on to do, as a tree: each read has a branch for each value that may be read.
-use Rattle.std.specs.Prelude.{ℕ, zero, suc, ◌+◌, ◌-◌, Bool, true, false, List, [], ◌∷◌, ◌++◌, length, drop, Option, Some, None, ℤ, pos, ◌+ℤ◌, nat_lt, slice_set,
-    replicate, if◌then◌else◌}
+use Rattle.std.specs.Prelude.{
+  ℕ,
+  zero,
+  suc,
+  ◌+◌,
+  ◌-◌,
+  Bool,
+  true,
+  false,
+  List,
+  [],
+  ◌∷◌,
+  ◌++◌,
+  length,
+  drop,
+  Option,
+  Some,
+  None,
+  ℤ,
+  pos,
+  ◌+ℤ◌,
+  nat_lt,
+  slice_set,
+  replicate,
+  if◌then◌else◌,
+}
 use Rattle.jade_base.specs.declared.place.Pos.{Pos}
 use Rattle.jade_base.specs.declared.report.FaultKind.{FaultKind}
 use Rattle.jade_base.specs.declared.report.FaultKind.TheVariants.{Index, Object, Right as RightFault, Cover, Change, Limit}
@@ -10,8 +34,37 @@ use Rattle.jade_base.specs.Rights.{no_rights, both_rights, is_immediate, join}
 use Rattle.jade_syntax.specs.declared.tree.Item.{Item}
 use Rattle.jade_syntax.specs.declared.tree.Item.TheVariants.{Input, Single, Family}
 use Rattle.jade_syntax.specs.declared.tree.DeclareWord.{DeclareWord}
-use Rattle.jade_syntax.specs.Abstract.{Name, Expression, Whole, Truth, Variable, Group, Signed, Chain, Cell, Links, Last, Link, Place, Alone, Member, Action,
-    Local, Assign, Store, If, IfElse, For, Withonly, With, Declare, Actions, Done, Then, AbstractProgram}
+use Rattle.jade_syntax.specs.Abstract.{
+  Name,
+  Expression,
+  Whole,
+  Truth,
+  Variable,
+  Group,
+  Signed,
+  Chain,
+  Cell,
+  Links,
+  Last,
+  Link,
+  Place,
+  Alone,
+  Member,
+  Action,
+  Local,
+  Assign,
+  Store,
+  If,
+  IfElse,
+  For,
+  Withonly,
+  With,
+  Declare,
+  Actions,
+  Done,
+  Then,
+  AbstractProgram,
+}
 use Rattle.jade_syntax.specs.Numbering.{same_name}
 use Rattle.jade_syntax.specs.Objects.{amount, sizes}
 use Rattle.jade_meaning.specs.declared.values.Value.{Value}
@@ -195,7 +248,7 @@ abbrev pub create : Setting → Pos → List Name → On → On → On
 create s at names body on m =
     let child = fitted m.spec (drafted m.draft) in
     choose (covers m.spec child) (λ n. Creates child (body (child_start (copied names n.env ++ s.given) child)) (on (record n { draft = NoDraft })))
-        (fault Cover at) m
+    (fault Cover at) m
 
 -- the task's own specification as the section of a `with` leaves it
 abbrev pub working : Draft → Specification → Specification

@@ -1,7 +1,5 @@
 -- A task that tells its events one after another, and what it is seen as.
-use Rattle.std.specs.Prelude.{◌≡◌, ℕ, suc, ◌+◌, Bool, true, false, List, [], ◌∷◌, ◌++◌, map, length, drop, Option, Some, None, is_some, is_none, ℤ, replicate}
-use Rattle.jade_base.specs.declared.place.ObjectId.{ObjectId}
-use Rattle.jade_base.specs.declared.report.Blame.{Blame}
+use Rattle.std.specs.Prelude.{◌≡◌, ℕ, suc, Bool, true, false, List, [], ◌∷◌, ◌++◌, length, drop, Option, Some, None, ℤ, replicate}
 use Rattle.jade_syntax.specs.declared.tree.Item.{Item}
 use Rattle.jade_syntax.specs.declared.tree.Statement.{Statement}
 use Rattle.jade_syntax.specs.Image.{block}
@@ -15,7 +13,7 @@ use Rattle.jade_base.specs.Rights.{both_rights}
 use Rattle.jade_meaning.specs.Walks.{Walk}
 pub use Rattle.jade_meaning.specs.Walks.{setting_of}
 use Rattle.jade_meaning.specs.Specification.{Specification}
-use Rattle.jade_meaning.specs.Course.{Environment, Setting, inputs, finish, run_all, child_start}
+use Rattle.jade_meaning.specs.Course.{Environment, inputs, finish, run_all, child_start}
 use Rattle.jade_meaning.specs.Talk.{Task, Event, Enter, Enroll, Take, TouchRead, TouchWrite, Wants, Give, Leave, Shift, Resign, talk}
 
 -- the task

@@ -8,9 +8,9 @@ ghost use Rattle.jade_meaning.specs.steps.Frames.{course_of};
 ghost use Rattle.jade_meaning.specs.steps.Holding.{events_of};
 ghost use Rattle.jade_meaning.specs.steps.Configuration.{taken_first, pending_of, ahead, IsIdle, ready, over, task_from, Resumes, TellsTransition};
 
-use crate::draft::Draft;
-use crate::frames::{Transition, Frame, Newborn, Running};
 use crate::dense_spec::DenseSpec;
+use crate::draft::Draft;
+use crate::frames::{Frame, Newborn, Running, Transition};
 use crate::holds::{Holds, Keeping, Listing, PendingEvent, add, named, take_in, tell};
 use crate::scope::Scope;
 use crate::setting::{Setting, Task};
@@ -142,7 +142,11 @@ impl<'c> Setting<'c> {
     }
 
     // What a transition tells.
-    fn tell_transition(&self, transition: Transition<'c>, at: &mut Configuration<'c>) -> Result<(), Memory>
+    fn tell_transition(
+        &self,
+        transition: Transition<'c>,
+        at: &mut Configuration<'c>,
+    ) -> Result<(), Memory>
         requires { IsIdle at.old }
         ensures { OnOk result (TellsTransition (shown self.now) transition.entry at.old at.new) }
     {

@@ -357,9 +357,15 @@ impl<'c> Setting<'c> {
         ensures { IfOk result (λ transition. Did (shown self.now) answers.now transition (action statement.now) run.old run.new) }
     {
         let transition = match statement {
-            Statement::Local { name, value, .. } => self.local_transition(name, value, answers, run)?,
-            Statement::Assign { name, value, .. } => self.assign_transition(name, value, answers, run),
-            Statement::Store { target, value } => self.store_transition(target, value, answers, run),
+            Statement::Local { name, value, .. } => self.local_transition(
+                name, value, answers, run,
+            )?,
+            Statement::Assign { name, value, .. } => self.assign_transition(
+                name, value, answers, run,
+            ),
+            Statement::Store { target, value } => self.store_transition(
+                target, value, answers, run,
+            ),
             Statement::If {
                 test,
                 then,
@@ -405,7 +411,12 @@ impl<'c> Setting<'c> {
     }
 
     // The statements of a block from one on: the next one's step begins.
-    fn rest(&self, block: &'c Block, next: usize, run: &mut Running<'c>) -> Result<Transition<'c>, Memory>
+    fn rest(
+        &self,
+        block: &'c Block,
+        next: usize,
+        run: &mut Running<'c>,
+    ) -> Result<Transition<'c>, Memory>
         ensures { (vs : List ℤ) → IfOk result (λ transition. DoesNext (shown self.now) vs transition (Frame.Rest block.entry next) run.old run.new) }
     {
         if next < block.len() {
@@ -463,11 +474,7 @@ impl<'c> Setting<'c> {
             return Ok(Transition::Ended(Some(blame_at(FaultKind::Cover, at))));
         }
         let scope = self.copied(names, &run.task)?;
-        Ok(Transition::Created(Newborn {
-            scope,
-            spec,
-            body,
-        }))
+        Ok(Transition::Created(Newborn { scope, spec, body }))
     }
 
     // The end of the section of a `with`.
@@ -505,7 +512,11 @@ impl<'c> Setting<'c> {
     }
 
     /// What a task does next.
-    pub(crate) fn transition(&self, answers: &[i64], run: &mut Running<'c>) -> Result<Transition<'c>, Memory>
+    pub(crate) fn transition(
+        &self,
+        answers: &[i64],
+        run: &mut Running<'c>,
+    ) -> Result<Transition<'c>, Memory>
         ensures { IfOk result (λ transition. GoesOn (shown self.now) answers.now transition (course_of (shown self.now) answers.now run.old) run.new) }
     {
         match run.frames.pop() {

@@ -1,19 +1,19 @@
 //! The meaning of programs: what each task says of itself, the serial run, and the answer.
 #![tactic(auto)]
 
-mod draft;
-mod resolve;
-mod frames;
+mod configuration;
 mod dense_spec;
+mod draft;
+mod frames;
 mod holds;
 pub mod laws;
-mod run_state;
 pub mod ready;
+mod resolve;
+mod run_state;
 mod scope;
 pub mod serial;
 mod setting;
 mod source;
-mod configuration;
 mod statements;
 mod stop;
 mod tally;

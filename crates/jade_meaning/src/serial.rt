@@ -6,8 +6,8 @@ ghost use Rattle.jade_syntax.specs.Objects.{input_names, sizes};
 ghost use Rattle.jade_meaning.specs.Course.{inputs};
 ghost use Rattle.jade_meaning.specs.Report.{report};
 
-use crate::resolve::Declared;
 use crate::dense_spec::DenseSpec;
+use crate::resolve::Declared;
 use crate::run_state::RunState;
 use crate::scope::Scope;
 use crate::setting::Setting;

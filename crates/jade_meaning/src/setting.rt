@@ -6,9 +6,9 @@ ghost use Rattle.jade_syntax.specs.Image.{expression, and_expression, compare_ex
 ghost use Rattle.jade_meaning.specs.steps.Direct.{worth, located, blame_at, member_of, index_in, indexed};
 ghost use Rattle.jade_meaning.specs.steps.Evaluation.{evaluated, source, evaluate, evaluate_object, evaluate_read};
 
-use crate::draft::Draft;
-use crate::resolve::{Declared, ResolvedObject, Range};
 use crate::dense_spec::DenseSpec;
+use crate::draft::Draft;
+use crate::resolve::{Declared, Range, ResolvedObject};
 use crate::run_state::Store;
 use crate::scope::Scope;
 use crate::source::{Cells, Pause};

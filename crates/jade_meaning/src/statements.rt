@@ -9,8 +9,8 @@ ghost use Rattle.jade_meaning.specs.Specification.{fitted};
 ghost use Rattle.jade_meaning.specs.Values.{turn_count};
 ghost use Rattle.jade_meaning.specs.steps.Perform.{Goes, Follows, shown, begun, within, localized, reassigned, stored, declared_on, turned, turned_once, perform, perform_all, created, changed, child_task, ended, then_on};
 
-use crate::draft::Draft;
 use crate::dense_spec::DenseSpec;
+use crate::draft::Draft;
 use crate::run_state::RunState;
 use crate::scope::Scope;
 use crate::setting::{Setting, Task, blame_at, cell_of};

@@ -9,13 +9,13 @@ ghost use Rattle.jade_meaning.specs.steps.Configuration.{ahead, ready};
 ghost use Rattle.jade_meaning.specs.Walk.{upcoming, First, act_of, carried_of, is_answered, Passes, moved, Bears, begun_as, root_walk};
 ghost use Rattle.jade_meaning.specs.steps.Walking.{goes_with, read_of, creates, enrolls};
 
-use crate::resolve::Declared;
+use crate::configuration::{Configuration, Stage, begun, onward};
 use crate::dense_spec::DenseSpec;
 use crate::holds::PendingEvent;
+use crate::resolve::Declared;
 use crate::scope::Scope;
 use crate::serial::inputs;
 use crate::setting::Setting;
-use crate::configuration::{Configuration, Stage, begun, onward};
 use jade_base::{Blame, Memory, Mode, ObjectId, Rights};
 use jade_syntax::Checked;
 use jade_syntax::tree::{Block, Program};

@@ -11,7 +11,7 @@ use Rattle.jade_meaning.specs.Specification.{Specification}
 use Rattle.jade_syntax.specs.declared.tree.Statement.{Statement}
 use Rattle.jade_syntax.specs.Image.{block}
 use Rattle.jade_meaning.specs.Course.{Course, Environment, Setting, run_all, finish, child_start}
-use Rattle.jade_meaning.specs.Talk.{Task, Event, TouchRead, Wants, Holds, take_in, first_take, touched, events}
+use Rattle.jade_meaning.specs.Talk.{Task, Event, TouchRead, Wants, Holds, take_in, events}
 use Rattle.jade_meaning.specs.steps.Frames.{fed, course_of, born_course, transition_on}
 use Rattle.jade_meaning.specs.steps.Holding.{event_of}
 
@@ -64,10 +64,10 @@ task_from s env spec body = record { spec = spec; course = run_all s (block body
 abbrev pub Resumes : (before after : Configuration) → Type 0
 Resumes t u =
     (u.run.task ≡ t.run.task) × (u.run.frames.items ≡ t.run.frames.items) × (u.run.used ≡ t.run.used) × (u.spec ≡ t.spec) × (u.holds ≡ t.holds)
-        × (u.part ≡ t.part) × (u.pending.items ≡ []) × (u.stage ≡ Going)
+    × (u.part ≡ t.part) × (u.pending.items ≡ []) × (u.stage ≡ Going)
 
 -- a transition is told: its events are pending, and the run is as it was
 abbrev pub TellsTransition : Setting → Transition → (before after : Configuration) → Type 0
 TellsTransition s d t u =
     ((c : Course) (vs : List ℤ) → events (transition_on s d c) t.spec t.holds t.part vs ≡ map (event_of (newborn_task s u.newborn)) u.pending.items
-        ++ later u.stage c u.spec u.holds u.part vs) × (u.run ≡ t.run)
+    ++ later u.stage c u.spec u.holds u.part vs) × (u.run ≡ t.run)

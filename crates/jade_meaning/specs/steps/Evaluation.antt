@@ -1,5 +1,5 @@
 -- What an expression comes to where its reads are answered by what cells hold, or by a list of answers.
-use Rattle.std.specs.Prelude.{◌≡◌, ℕ, suc, List, Option, Some, None, Result, Ok, Err, ℤ, slice_get, if◌then◌else◌}
+use Rattle.std.specs.Prelude.{ℕ, suc, List, Option, Some, None, Result, Ok, Err, ℤ, slice_get, if◌then◌else◌}
 use Rattle.jade_base.specs.declared.place.Pos.{Pos}
 use Rattle.jade_base.specs.declared.report.FaultKind.TheVariants.{Index, Right as RightFault}
 use Rattle.jade_base.specs.declared.report.Blame.{Blame}
@@ -84,7 +84,7 @@ module _ (items : List Item) (env : Environment) (spec : Specification) (src : S
     evaluate (Chain e links) n = evaluate e n >>> λ v k. evaluate_links links v k
     evaluate (Cell o e) n =
         evaluate_object o n >>> λ f k. evaluate e k >>> λ i j. kept (indexed (index_in (whole i) f.size) Index (place_of o)) j
-            >>> λ c h. evaluate_read spec src f.number c (place_of o) h
+        >>> λ c h. evaluate_read spec src f.number c (place_of o) h
 
     -- the value of a chain, after that of what stands before its links
     pub evaluate_links : Links → Value → ℕ → Evaluation Value

@@ -1,28 +1,42 @@
 -- What is left of a task, as a stack of frames, and what it does next.
-use Rattle.std.specs.Prelude.{◌≡◌, ℕ, ◌-◌, ◌++◌, List, [], ◌∷◌, map, length, drop, Option, Some, None, ℤ, if◌then◌else◌}
+use Rattle.std.specs.Prelude.{◌≡◌, ℕ, ◌-◌, List, [], ◌∷◌, map, length, drop, Option, Some, None, ℤ, if◌then◌else◌}
 use Rattle.jade_base.specs.declared.place.Pos.{Pos}
 use Rattle.jade_base.specs.declared.report.FaultKind.TheVariants.{Index, Right as RightFault}
-use Rattle.jade_base.specs.declared.report.Blame.{Blame}
 use Rattle.jade_base.specs.Rights.{is_immediate}
 use Rattle.jade_syntax.specs.declared.tree.Item.{Item}
 use Rattle.jade_syntax.specs.declared.tree.Statement.{Statement}
 use Rattle.jade_syntax.specs.Abstract.{Expression, Place, Action, If, IfElse}
-use Rattle.jade_syntax.specs.Image.{action, block, branched}
+use Rattle.jade_syntax.specs.Image.{action, block}
 use Rattle.jade_meaning.specs.declared.frames.Frame.{Frame}
 use Rattle.jade_meaning.specs.declared.frames.Frame.TheVariants.{Rest, Doing, Leaving, Turning, Creating, Changing}
 use Rattle.jade_meaning.specs.declared.frames.Newborn.{Newborn}
 use Rattle.jade_meaning.specs.declared.frames.Transition.{Transition}
 use Rattle.jade_meaning.specs.declared.frames.Transition.TheVariants.{Silent, Stepped, Asked, Wrote, Created, Changed, Ended}
 use Rattle.jade_meaning.specs.declared.frames.Running.{Running}
-use Rattle.jade_meaning.specs.declared.setting.Task.{Task}
 use Rattle.jade_meaning.specs.declared.source.Pause.{Pause}
 use Rattle.jade_meaning.specs.declared.source.Pause.TheVariants.{Fault, Awaits as AwaitsOf}
-use Rattle.jade_meaning.specs.declared.values.Value.{Value}
-use Rattle.jade_meaning.specs.declared.resolve.ResolvedObject.{ResolvedObject}
 use Rattle.jade_meaning.specs.Values.{whole, turn_count}
 use Rattle.jade_meaning.specs.Specification.{Specification, rights_on}
-use Rattle.jade_meaning.specs.Course.{Course, Reads, Writes, Steps, Creates, Changes, Ends, Environment, Setting, On, finish, turns, create, change,
-    child_start, run, run_all, place_of}
+use Rattle.jade_meaning.specs.Course.{
+  Course,
+  Reads,
+  Writes,
+  Steps,
+  Creates,
+  Changes,
+  Ends,
+  Environment,
+  Setting,
+  On,
+  finish,
+  turns,
+  create,
+  change,
+  child_start,
+  run,
+  run_all,
+  place_of,
+}
 use Rattle.jade_meaning.specs.steps.Perform.{mine_of}
 use Rattle.jade_meaning.specs.steps.Direct.{blame_at, indexed, index_in}
 use Rattle.jade_meaning.specs.steps.Evaluation.{Evaluation, Got, Awaits, Faults, Source, kept, ◌>>>◌, evaluate, evaluate_object}
@@ -53,7 +67,7 @@ module _ (items : List Item) (env : Environment) (spec : Specification) (src : S
   abbrev pub evaluate_store : Place → (cell value : Expression) → ℕ → Evaluation (ℕ × ℕ × ℤ)
   evaluate_store o e v n =
       evaluate_object items env spec src o n >>> λ f k. evaluate items env spec src e k >>> λ i j. kept (indexed (index_in (whole i) f.size) Index (place_of o))
-          j >>> λ c h. evaluate items env spec src v h >>> λ z g. evaluate_write spec f.number c (whole z) (place_of o) g
+      j >>> λ c h. evaluate items env spec src v h >>> λ z g. evaluate_write spec f.number c (whole z) (place_of o) g
 
   -- the bounds of a loop
   abbrev pub evaluate_bounds : (low high : Expression) → ℕ → Evaluation (ℤ × ℤ)

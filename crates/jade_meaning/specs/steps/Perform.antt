@@ -5,8 +5,24 @@ use Rattle.jade_base.specs.declared.report.FaultKind.TheVariants.{Index, Right a
 use Rattle.jade_base.specs.declared.report.Blame.{Blame}
 use Rattle.jade_base.specs.Rights.{is_immediate}
 use Rattle.jade_syntax.specs.declared.tree.DeclareWord.{DeclareWord}
-use Rattle.jade_syntax.specs.Abstract.{Name, Expression, Place, Action, Local, Assign, Store, If, IfElse, For, Withonly, With, Declare, Actions, Done as NoMore,
-    Then}
+use Rattle.jade_syntax.specs.Abstract.{
+  Name,
+  Expression,
+  Place,
+  Action,
+  Local,
+  Assign,
+  Store,
+  If,
+  IfElse,
+  For,
+  Withonly,
+  With,
+  Declare,
+  Actions,
+  Done as NoMore,
+  Then,
+}
 use Rattle.jade_meaning.specs.declared.run_state.RunState.{RunState}
 use Rattle.jade_meaning.specs.declared.setting.Setting.{Setting as SettingOf}
 use Rattle.jade_meaning.specs.declared.setting.Task.{Task}
@@ -17,8 +33,21 @@ use Rattle.jade_meaning.specs.declared.values.Value.TheVariants.{IntOf}
 use Rattle.jade_meaning.specs.declared.resolve.ResolvedObject.{ResolvedObject}
 use Rattle.jade_meaning.specs.Values.{whole, holds, turn_count}
 use Rattle.jade_meaning.specs.Specification.{Specification, rights_on, covers, fitted}
-use Rattle.jade_meaning.specs.Course.{Environment, Setting, Mine, NoDraft, Building, Amending, assigned, copied, drafted, working, limit_blame, none_of,
-    place_of}
+use Rattle.jade_meaning.specs.Course.{
+  Environment,
+  Setting,
+  Mine,
+  NoDraft,
+  Building,
+  Amending,
+  assigned,
+  copied,
+  drafted,
+  working,
+  limit_blame,
+  none_of,
+  place_of,
+}
 use Rattle.jade_meaning.specs.Serial.{Path}
 use Rattle.jade_meaning.specs.steps.Carry.{noted, put}
 use Rattle.jade_meaning.specs.steps.Direct.{worth, located, blame_at, indexed, index_in, drafted_with}
@@ -98,7 +127,7 @@ created s p at names body t l =
     let first = noted p t.tally.children t.tally.part None l in
     if covers t.spec child
     then Goes (record t { draft = NoDraft; tally = parted t.tally })
-        (ended (next_path p t) (body (next_path p t) (child_task (copied names t.scope ++ s.given) child) first))
+    (ended (next_path p t) (body (next_path p t) (child_task (copied names t.scope ++ s.given) child) first))
     else Stops (blame_at Cover at) (record t { draft = NoDraft }) l
 
 -- the end of the section of a `with`
@@ -130,7 +159,7 @@ module _ (s : Setting) where
   abbrev pub stored : Place → (cell value : Expression) → Task → RunState → Outcome
   stored o e v t l =
       valued (object_at o t l) t l (λ f. valued (value_at e t l) t l (λ i. valued (indexed (index_in (whole i) f.size) Index (place_of o)) t l
-          (λ c. stored_in f c (place_of o) v t l)))
+      (λ c. stored_in f c (place_of o) v t l)))
 
   -- a word of a section
   abbrev pub declared_on : DeclareWord → Pos → Place → Task → RunState → Outcome
@@ -149,7 +178,7 @@ module _ (s : Setting) where
         valued (value_at e t l) t l (λ v. if holds v then within t (perform_all p first t l) else within t (perform_all p other t l))
     perform p (For x low high body) t l =
         valued (value_at low t l) t l (λ a. valued (value_at high t l) t l (λ b. turned s.limit (turn_count (whole a) (whole b)) (whole a) x
-            (perform_all p body) t l))
+        (perform_all p body) t l))
     perform p (Withonly at section names body) t l =
         let u = record t { draft = Building (none_of s.items) } in
         then_on (within u (perform_all p section u l)) (created s p at names (λ q. perform_all q body))

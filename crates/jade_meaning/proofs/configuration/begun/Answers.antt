@@ -1,4 +1,4 @@
-use Rattle.std.proofs.Common.{◌≡◌, ◌++◌, ◌∷◌, [], List, map, refl, ap, sym, subst, ◌∙◌, rules}
+use Rattle.std.proofs.Common.{◌∙◌}
 use Rattle.jade_meaning.specs.steps.Perform.{shown}
 use Rattle.jade_meaning.proofs.Ending.{begun_ends}
 use Rattle.jade_meaning.proofs.configuration.begun.Goals as goal

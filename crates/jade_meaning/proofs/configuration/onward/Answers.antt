@@ -1,4 +1,4 @@
-use Rattle.std.proofs.Common.{◌≡◌, ◌++◌, ◌∷◌, [], List, map, refl, ap, sym, subst, ◌∙◌, rules}
+use Rattle.std.proofs.Common.{◌∙◌}
 use Rattle.jade_meaning.specs.steps.Perform.{shown}
 use Rattle.jade_meaning.proofs.Configurations.{resumes_as}
 use Rattle.jade_meaning.proofs.configuration.onward.Goals as goal

@@ -1,5 +1,3 @@
-use Rattle.std.proofs.Common.{◌≡◌, ◌++◌, List, map, refl, ap, sym, ◌∙◌}
-use Rattle.jade_meaning.specs.steps.Perform.{shown}
 use Rattle.jade_meaning.proofs.Configurations.{end_tells}
 use Rattle.jade_meaning.proofs.configuration.tell_end.Goals as goal
 

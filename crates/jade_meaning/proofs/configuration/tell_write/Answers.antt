@@ -1,5 +1,4 @@
-use Rattle.std.proofs.Common.{◌≡◌, ◌++◌, ◌∷◌, [], List, map, refl, ap, sym, ◌∙◌}
-use Rattle.jade_meaning.specs.steps.Perform.{shown}
+use Rattle.std.proofs.Common.{◌++◌, ◌∷◌, [], ap, ◌∙◌}
 use Rattle.jade_meaning.specs.declared.holds.PendingEvent.{PendingEvent}
 use Rattle.jade_meaning.proofs.Configurations.{write_tells}
 use Rattle.jade_meaning.proofs.configuration.tell_write.Goals as goal

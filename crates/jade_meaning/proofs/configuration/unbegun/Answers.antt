@@ -1,4 +1,4 @@
-use Rattle.std.proofs.Common.{◌≡◌, ◌++◌, ◌∷◌, [], List, map, refl, ap, sym, subst, ◌∙◌, rules}
+use Rattle.std.proofs.Common.{◌≡◌, ◌++◌, ◌∷◌, [], List, map, refl, ap, ◌∙◌, rules}
 use Rattle.jade_meaning.specs.steps.Perform.{shown}
 use Rattle.jade_meaning.specs.declared.frames.Frame.TheVariants.{Rest}
 use Rattle.jade_meaning.specs.declared.configuration.Configuration.{Configuration}
@@ -19,8 +19,12 @@ returns c =
     let env = c.args.scope.now in
     let spec = c.args.spec.now in
     let t : Configuration = record {
-      run = record { task = record { scope = c.in_ok-own.own; spec = c.in_ok-rights.rights; draft = c.absent.result; tally = c.start.result }; frames =
-          c.push.new.self; used = 0 };
+      run = record {
+        task = record { scope = c.in_ok-own.own; spec = c.in_ok-rights.rights; draft = c.absent.result; tally = c.start.result };
+        frames =
+            c.push.new.self;
+        used = 0;
+      };
       spec = c.in_ok-same.same;
       holds = c.in_ok-holds.holds;
       part = 0;
@@ -34,7 +38,7 @@ returns c =
     λ vs. begins_as (shown c.args.setting.now) env spec c.args.body.now t (Rest c.args.body 0) (λ on. refl)
     (c.in_ok-push.ensures.items ∙ ap (λ (xs : List Frame). xs ++ Rest c.args.body 0 ∷ []) empty) refl
     (ap (λ x. mine x c.in_ok-rights.rights c.absent.result c.start.result) c.in_ok-own.ensures
-        ∙ ap (λ x. mine env x c.absent.result c.start.result) c.in_ok-rights.ensures ∙ ap (λ x. mine env spec x c.start.result) c.absent.ensures
-        ∙ ap (λ x. mine env spec NoDraft x) c.start.ensures)
+    ∙ ap (λ x. mine env x c.absent.result c.start.result) c.in_ok-rights.ensures ∙ ap (λ x. mine env spec x c.start.result) c.absent.ensures
+    ∙ ap (λ x. mine env spec NoDraft x) c.start.ensures)
     c.in_ok-same.ensures (c.in_ok-holds.ensures ∙ start_is spec) refl
     (λ w. c.in_ok-tell.ensures w ∙ ap (λ (xs : List PendingEvent). map (event_of w) xs ++ start_takes spec) none) refl vs

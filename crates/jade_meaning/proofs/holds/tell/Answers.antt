@@ -11,7 +11,7 @@ loop-object-preserved c =
     let f : ℕ → List Event = λ o. listed c.args.kind (rights_on c.args.old.now o) (rights_on c.args.new.now o) (held c.args.holds.now o) o in
     λ t. told_more (event_of t) f c.args.events.now.items c.loop-object.events.items c.add.new.events.items c.loop-object.object
     (c.in_ok-add.ensures t ∙ ap (λ xs. map (event_of t) c.loop-object.events.items ++ xs) (c.listed.ensures t
-        ∙ listed_same c.args.kind _ _ _ _ _ _ _ _ c.on.ensures c.on-in-loop-object.ensures c.on-in-loop-object-2.ensures c.in_ok-id.ensures))
+    ∙ listed_same c.args.kind _ _ _ _ _ _ _ _ c.on.ensures c.on-in-loop-object.ensures c.on-in-loop-object-2.ensures c.in_ok-id.ensures))
     (c.loop-object.invariant t)
 
 pub returns : goal.returns

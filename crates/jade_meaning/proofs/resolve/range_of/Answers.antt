@@ -9,7 +9,7 @@ returns-then-same_name-clause-range c =
     let w = c.in-Single in
     let cells : c.amount_of.result ≡ amount w.size.value = search rules in
     single_here c.args.name.now c.args.items.now c.loop-i.first c.loop-i.i c.at.result.now c.at.ensures w.declared w.pos w.size c.amount_of.result w.is
-        (sym c.same_name.ensures ∙ c.if-same_name.true) cells c.loop-i.invariant.same
+    (sym c.same_name.ensures ∙ c.if-same_name.true) cells c.loop-i.invariant.same
 
 pub returns-then-same_name-2-clause-range : goal.returns-then-same_name-2-clause-range
 returns-then-same_name-2-clause-range c =
@@ -17,7 +17,7 @@ returns-then-same_name-2-clause-range c =
     let members : c.amount_of-then-same_name-2.result ≡ amount w.count.value = search rules in
     let cells : c.amount_of-then-same_name-2-2.result ≡ amount w.size.value = search rules in
     family_here c.args.name.now c.args.items.now c.loop-i.first c.loop-i.i c.at.result.now c.at.ensures w.declared w.pos w.count w.size _ _ w.is
-        (sym c.same_name-in-Family.ensures ∙ c.if-same_name-2.true) members cells c.loop-i.invariant.same
+    (sym c.same_name-in-Family.ensures ∙ c.if-same_name-2.true) members cells c.loop-i.invariant.same
 
 pub loop-i-preserved : goal.loop-i-preserved
 loop-i-preserved c =
@@ -32,15 +32,15 @@ loop-i-preserved c =
       | in-Family+else-same_name-2 w ↦
           let members : w.amount_of-first.result ≡ amount w.in-Family.count.value = search rules in
           family_past x items c.loop-i.first c.loop-i.i item c.at.ensures w.in-Family.declared w.in-Family.pos w.in-Family.count w.in-Family.size
-              w.amount_of-first.result c.match-at.first w.in-Family.is (sym w.same_name-in-Family.ensures ∙ w.if-same_name-2.false) members w.first-is
-              c.loop-i.invariant
+          w.amount_of-first.result c.match-at.first w.in-Family.is (sym w.same_name-in-Family.ensures ∙ w.if-same_name-2.false) members w.first-is
+          c.loop-i.invariant
     ]
 
 pub returns-then-same_name-clause-bounded : goal.returns-then-same_name-clause-bounded
 returns-then-same_name-clause-bounded c =
     let w = c.in-Single in
     let within : c.loop-i.first + 1 ≤ length (sizes c.args.items.now) = single_within c.args.name.now c.args.items.now c.loop-i.first c.loop-i.i c.at.result.now
-        c.at.ensures w.declared w.pos w.size w.is c.loop-i.invariant in
+    c.at.ensures w.declared w.pos w.size w.is c.loop-i.invariant in
     omega (arith, within)
 
 pub returns-then-same_name-2-clause-bounded : goal.returns-then-same_name-2-clause-bounded
@@ -48,6 +48,6 @@ returns-then-same_name-2-clause-bounded c =
     let w = c.in-Family in
     let members : c.amount_of-then-same_name-2.result ≡ amount w.count.value = search rules in
     let within : c.loop-i.first + c.amount_of-then-same_name-2.result ≤ length (sizes c.args.items.now) =
-        family_within c.args.name.now c.args.items.now c.loop-i.first c.loop-i.i c.at.result.now c.at.ensures w.declared w.pos w.count w.size
-        c.amount_of-then-same_name-2.result w.is members c.loop-i.invariant in
+    family_within c.args.name.now c.args.items.now c.loop-i.first c.loop-i.i c.at.result.now c.at.ensures w.declared w.pos w.count w.size
+    c.amount_of-then-same_name-2.result w.is members c.loop-i.invariant in
     omega (arith, within)

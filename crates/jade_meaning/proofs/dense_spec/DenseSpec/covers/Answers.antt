@@ -10,7 +10,7 @@ returns-then-not-covers c =
     let child = c.args.child.now in
     let o = c.loop-object.object in
     let e : covered (rights_on parent o) (rights_on child o) ≡ c.covers.result = ap (λ a. covered a (rights_on child o)) (sym c.on.ensures)
-        ∙ ap (covered c.on.result) (sym c.on-in-loop-object.ensures) ∙ sym c.covers.ensures in
+    ∙ ap (covered c.on.result) (sym c.on-in-loop-object.ensures) ∙ sym c.covers.ensures in
     sym (covered_not parent child o (omega arith) (e ∙ c.if-not-covers.true) c.loop-object.invariant)
 
 pub loop-object-preserved : goal.loop-object-preserved
@@ -19,5 +19,5 @@ loop-object-preserved c =
     let child = c.args.child.now in
     let o = c.loop-object.object in
     let e : covered (rights_on parent o) (rights_on child o) ≡ c.covers.result = ap (λ a. covered a (rights_on child o)) (sym c.on.ensures)
-        ∙ ap (covered c.on.result) (sym c.on-in-loop-object.ensures) ∙ sym c.covers.ensures in
+    ∙ ap (covered c.on.result) (sym c.on-in-loop-object.ensures) ∙ sym c.covers.ensures in
     covered_more parent child o (omega arith) (e ∙ c.if-not-covers.false) c.loop-object.invariant

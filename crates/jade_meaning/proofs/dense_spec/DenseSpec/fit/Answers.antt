@@ -10,4 +10,4 @@ returns c =
     let old = c.self.inside.rights in
     let n : old.len ≡ length old.items = omega (arith, old.ok.0) in
     c.in_ok-resize.ensures.items ∙ ap (λ k. take k old.items ++ replicate (k - old.len) no_rights) c.len.ensures
-        ∙ ap (λ k. take (length base) old.items ++ replicate (length base - k) no_rights) n ∙ fitted_is base old.items ∙ ap (fitted base) c.self.view_is
+    ∙ ap (λ k. take (length base) old.items ++ replicate (length base - k) no_rights) n ∙ fitted_is base old.items ∙ ap (fitted base) c.self.view_is

@@ -10,6 +10,6 @@ loop-i-preserved c =
     let i = c.loop-i.i in
     let x = c.at.result.now in
     more_objects (map (λ v. v.items) c.loop-i.objects.items) (map (λ v. v.items) c.add_objects.new.objects.items) x
-        (drop (i + 1) items) c.objects_of-count.result.0 c.objects_of-count.result.1 (zeros (sizes items)) c.in_ok-add_objects.ensures
-        (c.objects_of-count.ensures.sizes (drop (i + 1) items)) (ap (λ l. map (λ v. v.items) c.loop-i.objects.items ++ zeros (sizes l))
-        (sym (drop_at items i x c.at.ensures)) ∙ c.loop-i.invariant)
+    (drop (i + 1) items) c.objects_of-count.result.0 c.objects_of-count.result.1 (zeros (sizes items)) c.in_ok-add_objects.ensures
+    (c.objects_of-count.ensures.sizes (drop (i + 1) items)) (ap (λ l. map (λ v. v.items) c.loop-i.objects.items ++ zeros (sizes l))
+    (sym (drop_at items i x c.at.ensures)) ∙ c.loop-i.invariant)

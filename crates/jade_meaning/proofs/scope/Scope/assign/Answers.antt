@@ -11,5 +11,5 @@ returns-then-same_name c =
     let b = c.index-bound.result.now in
     let next : i + 1 ≡ c.loop-left.left = omega arith in
     assigned_here c.args.name.now c.args.value bs i c.loop-left.left b _ next c.loop-left.invariant.within c.index-bound.ensures refl refl
-        (sym c.same_name.ensures ∙ c.if-same_name.true) c.loop-left.invariant.passed
+    (sym c.same_name.ensures ∙ c.if-same_name.true) c.loop-left.invariant.passed
     ∙ ap (λ v. assigned c.args.name.now c.args.value (in_scope v.items)) c.loop-left.invariant.same ∙ ap (assigned c.args.name.now c.args.value) c.self.view_is

@@ -3,13 +3,33 @@ use Rattle.jade_syntax.specs.declared.tree.AndExpr.{out-AndExpr}
 use Rattle.jade_syntax.specs.declared.tree.Expr.{out-Expr}
 use Rattle.jade_syntax.specs.declared.tree.Product.{out-Product}
 use Rattle.jade_syntax.specs.declared.tree.Sum.{out-Sum}
-use Rattle.jade_syntax.specs.Image.{forms, expression, and_expression, compare_expression, sum_expression, product_expression, unary_expression,
-    atom_expression}
+use Rattle.jade_syntax.specs.Image.{
+  forms,
+  expression,
+  and_expression,
+  compare_expression,
+  sum_expression,
+  product_expression,
+  unary_expression,
+  atom_expression,
+}
 use Rattle.jade_meaning.specs.steps.Direct.{blamed}
 use Rattle.jade_meaning.specs.steps.Evaluation.{source, evaluate}
 use Rattle.jade_syntax.proofs.Opened.{expr_opens, and_opens, sum_opens, product_opens, unary_opens}
-use Rattle.jade_meaning.proofs.Chaining.{begins, decided, more, more_not, more_fails, sign_more, sign_fails, sign_not, adds_on, multiplies_on, or_gives,
-    and_gives}
+use Rattle.jade_meaning.proofs.Chaining.{
+  begins,
+  decided,
+  more,
+  more_not,
+  more_fails,
+  sign_more,
+  sign_fails,
+  sign_not,
+  adds_on,
+  multiplies_on,
+  or_gives,
+  and_gives,
+}
 use Rattle.jade_meaning.proofs.setting.Setting.+evaluate.Goals as goal
 
 pub evaluate-loop-i-init : goal.evaluate-loop-i-init
@@ -79,17 +99,17 @@ evaluate_product-loop-i-preserved t c = more c.at.result.now c.in-Ok-evaluate_un
 pub evaluate_unary-returns-in-Err : goal.evaluate_unary-returns-in-Err
 evaluate_unary-returns-in-Err t c =
     sign_not c.args.self.now.items c.args.task.now.scope c.args.task.now.spec (source c.args.cells.now) (atom_expression c.args.e.now.atom) c.args.used.now
-        c.args.e.now.signs c.in-Err.pause c.in-Err.ensures
+    c.args.e.now.signs c.in-Err.pause c.in-Err.ensures
     ∙ ap (λ e. evaluate c.args.self.now.items c.args.task.now.scope c.args.task.now.spec (source c.args.cells.now) e c.args.used.now)
-        (sym (unary_opens forms c.args.e.now))
+    (sym (unary_opens forms c.args.e.now))
 
 pub evaluate_unary-returns-in-Err-signed : goal.evaluate_unary-returns-in-Err-signed
 evaluate_unary-returns-in-Err-signed t c =
     let n : (c.loop-left.left - 1) + 1 ≡ c.loop-left.left = omega arith in
     sign_fails (c.loop-left.left - 1) c.at.result.now c.blame_at.result n c.at.ensures (ap Err c.blame_at.ensures
-        ∙ ap (λ y. blamed y c.at.result.now.1) c.in-Err-signed.ensures) c.loop-left.invariant.signing
+    ∙ ap (λ y. blamed y c.at.result.now.1) c.in-Err-signed.ensures) c.loop-left.invariant.signing
     ∙ ap (λ e. evaluate c.args.self.now.items c.args.task.now.scope c.args.task.now.spec (source c.args.cells.now) e c.args.used.now)
-        (sym (unary_opens forms c.args.e.now))
+    (sym (unary_opens forms c.args.e.now))
 
 pub evaluate_unary-loop-left-preserved : goal.evaluate_unary-loop-left-preserved
 evaluate_unary-loop-left-preserved t c =

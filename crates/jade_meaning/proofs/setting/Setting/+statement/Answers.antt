@@ -15,7 +15,7 @@ pub turns-returns-in-Err : goal.turns-returns-in-Err
 turns-returns-in-Err t c =
     let lt : to_z w64 c.loop-index.index-bits <ℤ to_z w64 (of_z w64 c.args.high) = omega (arith, ints) in
     simp (to_z-of_z w64 c.args.high c.ranges.high, to_z-of_z w64 c.args.low c.ranges.low) at
-        (turns_stop c.in-Err.stop c.turn.new.task c.turn.new.state lt c.in-Err.ensures c.loop-index.invariant)
+    (turns_stop c.in-Err.stop c.turn.new.task c.turn.new.state lt c.in-Err.ensures c.loop-index.invariant)
 
 pub turns-loop-index-smaller : goal.turns-loop-index-smaller
 turns-loop-index-smaller t c = search (rules, counting)

@@ -1,5 +1,4 @@
-use Rattle.std.proofs.Common.{◌≡◌, ◌+◌, ◌-◌, ◌++◌, ◌∷◌, [], List, map, length, drop, refl, ap, sym, ◌∙◌, Some, None, arith}
-use Rattle.jade_syntax.specs.Image.{expression, reference, object, block, action}
+use Rattle.jade_syntax.specs.Image.{expression}
 use Rattle.jade_meaning.specs.steps.Perform.{shown}
 use Rattle.jade_meaning.proofs.Framing.{local_goes, local_pauses}
 use Rattle.jade_meaning.proofs.setting.Setting.local_transition.Goals as goal

@@ -1,4 +1,3 @@
-use Rattle.std.proofs.Common.{◌≡◌, ◌++◌, List, map, refl, ap, sym, ◌∙◌}
 use Rattle.jade_meaning.specs.steps.Perform.{shown}
 use Rattle.jade_meaning.proofs.Configurations.{creation_tells}
 use Rattle.jade_meaning.proofs.setting.Setting.tell_creation.Goals as goal

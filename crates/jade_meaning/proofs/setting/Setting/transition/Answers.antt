@@ -1,5 +1,4 @@
-use Rattle.std.proofs.Common.{◌≡◌, ◌+◌, ◌-◌, ◌++◌, ◌∷◌, [], List, map, length, drop, refl, ap, sym, ◌∙◌, Some, None, arith, rules}
-use Rattle.jade_syntax.specs.Image.{expression, reference, object, block, action}
+use Rattle.std.proofs.Common.{◌∙◌, rules}
 use Rattle.jade_meaning.specs.steps.Perform.{shown}
 use Rattle.jade_meaning.proofs.Framing.{popped_goes, none_goes}
 use Rattle.jade_meaning.proofs.setting.Setting.transition.Goals as goal

@@ -1,4 +1,4 @@
-use Rattle.std.proofs.Common.{◌≡◌, sym, ◌∙◌}
+use Rattle.std.proofs.Common.{sym, ◌∙◌}
 use Rattle.jade_meaning.specs.Walk.{upcoming}
 use Rattle.jade_meaning.proofs.Walking.{can_pass, cannot_pass}
 use Rattle.jade_meaning.proofs.walker.Walker.can_go_on.Goals as goal

@@ -1,7 +1,7 @@
-use Rattle.std.proofs.Common.{◌≡◌, ◌++◌, ◌∷◌, [], List, map, drop, false, refl, ap, sym, subst, ◌∙◌, rules}
+use Rattle.std.proofs.Common.{◌≡◌, drop, false, subst}
 use Rattle.jade_meaning.specs.steps.Perform.{shown}
 use Rattle.jade_meaning.specs.Walks.{Walk}
-use Rattle.jade_meaning.specs.Walk.{upcoming, First, act_of, carried_of, is_answered}
+use Rattle.jade_meaning.specs.Walk.{upcoming, First, carried_of, is_answered}
 use Rattle.jade_meaning.specs.steps.Frames.{course_of}
 use Rattle.jade_meaning.specs.steps.Configuration.{newborn_task}
 use Rattle.jade_meaning.proofs.Walking.{first_known, unanswered_first}
@@ -11,7 +11,7 @@ pub returns-clause-told : goal.returns-clause-told
 returns-clause-told c =
     subst (λ (w : Walk). First (upcoming w) (λ e. carried_of e ≡ c.next_carried.result)) c.self.view_is
     (first_known c.self.invariant (λ e. carried_of e ≡ c.next_carried.result)
-        (c.next_carried.ensures (shown c.self.inside.setting) c.self.inside.answers.items))
+    (c.next_carried.ensures (shown c.self.inside.setting) c.self.inside.answers.items))
 
 pub returns-clause-unanswered : goal.returns-clause-unanswered
 returns-clause-unanswered c =
