@@ -1,6 +1,7 @@
 ghost use Rattle.std.specs.Prelude.{◌≡◌, ◌<◌, ◌∷◌, [], true, None, Some, length, slice_get, IfOk, OnOk, OnErr, MatchOption};
 ghost use Rattle.object_shelf.specs.Shelves.{same_path, place_in, find, blocker_in, holder_in, takes_out, at, without, newborn, conflicts, if_read_only, held_with, released, with_rights};
 ghost use Rattle.object_shelf.specs.Order.{stands_before, rank, is_ordered, fits_at, fitted_in};
+ghost use Rattle.object_shelf.specs.Whole.{reset};
 ghost use Rattle.std.specs.List.{insert, remove};
 
 use jade_base::{Memory, Mode, Path, Rights, SharedCells};
@@ -113,6 +114,13 @@ impl Queue {
         ensures { self.new ≡ at path.now released self.old }
     {
         release_in(&mut self.rows, path);
+    }
+
+    /// The path's task holds the object no longer, and this version is what is kept for it.
+    pub(crate) fn restore(&mut self, path: &Path, version: Option<SharedCells>)
+        ensures { self.new ≡ at path.now (reset version) self.old }
+    {
+        restore_in(&mut self.rows, path, version);
     }
 
     /// The path's entry gets other rights.
@@ -342,6 +350,18 @@ fn release_in(rows: &mut VecDeque<Entry>, path: &Path)
     }
 }
 
+// The path's task holds the object no longer, and this version is what is kept for it.
+fn restore_in(rows: &mut VecDeque<Entry>, path: &Path, version: Option<SharedCells>)
+    requires { is_ordered rows.old.items ≡ true }
+    ensures done { rows.new.items ≡ at path.now (reset version) rows.old.items }
+    ensures ordered { is_ordered rows.new.items ≡ true }
+{
+    let place = place_of(rows, path);
+    if place < rows.len() {
+        restore(&mut rows[place], version);
+    }
+}
+
 // The path's entry gets other rights.
 fn shift_in(rows: &mut VecDeque<Entry>, path: &Path, rights: Rights)
     requires { is_ordered rows.old.items ≡ true }
@@ -392,6 +412,14 @@ fn release(entry: &mut Entry)
     if entry.rights.writes.is_there() || entry.rights.commutes.is_there() {
         entry.version = None;
     }
+}
+
+// The entry's task holds the object no longer, and this version is what is kept for it.
+fn restore(entry: &mut Entry, version: Option<SharedCells>)
+    ensures { entry.new ≡ reset version entry.old }
+{
+    entry.hold = None;
+    entry.version = version;
 }
 
 // Whether an earlier entry conflicts with a hold in this mode.
