@@ -1,4 +1,5 @@
 pub mod Held
+pub mod Cells
 pub mod Places
 pub mod Rights
 pub mod Specification

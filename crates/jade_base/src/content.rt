@@ -1,23 +1,94 @@
-ghost use Rattle.std.specs.Prelude.{◌≡◌, ◌≢◌, ◌<◌, length, IfOk, Some, slice_get, slice_set};
+ghost use Rattle.std.specs.Prelude.{◌≡◌, ◌≢◌, ◌<◌, true, length, IfOk, Some, slice_get, slice_set, MatchResult};
+ghost use Rattle.jade_base.specs.Cells.{cells_of, is_own};
 
 use crate::{Memory, Mode, Numbers};
 use std::alloc::Global;
 use std::marker::Model;
+use std::sync::Arc;
+
+/// Cells that several owners read and none changes. Contracts see them as the list of the cells;
+/// who else has them is not seen.
+#[derive(Debug, Drop)]
+pub struct SharedCells {
+    cells: Arc<Numbers>,
+}
+
+impl Model for SharedCells {
+    ghost use Rattle.std.specs.Prelude.{List, ℤ};
+    ghost use Rattle.std.specs.Arc.{arc_value};
+
+    ghost Value = { List ℤ };
+
+    ghost view = { λ s. arc_value s.cells };
+}
+
+impl SharedCells {
+    /// These cells, with one owner. The error is want of memory, and hands them back.
+    pub fn of(alloc: Global, cells: Numbers) -> Result<SharedCells, Numbers>
+        ensures { MatchResult result (λ shared. shared ≡ cells) (λ back. back ≡ cells) }
+    {
+        match Arc::new(alloc, cells) {
+            Ok(cells) => Ok(SharedCells { cells }),
+            Err(refused) => Err(refused.value),
+        }
+    }
+
+    /// The same cells for one owner more; no cell is copied. The error is want of memory.
+    pub fn again(&self) -> Result<SharedCells, Memory>
+        ensures { IfOk result (λ again. again ≡ self.now) }
+    {
+        match Arc::try_clone(&self.cells) {
+            Ok(cells) => Ok(SharedCells { cells }),
+            Err(_) => Err(Memory),
+        }
+    }
+
+    /// The cells themselves, from their only owner; where there are others the error hands this
+    /// owner's back. It takes no memory.
+    pub fn into_own(self) -> Result<Numbers, SharedCells>
+        ensures { MatchResult result (λ cells. cells ≡ self) (λ back. back ≡ self) }
+    {
+        match Arc::try_unwrap(self.cells) {
+            Ok(cells) => Ok(cells),
+            Err(cells) => Err(SharedCells { cells }),
+        }
+    }
+
+    /// The cells. It takes no memory.
+    pub fn as_slice(&self) -> &[i64]
+        ensures { result.now ≡ self.now }
+    {
+        self.cells.as_slice()
+    }
+}
+
+// The cells of a content: its own, or those that other readers have too.
+#[derive(Debug, Drop)]
+enum Cells {
+    Own(Vec<i64>),
+    Shared(SharedCells),
+}
 
 /// The content of an object as a task holds it. Contracts see it as the mode of the hold and the
-/// list of the cells.
+/// list of the cells; whether other readers have the same cells is not seen. One that is held for
+/// reading may share its cells; any other has them alone.
 #[derive(Debug, Drop)]
 pub struct Content {
     mode: Mode,
-    cells: Vec<i64>,
+    cells: Cells,
 }
 
 impl Model for Content {
+    ghost use Rattle.std.specs.Prelude.{◌≡◌, ◌≢◌, true};
+    ghost use Rattle.jade_base.specs.declared.rights.Mode.{Mode as ModeOf};
     ghost use Rattle.jade_base.specs.Held.{Held};
+    ghost use Rattle.jade_base.specs.Cells.{cells_of, is_own};
 
     ghost Value = { Held };
 
-    ghost view = { λ c. record { mode = c.mode; cells = c.cells.items } };
+    ghost view = { λ c. record { mode = c.mode; cells = cells_of c.cells } };
+
+    ghost invariant = { λ c. c.mode ≢ ModeOf.Reading → is_own c.cells ≡ true };
 }
 
 impl Content {
@@ -27,7 +98,17 @@ impl Content {
     {
         Content {
             mode,
-            cells: cells.into_vec(),
+            cells: Cells::Own(cells.into_vec()),
+        }
+    }
+
+    /// Shared cells, held for reading. It takes no memory.
+    pub fn shared(cells: SharedCells) -> Content
+        ensures { result ≡ record { mode = Mode.Reading; cells = cells } }
+    {
+        Content {
+            mode: Mode::Reading,
+            cells: Cells::Shared(cells),
         }
     }
 
@@ -35,8 +116,11 @@ impl Content {
     pub fn copy(&self, alloc: Global, mode: Mode) -> Result<Content, Memory>
         ensures { IfOk result (λ copy. copy ≡ record { mode = mode; cells = self.now.cells }) }
     {
-        let cells = Vec::from_slice(alloc, self.cells.as_slice())?;
-        Ok(Content { mode, cells })
+        let cells = Vec::from_slice(alloc, as_slice(&self.cells))?;
+        Ok(Content {
+            mode,
+            cells: Cells::Own(cells),
+        })
     }
 
     /// The mode of the hold.
@@ -50,7 +134,7 @@ impl Content {
     pub fn len(&self) -> usize
         ensures { result ≡ length self.now.cells }
     {
-        self.cells.len()
+        as_slice(&self.cells).len()
     }
 
     /// The number in a cell, counted from 0.
@@ -58,7 +142,7 @@ impl Content {
         requires { cell < length self.now.cells }
         ensures { slice_get self.now.cells cell ≡ Some result }
     {
-        self.cells[cell]
+        as_slice(&self.cells)[cell]
     }
 
     /// Writes a number into a cell, counted from 0.
@@ -67,7 +151,49 @@ impl Content {
         requires writable { self.old.mode ≢ Mode.Reading }
         ensures { self.new ≡ record self.old { cells = slice_set self.old.cells cell value } }
     {
-        self.cells[cell] = value;
+        write(&mut self.cells, cell, value);
+    }
+
+    /// The cells of a content that is not held for reading. It takes no memory.
+    pub fn into_cells(self) -> Numbers
+        requires { self.mode ≢ Mode.Reading }
+        ensures { result ≡ self.cells }
+    {
+        own(self.cells)
+    }
+}
+
+// The cells, whoever else has them.
+fn as_slice(cells: &Cells) -> &[i64]
+    ensures { result.now ≡ cells_of cells.now }
+{
+    match cells {
+        Cells::Own(cells) => cells.as_slice(),
+        Cells::Shared(cells) => cells.as_slice(),
+    }
+}
+
+// Writes a number into a cell of cells that nobody else has.
+fn write(cells: &mut Cells, cell: usize, value: i64)
+    requires within { cell < length (cells_of cells.old) }
+    requires own { is_own cells.old ≡ true }
+    ensures cells { cells_of cells.new ≡ slice_set (cells_of cells.old) cell value }
+    ensures own { is_own cells.new ≡ true }
+{
+    match cells {
+        Cells::Own(cells) => cells[cell] = value,
+        Cells::Shared(_) => {}
+    }
+}
+
+// Cells that nobody else has, themselves.
+fn own(cells: Cells) -> Numbers
+    requires { is_own cells ≡ true }
+    ensures { result ≡ cells_of cells }
+{
+    match cells {
+        Cells::Own(cells) => Numbers::from_vec(cells),
+        Cells::Shared(_) => unreachable!(),
     }
 }
 
@@ -92,6 +218,26 @@ mod tests {
         assert_eq!(rt; copy.len(), 2);
         assert_eq!(rt; copy.get(0), -3);
         assert_eq!(rt; copy.get(1), 9);
+        assert_eq!(rt; content.into_cells().as_slice(), [-3, 9].as_slice());
+        Ok(())
+    }
+
+    #[test]
+    fn shares_cells(rt: HostRuntime) -> Result<(), Fail> {
+        let mut cells = Vec::new(rt.alloc());
+        cells.push(7)?;
+        let shared = match SharedCells::of(rt.alloc(), Numbers::from_vec(cells)) {
+            Ok(shared) => shared,
+            Err(_) => return Err(Fail::new("shared")),
+        };
+        let content = Content::shared(shared.again()?);
+        assert_eq!(rt; content.get(0), 7);
+        let shared = match shared.into_own() {
+            Ok(_) => return Err(Fail::new("shared")),
+            Err(shared) => shared,
+        };
+        drop(content);
+        assert_eq!(rt; shared.into_own().is_ok(), true);
         Ok(())
     }
 }

@@ -21,7 +21,7 @@ pub mod sure;
 pub mod text;
 pub mod word;
 
-pub use content::Content;
+pub use content::{Content, SharedCells};
 pub use failure::{Failed, Memory};
 pub use memory_sink::MemorySink;
 pub use memory_source::MemorySource;
