@@ -55,7 +55,7 @@ use Rattle.jade_parser.specs.declared.Sign.TheVariants.{
   MainWord,
   Colon,
 }
-use Rattle.jade_parser.specs.Begins.{begin_of, Told}
+use Rattle.jade_parser.specs.steps.Begins.{begin_of, Told}
 
 pub told : (c : BlockKind) (s : Sign) → Told c s (begin_of c s)
 told Main TrueWord = λ st. refl

@@ -3,7 +3,7 @@ use Rattle.std.proofs.Common.{◌≡◌, ◌+◌, Bool, true, false, ◌&&◌, L
 use Rattle.std.specs.List.{flat_map}
 use Rattle.std.proofs.lemmas.List.{map-append}
 use Rattle.jade_parser.specs.Spelled.{Tokens, Parts, tokens_of, fixed, Fixed}
-use Rattle.jade_parser.specs.Machine.{Must, Body, Stack, goes, is_sign}
+use Rattle.jade_parser.specs.steps.Machine.{Must, Body, Stack, goes, is_sign}
 use Rattle.jade_syntax.specs.declared.shapes.place.BlockKind.{BlockKind}
 use Rattle.jade_syntax.specs.Shapes.{all_placed}
 use Rattle.jade_parser.specs.declared.Sign.TheVariants.{LeftBrace, RightBrace, ElseWord}

@@ -5,8 +5,9 @@ use Rattle.std.proofs.lemmas.List.{take_more, map-append}
 use Rattle.std.proofs.lemmas.Option.{slice_get_within, get_or_from_slice_get}
 use Rattle.jade_lexer.specs.Lexemes.{TokenAt}
 use Rattle.jade_parser.specs.declared.Seen.{Seen}
-use Rattle.jade_parser.specs.Kinds.{IsSeen, token_of_bytes}
-use Rattle.jade_parser.specs.Reads.{token_of}
+use Rattle.jade_parser.specs.Kinds.{token_of_bytes}
+use Rattle.jade_parser.specs.steps.Reads.{IsSeen}
+use Rattle.jade_parser.specs.steps.Reads.{token_of}
 
 mapped : {A B C : Type 0} (f : A → C) (g : B → C) (xs : List A) (ys : List B) (x : A) (y : B) → map g ys ≡ map f xs → g y ≡ f x → map g (ys ++ y ∷ [])
     ≡ map f (xs ++ x ∷ [])

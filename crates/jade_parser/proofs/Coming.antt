@@ -2,14 +2,14 @@
 use Rattle.std.proofs.Common.{◌≡◌, ℕ, ◌≤◌, Bool, true, false, List, [], ◌∷◌, ◌++◌, Some, refl, ap, length, drop, codes, arith}
 use Rattle.jade_base.specs.declared.place.Pos.{Pos}
 use Rattle.jade_parser.specs.Spelled.{Token, Tokens, Fixed, Called, Counted, Odd, Parts, AllValid, fixed, marked, outer, expr_parts}
-use Rattle.jade_parser.specs.Machine.{Stack, goes, is_sign, same_sign}
+use Rattle.jade_parser.specs.steps.Machine.{Stack, goes, is_sign, same_sign}
 use Rattle.jade_parser.specs.declared.Sign.{Sign}
 use Rattle.jade_parser.specs.declared.Seen.{Seen}
 use Rattle.jade_parser.specs.declared.Stop.{Stop}
 use Rattle.jade_parser.specs.declared.Stop.TheVariants.{Token as AtToken, Long, Memory}
-use Rattle.jade_parser.specs.Reads.{Passes, Whole, OnStop, OnOther, head_sign, kinds}
-use Rattle.jade_parser.specs.Parts.{Any, RefusalIn, LongIn}
-use Rattle.jade_parser.specs.Forms.{Came}
+use Rattle.jade_parser.specs.steps.Reads.{Passes, Whole, OnStop, OnOther, head_sign, kinds}
+use Rattle.jade_parser.specs.steps.Parts.{Any, RefusalIn, LongIn}
+use Rattle.jade_parser.specs.steps.Forms.{Came}
 use Rattle.jade_parser.proofs.Reading.{whole_none, whole_on, whole_past, whole_under}
 use Rattle.jade_parser.proofs.Standing.{same_is}
 use Rattle.jade_parser.proofs.Spelling.{unary_opens, expr_made, and_made, sum_made, product_made}
@@ -53,7 +53,8 @@ after P Q f g all a b xs ys zs s make z e eq proper v w o = stop_in P Q f g all 
 
 -- after what was read, another token stands than the one that is asked for
 pub other : {X : Type 0} (P : X → Type 0) (f : X → Parts) (all : List Seen) (a b : ℕ) (xs ys zs : Stack) (s more : Parts) (tree : X) (e : Stop)
-    → f tree ≡ s ++ more → P tree → AllValid more → Came all a xs b (ys ++ zs) s → OnOther e all b ys → OnStop e (RefusalIn P f all a xs) (LongIn P f all a)
+    → f tree ≡ s ++ more → P tree → AllValid more → Came all a xs b (ys ++ zs) s → OnOther e all b ys
+    → OnStop e (RefusalIn P f all a xs) (LongIn P f all a)
 other P f all a b xs ys zs s more tree e eq fits v w o = stop_other P f all a b xs ys zs s more tree e eq fits v w.short w.whole o
 
 -- the same, of tokens that stand for one another

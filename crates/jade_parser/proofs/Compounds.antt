@@ -57,13 +57,14 @@ use Rattle.jade_parser.specs.declared.Stop.{Stop}
 use Rattle.jade_parser.specs.declared.begins.Begin.{Begin}
 use Rattle.jade_parser.specs.declared.begins.Begin.TheVariants as begin
 use Rattle.jade_parser.specs.Spelled.{Tokens, Fixed, Called, Parts, fixed, marked, outer, AllValid}
-use Rattle.jade_parser.specs.Machine.{Stack, Must, NameIs, Names, Body, Else, goes, counted, expr_in, statement_sign}
+use Rattle.jade_parser.specs.steps.Machine.{Stack, Must, NameIs, Names, Body, Else, goes, counted, expr_in, statement_sign}
 use Rattle.jade_parser.specs.Statements.{statement_parts, block_parts, name_parts, at_statement}
-use Rattle.jade_parser.specs.Reads.{Passes, Stops, Whole, OnStop, OnOther, kinds, head_sign, place_at}
-use Rattle.jade_parser.specs.Parts.{Any, Fits, FitsAll, ReadIn, RefusalIn, LongIn, OuterIn}
-use Rattle.jade_parser.specs.Forms.{Came, NoHead, ended, named_list}
-use Rattle.jade_parser.specs.Begins.{begin_of, Told}
-use Rattle.jade_parser.specs.Compound.{block_in, if_in, for_in, withonly_in, with_in, BeginAt, Halts}
+use Rattle.jade_parser.specs.steps.Reads.{Passes, Stops, Whole, OnStop, OnOther, kinds, head_sign, place_at}
+use Rattle.jade_parser.specs.steps.Parts.{Any, ReadIn, RefusalIn, LongIn, OuterIn}
+use Rattle.jade_parser.specs.Programs.{Fits, FitsAll}
+use Rattle.jade_parser.specs.steps.Forms.{Came, NoHead, ended, named_list}
+use Rattle.jade_parser.specs.steps.Begins.{begin_of, Told}
+use Rattle.jade_parser.specs.steps.Compound.{block_in, if_in, for_in, withonly_in, with_in, BeginAt, Halts}
 use Rattle.jade_parser.proofs.Steps.{some_expr}
 use Rattle.jade_parser.proofs.Reading.{whole_none, none_valid, all_valid}
 use Rattle.jade_parser.proofs.Standing.{takes_sign, takes_marked, split_sign}
@@ -150,7 +151,7 @@ all_fit : (c : BlockKind) (b : List Statement) (s : Statement) → FitsAll c b �
 all_fit c b s f g = record {
   is =
       list_all-append (is_placed c) b (s ∷ [])
-          ∙ both_true (list_all (is_placed c) b) (is_placed c s && true) f.is (both_true (is_placed c s) true g.is refl);
+      ∙ both_true (list_all (is_placed c) b) (is_placed c s && true) f.is (both_true (is_placed c s) true g.is refl);
 }
 
 none_fit : (c : BlockKind) → FitsAll c []
@@ -172,14 +173,14 @@ pub block_refused : (all : List Seen) (start at : ℕ) (c : BlockKind) (b : List
     → OnStop e (RefusalIn (FitsAll c) block_parts all start (block_in c)) (LongIn (FitsAll c) block_parts all start)
 block_refused all start at c b e i o =
     after (FitsAll c) (Fits c) block_parts statement_parts all start at (block_in c) (Body c ∷ []) [] (block_open b) (λ y. b ++ y ∷ [])
-        (fixed RightBrace ∷ [])
+    (fixed RightBrace ∷ [])
     e
     (λ y. rw (flat_map-append statement_parts b (y ∷ [])) (simp (append_assoc, append-nil))) (λ y g. all_fit c b y i.1 g) (record { is = refl }) i.0 o
 
 pub block_kept : (all : List Seen) (start at end : ℕ) (c : BlockKind) (b new : List Statement) (s : Statement) → new ≡ b ++ s ∷ []
     → Came all start (block_in c) at (Body c ∷ []) (block_open b) × FitsAll c b
     → ReadIn (Fits c) statement_parts all at (Body c ∷ []) end (Body c ∷ []) s → Came all start (block_in c) end (Body c ∷ []) (block_open new)
-        × FitsAll c new
+    × FitsAll c new
 block_kept all start at end c b new s e i r =
     let q : Came all at (Body c ∷ []) end (Body c ∷ []) (statement_parts s) = record { whole = r.whole; short = r.short } in
     rw e (rw (flat_map-append statement_parts b (s ∷ []), append-nil) (came_on i.0 q), all_fit c b s i.1 r.fits)
@@ -252,7 +253,7 @@ module _ (all : List Seen) (start : ℕ) (c : BlockKind) (w : Whole all start (B
   elsed : (at mid : ℕ) (t : Expr) (b : List Statement) → OuterIn all (start + 1) at t → ReadIn (FitsAll c) block_parts all at (block_in c) mid [] b
       → Some ElseWord ≡ head_sign (drop mid (kinds all))
       → Came all start (Body c ∷ []) (mid + 1) (Must LeftBrace ∷ Body c ∷ Body c ∷ [])
-          ((fixed IfWord ∷ [] ++ outer t ++ block_parts b) ++ fixed ElseWord ∷ [])
+      ((fixed IfWord ∷ [] ++ outer t ++ block_parts b) ++ fixed ElseWord ∷ [])
   elsed at mid t b x r e = came_on (then_read at mid t b x r) (came_under (Body c ∷ []) (came_fixed (else_taken mid e)))
 
   pub other_refused : (at mid : ℕ) (t : Expr) (b : List Statement) (e : Stop) → OuterIn all (start + 1) at t
@@ -376,7 +377,7 @@ module _ (all : List Seen) (start : ℕ) (c : BlockKind) (w : Whole all start (B
           body_refused e o = after (Fits c) (FitsAll c) statement_parts block_parts all start at (Body c ∷ []) (block_in c) (Body c ∷ [])
               ((for_word n p ++ ended DotDot l) ++ outer h) (λ y. For n p l h y) [] e
               (λ y. for_is n p l h y ∙ body_so (for_word n p) (outer l) dots (outer h) (block_parts y)) (λ y f. for_fits c n p l h y f) none_valid for_high
-                  o
+              o
 
           pub for_read : (end : ℕ) (b : List Statement) → ReadIn (FitsAll c) block_parts all at (block_in c) end [] b
               → ReadIn (Fits c) statement_parts all start (Body c ∷ []) end (Body c ∷ []) (For n p l h b)
@@ -409,7 +410,7 @@ withonly_fits : (p : Pos) (s : List Statement) (ns : List Named) (b : List State
 withonly_fits p s ns b f g = record {
   is =
       placed_opens Main (Withonly p s ns b)
-          ∙ rw (outs-Withonly p s ns b) (both_true (list_all (is_placed Section) s) (list_all (is_placed Main) b) f.is g.is);
+      ∙ rw (outs-Withonly p s ns b) (both_true (list_all (is_placed Section) s) (list_all (is_placed Main) b) f.is g.is);
 }
 
 section_so : (w x : Parts) → w ++ x ++ do_word ++ paren ++ [] ++ fixed RightParen ∷ [] ++ block_parts [] ≡ w
@@ -447,7 +448,7 @@ module _ (all : List Seen) (start : ℕ)
         → Halts Main all start e
     section_refused e o = after (Fits Main) (FitsAll Section) statement_parts block_parts all start (start + 1) (Body Main ∷ []) (block_in Section)
         (Must DoWord ∷ Must LeftParen ∷ Names ∷ named_in) (only p) (λ y. Withonly p y [] [])
-            (fixed DoWord ∷ fixed LeftParen ∷ fixed RightParen ∷ block_parts [])
+        (fixed DoWord ∷ fixed LeftParen ∷ fixed RightParen ∷ block_parts [])
         e
         (λ y. withonly_is p y [] [] ∙ section_so (only p) (block_parts y)) (λ y f. withonly_fits p y [] [] f (none_fit Main)) (record { is = refl })
         (came_marked w) o
@@ -469,7 +470,7 @@ module _ (all : List Seen) (start : ℕ)
         paren_refused e o = other (Fits Main) statement_parts all start done (Body Main ∷ []) (Must LeftParen ∷ []) (Names ∷ named_in)
             (only p ++ block_parts s ++ do_word) (fixed LeftParen ∷ fixed RightParen ∷ block_parts []) (Withonly p s [] []) e
             (withonly_is p s [] [] ∙ paren_so (only p) (block_parts s)) (withonly_fits p s [] [] sr.fits (none_fit Main)) (record { is = refl }) only_done
-                o
+            o
 
         module _ (opened : ℕ) (o : Whole all done (Must LeftParen ∷ []) opened [] (fixed LeftParen ∷ [])) where
           only_opened : Came all start (Body Main ∷ []) opened (Names ∷ named_in) (only p ++ block_parts s ++ do_word ++ paren)
@@ -492,7 +493,7 @@ module _ (all : List Seen) (start : ℕ)
             task_refused e q = after (Fits Main) (FitsAll Main) statement_parts block_parts all start at (Body Main ∷ []) (block_in Main) (Body Main ∷ [])
                 ((only p ++ block_parts s ++ do_word ++ paren) ++ named_list ns) (λ y. Withonly p s ns y) [] e
                 (λ y. withonly_is p s ns y ∙ only_body_so (only p ++ block_parts s ++ do_word ++ paren) (name_parts ns) (fixed RightParen ∷ [])
-                    (block_parts y))
+                (block_parts y))
                 (λ y f. withonly_fits p s ns y sr.fits f) none_valid only_named q
 
             pub withonly_read : (end : ℕ) (b : List Statement) (q : Pos) → q ≡ place_at all start

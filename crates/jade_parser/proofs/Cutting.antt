@@ -35,10 +35,11 @@ use Rattle.std.proofs.lemmas.List.Folds.{list_all-append}
 use Rattle.jade_base.specs.declared.place.Pos.{Pos}
 use Rattle.jade_syntax.specs.declared.tree.Expr.{Expr}
 use Rattle.jade_parser.specs.Spelled.{Tokens, Part, Parts, tokens_of, numbered, outer, is_valid, AllValid, AllShort, expr_parts}
-use Rattle.jade_parser.specs.Machine.{expr_in}
+use Rattle.jade_parser.specs.steps.Machine.{expr_in}
 use Rattle.jade_parser.specs.declared.Seen.{Seen}
-use Rattle.jade_parser.specs.Reads.{Reads, kinds, places, Agrees, Known, Refusal, Whole}
-use Rattle.jade_parser.specs.Parts.{Any, RefusalIn, LongIn, OuterIn}
+use Rattle.jade_parser.specs.steps.Reads.{Reads, kinds, places, Known, Refusal, Whole}
+use Rattle.jade_parser.specs.Spelled.{Agrees}
+use Rattle.jade_parser.specs.steps.Parts.{Any, RefusalIn, LongIn, OuterIn}
 use Rattle.jade_parser.proofs.Reading.{reads_length, all_valid}
 
 pub numbered_tokens : (n : ℕ) (ps : Parts) → tokens_of (numbered n ps) ≡ tokens_of ps

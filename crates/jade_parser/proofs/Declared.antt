@@ -11,10 +11,11 @@ use Rattle.jade_parser.specs.declared.Sign.TheVariants.{InputWord, ObjectWord, O
 use Rattle.jade_parser.specs.declared.Seen.{Seen}
 use Rattle.jade_parser.specs.declared.Stop.{Stop}
 use Rattle.jade_parser.specs.Spelled.{Tokens, Fixed, Called, Counted, Odd, Part, Parts, fixed, marked, number_part, AllValid, AllShort}
-use Rattle.jade_parser.specs.Machine.{Stack, Must, NameIs, NumberIs, Items, goes}
-use Rattle.jade_parser.specs.Reads.{kinds, head_sign, place_at, Whole, Stops, OnStop, OnOther}
-use Rattle.jade_parser.specs.Parts.{Any, ReadIn, RefusalIn, LongIn}
-use Rattle.jade_parser.specs.Programs.{between_parts, item_parts, head_parts, opening_of, OpeningAt, size_in, count_in, body_in}
+use Rattle.jade_parser.specs.steps.Machine.{Stack, Must, NameIs, NumberIs, Items, goes}
+use Rattle.jade_parser.specs.steps.Reads.{kinds, head_sign, place_at, Whole, Stops, OnStop, OnOther}
+use Rattle.jade_parser.specs.steps.Parts.{Any, ReadIn, RefusalIn, LongIn}
+use Rattle.jade_parser.specs.Programs.{between_parts, item_parts, head_parts}
+use Rattle.jade_parser.specs.steps.Openings.{opening_of, OpeningAt, size_in, count_in, body_in}
 use Rattle.jade_parser.proofs.Standing.{takes_sign, split_sign}
 use Rattle.jade_parser.proofs.Reading.{whole_none, whole_on, whole_under, whole_more, none_valid}
 use Rattle.jade_parser.proofs.Going.{stop_in, stop_under, stop_here, stop_other, none_short, all_short}
@@ -92,7 +93,8 @@ abbrev named_parts : Sign → List ℕ → Pos → Parts
 named_parts s n p = fixed s ∷ marked (Called n) p ∷ []
 
 -- no name stands after the word
-pub unnamed : (all : List Seen) (start : ℕ) (s : Sign) (zs : Stack) (tree : Item) (more : Parts) (e : Stop) → item_parts tree ≡ fixed s ∷ more → AllValid more
+pub unnamed : (all : List Seen) (start : ℕ) (s : Sign) (zs : Stack) (tree : Item) (more : Parts) (e : Stop) → item_parts tree ≡ fixed s ∷ more
+    → AllValid more
     → Whole all start (Items ∷ []) (start + 1) (NameIs ∷ zs) (fixed s ∷ [])
     → OnOther e all (start + 1) (NameIs ∷ []) → OnStop e (RefusalIn Any item_parts all start (Items ∷ [])) (LongIn Any item_parts all start)
 unnamed all start s zs tree more e eq v w other =
@@ -115,7 +117,8 @@ pub family_unnamed : (all : List Seen) (start : ℕ) (e : Stop)
     → Whole all start (Items ∷ []) (start + 1) (NameIs ∷ count_in ++ size_in ++ Items ∷ []) (fixed ObjectsWord ∷ [])
     → OnOther e all (start + 1) (NameIs ∷ []) → OnStop e (RefusalIn Any item_parts all start (Items ∷ [])) (LongIn Any item_parts all start)
 family_unnamed all start e w other = unnamed all start ObjectsWord _ (Family (codes "x") any_pos any_number any_number)
-    (any_name any_pos ∷ (between_parts LeftBracket RightBracket any_number ++ between_parts Colon Semicolon any_number)) e refl (record { is = refl }) w other
+    (any_name any_pos ∷ (between_parts LeftBracket RightBracket any_number ++ between_parts Colon Semicolon any_number)) e refl (record { is = refl }) w
+    other
 
 -- the word and the name
 pub word_named : (all : List Seen) (start : ℕ) (s : Sign) (zs : Stack) (n : List ℕ) (p : Pos) → p ≡ place_at all (start + 1)
@@ -163,7 +166,8 @@ single_open all start n p e w o =
 
 pub single_read : (all : List Seen) (start end : ℕ) (n : List ℕ) (p : Pos) (y : Number)
     → Whole all start (Items ∷ []) (start + 2) (size_in ++ Items ∷ []) (named_parts ObjectWord n p)
-    → ReadIn Any (between_parts Colon Semicolon) all (start + 2) size_in end [] y → ReadIn Any item_parts all start (Items ∷ []) end (Items ∷ []) (Single n p y)
+    → ReadIn Any (between_parts Colon Semicolon) all (start + 2) size_in end [] y
+    → ReadIn Any item_parts all start (Items ∷ []) end (Items ∷ []) (Single n p y)
 single_read all start end n p y w q = record {
   whole = whole_on w (whole_under (Items ∷ []) q.whole);
   fits = ok;
@@ -177,7 +181,8 @@ pub family_open : (all : List Seen) (start : ℕ) (n : List ℕ) (p : Pos) (e : 
     (LongIn Any (between_parts LeftBracket RightBracket) all (start + 2))
     → OnStop e (RefusalIn Any item_parts all start (Items ∷ [])) (LongIn Any item_parts all start)
 family_open all start n p e w o =
-    number_open all start (start + 2) LeftBracket RightBracket (size_in ++ Items ∷ []) (named_parts ObjectsWord n p) (between_parts Colon Semicolon any_number)
+    number_open all start (start + 2) LeftBracket RightBracket (size_in ++ Items ∷ []) (named_parts ObjectsWord n p)
+    (between_parts Colon Semicolon any_number)
     (λ y. Family n p y any_number) e
     (λ y. refl) (record { is = refl }) (record { is = refl }) w o
 
@@ -196,7 +201,8 @@ pub family_unsized : (all : List Seen) (start at : ℕ) (n : List ℕ) (p : Pos)
     → OnStop e (RefusalIn Any (between_parts Colon Semicolon) all at size_in) (LongIn Any (between_parts Colon Semicolon) all at)
     → OnStop e (RefusalIn Any item_parts all start (Items ∷ [])) (LongIn Any item_parts all start)
 family_unsized all start at n p x e w o =
-    number_open all start at Colon Semicolon (Items ∷ []) (counted_parts n p x) [] (λ y. Family n p x y) e (λ y. refl) none_valid (record { is = refl }) w o
+    number_open all start at Colon Semicolon (Items ∷ []) (counted_parts n p x) [] (λ y. Family n p x y) e (λ y. refl) none_valid (record { is = refl }) w
+    o
 
 pub family_read : (all : List Seen) (start at end : ℕ) (n : List ℕ) (p : Pos) (x y : Number)
     → Whole all start (Items ∷ []) at (size_in ++ Items ∷ []) (counted_parts n p x)

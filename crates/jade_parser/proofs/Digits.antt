@@ -48,7 +48,8 @@ pub digits_step : (bytes : List ℕ) (i : ℕ) → i < length bytes → list_all
 digits_step bytes i within = rw (add-one, drop-cons bytes i 0) refl
 
 -- a value past the limit stays past it
-value_past : (limit n : ℕ) (digits : List ℕ) (i : ℕ) → i < length digits → limit < 10 * n + (get_or digits i 0 - 48) → leb (value_after n (drop i digits)) limit
+value_past : (limit n : ℕ) (digits : List ℕ) (i : ℕ) → i < length digits → limit < 10 * n + (get_or digits i 0 - 48)
+    → leb (value_after n (drop i digits)) limit
     ≡ false
 value_past limit n digits i within past =
     rw (value_step n digits i within)

@@ -284,7 +284,8 @@ first_is None b s Q f g e = g e
 
 found : (groups : List (List Sign)) (x : List ℕ) (s : Sign) → sign_in groups x ≡ Some s → sign_bytes s ≡ x
 found [] x s e = absurd (cc)
-found (signs ∷ groups) x s e = first_is (sign_among signs x) (sign_in groups x) s (sign_bytes s ≡ x) (λ k. found_among signs x s k) (λ k. found groups x s k) e
+found (signs ∷ groups) x s e = first_is (sign_among signs x) (sign_in groups x) s (sign_bytes s ≡ x) (λ k. found_among signs x s k)
+    (λ k. found groups x s k) e
 
 -- ---- what no sign is, is no reserved word of a form
 

@@ -37,11 +37,22 @@ use Rattle.jade_syntax.specs.declared.tree.DeclareWord.TheVariants.{Rd, Wr, RdWr
 use Rattle.jade_syntax.specs.declared.tree.Statement.{Statement, map-Statement, fold-Statement, fold-roll-Statement, ind-Statement}
 use Rattle.jade_syntax.specs.declared.tree.Statement.TheOpen.{Statement-F}
 use Rattle.jade_parser.specs.Spelled.{Tokens, Part, Parts, tokens_of, fixed, marked, numbered, outer, Fixed, Called, expr_parts, bracketed}
-use Rattle.jade_parser.specs.Machine.{Must, Body, Else, Second, NameIs, Names, MoreNames, Stack, goes, expr_in, is_sign}
+use Rattle.jade_parser.specs.steps.Machine.{Must, Body, Else, Second, NameIs, Names, MoreNames, Stack, goes, expr_in, is_sign}
 use Rattle.jade_syntax.specs.declared.shapes.place.BlockKind.{BlockKind}
 use Rattle.jade_syntax.specs.declared.shapes.place.BlockKind.TheVariants.{Main, Section, Amends}
 use Rattle.jade_syntax.specs.Shapes.{all_placed, other_placed, at_place, is_main, declares, is_placed}
-use Rattle.jade_parser.specs.declared.Sign.TheVariants.{LeftBrace, ElseWord, Semicolon, Becomes, DotDot, RightBracket, LeftParen, RightParen, DoWord, ContWord}
+use Rattle.jade_parser.specs.declared.Sign.TheVariants.{
+  LeftBrace,
+  ElseWord,
+  Semicolon,
+  Becomes,
+  DotDot,
+  RightBracket,
+  LeftParen,
+  RightParen,
+  DoWord,
+  ContWord,
+}
 use Rattle.jade_parser.specs.Statements.{braced, else_parts, at_statement, statement_parts, outer_index, name_parts, more_names, declare_word}
 use Rattle.jade_parser.proofs.Running.{Runs}
 use Rattle.jade_parser.proofs.Trees.{expr_runs}
@@ -62,7 +73,8 @@ numbered_runs ps r = record { by = λ st rest f. rw (numbered_tokens 0 ps, numbe
 pub outer_runs : (e : Expr) → Runs expr_in 5 (outer e)
 outer_runs e = numbered_runs (expr_parts e) (expr_runs e)
 
-value_goes : (x : Parts) (st : Stack) (rest : Tokens) → Runs expr_in 5 x → goes (tokens_of (x ++ fixed Semicolon ∷ []) ++ rest) (expr_in ++ Must Semicolon ∷ st)
+value_goes : (x : Parts) (st : Stack) (rest : Tokens) → Runs expr_in 5 x
+    → goes (tokens_of (x ++ fixed Semicolon ∷ []) ++ rest) (expr_in ++ Must Semicolon ∷ st)
     ≡ length (x ++ fixed Semicolon ∷ []) + goes rest st
 value_goes x st rest runs =
     let r = runs.by (Must Semicolon ∷ st) (Fixed Semicolon ∷ rest) (omega arith) in
@@ -82,7 +94,11 @@ local_goes c BoolKind n p x = record {
 }
 
 assign_goes : (c : BlockKind) (n : List ℕ) (p : Pos) (x : Expr) → Goes c (at_statement (Statement-F.Assign n p x))
-assign_goes c n p x = record { by = λ st rest e. let v = value_goes (outer x) (Body c ∷ st) rest (outer_runs x) in omega (arith, v); begins = λ rest e. refl }
+assign_goes c n p x = record {
+  by = λ st rest e. let v = value_goes (outer x) (Body c ∷ st) rest (outer_runs x) in omega (arith, v);
+  begins =
+      λ rest e. refl;
+}
 
 pass_else : (c : BlockKind) (st : Stack) (rest : Tokens) → NotElse rest → goes rest (Else c ∷ st) ≡ goes rest st
 pass_else c st [] e = refl
@@ -153,7 +169,8 @@ module _ {S : Type 0} (tok : S → Parts) (shape : S → BlockKind → Bool) (ok
     begins = λ rest n. refl;
   }
 
-  for_runs : (c : BlockKind) (l h : Parts) (xs : List S) (st : Stack) (rest : Tokens) → Runs expr_in 5 l → Runs expr_in 5 h → all_placed c (map shape xs) ≡ true
+  for_runs : (c : BlockKind) (l h : Parts) (xs : List S) (st : Stack) (rest : Tokens) → Runs expr_in 5 l → Runs expr_in 5 h → all_placed c (map shape xs)
+      ≡ true
       → goes (tokens_of (((l ++ fixed DotDot ∷ []) ++ h) ++ braced (map tok xs)) ++ rest)
       (expr_in ++ Must DotDot ∷ expr_in ++ Must LeftBrace ∷ Body c ∷ Body c ∷ st)
       ≡ length (((l ++ fixed DotDot ∷ []) ++ h) ++ braced (map tok xs)) + goes rest (Body c ∷ st)
@@ -285,7 +302,8 @@ store_goes t x = record {
 }
   where
     of : (n : List ℕ) (p : Pos) (o : Option Expr) (c : Expr) (st : Stack) (rest : Tokens)
-        → goes (tokens_of ((((marked (Called n) p ∷ (outer_index o ++ bracketed (outer c))) ++ fixed Becomes ∷ []) ++ outer x) ++ fixed Semicolon ∷ []) ++ rest)
+        → goes (tokens_of ((((marked (Called n) p ∷ (outer_index o ++ bracketed (outer c))) ++ fixed Becomes ∷ []) ++ outer x) ++ fixed Semicolon ∷ [])
+        ++ rest)
         (Body Main ∷ st)
         ≡ length ((((marked (Called n) p ∷ (outer_index o ++ bracketed (outer c))) ++ fixed Becomes ∷ []) ++ outer x) ++ fixed Semicolon ∷ []) + goes rest
         (Body Main ∷ st)
@@ -341,7 +359,8 @@ named_runs : (m : Option Expr) (n : List ℕ) (st : Stack) (rest : Tokens)
 named_runs None n st rest = omega arith
 named_runs (Some x) n st rest =
     let s = second_index (outer x) (Must RightParen ∷ Must Semicolon ∷ st) (Fixed RightParen ∷ Fixed Semicolon ∷ rest) (outer_runs x) in
-    let d = ap (λ l. goes l (Second ∷ Must RightParen ∷ Must Semicolon ∷ st)) (with_cont (bracketed (outer x)) (fixed RightParen) (fixed Semicolon) rest) in
+    let d = ap (λ l. goes l (Second ∷ Must RightParen ∷ Must Semicolon ∷ st))
+    (with_cont (bracketed (outer x)) (fixed RightParen) (fixed Semicolon) rest) in
     omega (
       arith,
       s,
@@ -354,7 +373,8 @@ named_runs (Some x) n st rest =
 declare_goes : (c : BlockKind) (w : DeclareWord) (p : Pos) (o : ObjectRef) → declares c w ≡ true → Goes c (at_statement (Statement-F.Declare w p o))
 declare_goes c w p o e = record {
   by = λ st rest f.
-      let a = declared c w (Fixed LeftParen ∷ (Called o.name ∷ (tokens_of ((outer_index o.member ++ fixed RightParen ∷ []) ++ fixed Semicolon ∷ []) ++ rest)))
+      let a = declared c w (Fixed LeftParen
+      ∷ (Called o.name ∷ (tokens_of ((outer_index o.member ++ fixed RightParen ∷ []) ++ fixed Semicolon ∷ []) ++ rest)))
       st e in
       let b = named_runs o.member o.name (Body c ∷ st) rest in
       omega (arith, a, b);
@@ -382,7 +402,8 @@ module _ {S : Type 0} (val : S → Statement) (ok : (s : S) (c : BlockKind) → 
       simp map-map (for_goes (λ (z : S). statement_parts (val z)) (λ (z : S). stands (val z)) ok c n p l h b (simp map-map at e))
   layer (Statement-F.Withonly p ss ns b) c e =
       simp map-map (withonly_goes (λ (z : S). statement_parts (val z)) (λ (z : S). stands (val z)) ok c p ss ns b (simp map-map at e))
-  layer (Statement-F.With p ss) c e = simp map-map (with_goes (λ (z : S). statement_parts (val z)) (λ (z : S). stands (val z)) ok c p ss (simp map-map at e))
+  layer (Statement-F.With p ss) c e =
+      simp map-map (with_goes (λ (z : S). statement_parts (val z)) (λ (z : S). stands (val z)) ok c p ss (simp map-map at e))
   layer (Statement-F.Declare w p o) c e = declare_goes c w p o e
 
 pub statement_goes : (s : Statement) (c : BlockKind) → is_placed c s ≡ true → Goes c (statement_parts s)

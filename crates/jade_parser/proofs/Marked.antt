@@ -108,27 +108,32 @@ module _ {A B C D E F G H : Type 0} (a : A → Atom) (b : B → AndExpr) (c : C 
   atom_layer (Atom-F.Cell x) = cells x.value
 
   cell_at : (n : List ℕ) (p : Pos) (o : Option E) (x : E)
-      → Inner (at_cell (map-CellRef Atom AndExpr CellRef Compare Expr Product Sum Unary Parts Parts Parts Parts Parts Parts Parts Parts atom_parts and_parts
+      → Inner (at_cell (map-CellRef Atom AndExpr CellRef Compare Expr Product Sum Unary Parts Parts Parts Parts Parts Parts Parts Parts atom_parts
+      and_parts
       cell_parts compare_parts expr_parts product_parts sum_parts unary_parts
-      (map-CellRef A B C D E F G H Atom AndExpr CellRef Compare Expr Product Sum Unary a b c d e f g h (record { name = n; pos = p; family = o; cell = x }))))
+      (map-CellRef A B C D E F G H Atom AndExpr CellRef Compare Expr Product Sum Unary a b c d e f g h
+      (record { name = n; pos = p; family = o; cell = x }))))
   cell_at n p None x = inner_first (marked (Called n) p) refl (inner_index (exprs x))
   cell_at n p (Some o) x = inner_first (marked (Called n) p) refl (inner_on (inner_index (exprs o)) (inner_index (exprs x)))
 
   compare_at : (x : G) (o : Option (Relation × Pos × G))
-      → Inner (at_compare (map-Compare Atom AndExpr CellRef Compare Expr Product Sum Unary Parts Parts Parts Parts Parts Parts Parts Parts atom_parts and_parts
+      → Inner (at_compare (map-Compare Atom AndExpr CellRef Compare Expr Product Sum Unary Parts Parts Parts Parts Parts Parts Parts Parts atom_parts
+      and_parts
       cell_parts compare_parts expr_parts product_parts sum_parts unary_parts
       (map-Compare A B C D E F G H Atom AndExpr CellRef Compare Expr Product Sum Unary a b c d e f g h (record { left = x; right = o }))))
   compare_at x None = inner_on (sums x) inner_none
   compare_at x (Some r) = inner_on (sums x) (inner_first (marked (relation_sign r.0) r.1) (relation_quiet r.0) (sums r.2))
 
   cell_layer : (y : CellRef-F A B C D E F G H)
-      → Inner (at_cell (map-CellRef Atom AndExpr CellRef Compare Expr Product Sum Unary Parts Parts Parts Parts Parts Parts Parts Parts atom_parts and_parts
+      → Inner (at_cell (map-CellRef Atom AndExpr CellRef Compare Expr Product Sum Unary Parts Parts Parts Parts Parts Parts Parts Parts atom_parts
+      and_parts
       cell_parts compare_parts expr_parts product_parts sum_parts unary_parts
       (map-CellRef A B C D E F G H Atom AndExpr CellRef Compare Expr Product Sum Unary a b c d e f g h y)))
   cell_layer y = cell_at y.name y.pos y.family y.cell
 
   compare_layer : (y : Compare-F A B C D E F G H)
-      → Inner (at_compare (map-Compare Atom AndExpr CellRef Compare Expr Product Sum Unary Parts Parts Parts Parts Parts Parts Parts Parts atom_parts and_parts
+      → Inner (at_compare (map-Compare Atom AndExpr CellRef Compare Expr Product Sum Unary Parts Parts Parts Parts Parts Parts Parts Parts atom_parts
+      and_parts
       cell_parts compare_parts expr_parts product_parts sum_parts unary_parts
       (map-Compare A B C D E F G H Atom AndExpr CellRef Compare Expr Product Sum Unary a b c d e f g h y)))
   compare_layer y = compare_at y.left y.right
@@ -152,7 +157,8 @@ product_layer {H = H} h each x xs =
 sum_layer : {F : Type 0} (f : F → Product) (each : (x : F) → Inner (product_parts (f x))) → (x : F) (xs : List (SumOp × Pos × F))
     → Inner (product_parts (f x) ++ flat_map (λ (p : SumOp × Pos × F). marked (sum_sign p.0) p.1 ∷ product_parts (f p.2)) xs)
 sum_layer {F = F} f each x xs =
-    inner_chain (λ (p : SumOp × Pos × F). marked (sum_sign p.0) p.1) (λ (p : SumOp × Pos × F). product_parts (f p.2)) (λ p. sum_quiet p.0) (λ p. each p.2) _
+    inner_chain (λ (p : SumOp × Pos × F). marked (sum_sign p.0) p.1) (λ (p : SumOp × Pos × F). product_parts (f p.2)) (λ p. sum_quiet p.0) (λ p. each p.2)
+    _
     (each x) xs
 
 unary_layer : {A : Type 0} (a : A → Atom) (each : (x : A) → Inner (atom_parts (a x))) → (xs : List (UnaryOp × Pos)) (x : A)
@@ -165,7 +171,8 @@ pub inner_expr : (e : Expr) → Inner (expr_parts e)
 inner_expr e = ind-Expr (λ a. Inner (atom_parts a)) (λ a. Inner (and_parts a)) (λ c. Inner (cell_parts c)) (λ c. Inner (compare_parts c))
     (λ e. Inner (expr_parts e))
     (λ p. Inner (product_parts p)) (λ s. Inner (sum_parts s)) (λ u. Inner (unary_parts u))
-    (λ x y k. rw (← k) (rw (fold-roll-Atom Parts Parts Parts Parts Parts Parts Parts Parts at_atom at_and at_cell at_compare at_expr at_product at_sum at_unary)
+    (λ x y k. rw (← k) (rw (fold-roll-Atom Parts Parts Parts Parts Parts Parts Parts Parts at_atom at_and at_cell at_compare at_expr at_product at_sum
+    at_unary)
     (atom_layer (λ z. z.0) (λ z. z.0) (λ z. z.0) (λ z. z.0) (λ z. z.0) (λ z. z.0) (λ z. z.0) (λ z. z.0) (λ z. z.1) (λ z. z.1) (λ z. z.1) (λ z. z.1)
     (λ z. z.1) (λ z. z.1) (λ z. z.1) (λ z. z.1) y)))
     (λ x y k. rw (← k) (rw (fold-roll-AndExpr Parts Parts Parts Parts Parts Parts Parts Parts at_atom at_and at_cell at_compare at_expr at_product at_sum
@@ -176,10 +183,12 @@ inner_expr e = ind-Expr (λ a. Inner (atom_parts a)) (λ a. Inner (and_parts a))
     (λ x y k. rw (← k) (rw (fold-roll-Compare Parts Parts Parts Parts Parts Parts Parts Parts at_atom at_and at_cell at_compare at_expr at_product at_sum
     at_unary) (compare_layer (λ z. z.0) (λ z. z.0) (λ z. z.0) (λ z. z.0) (λ z. z.0) (λ z. z.0) (λ z. z.0) (λ z. z.0) (λ z. z.1) (λ z. z.1) (λ z. z.1)
     (λ z. z.1) (λ z. z.1) (λ z. z.1) (λ z. z.1) (λ z. z.1) y)))
-    (λ x y k. rw (← k) (rw (fold-roll-Expr Parts Parts Parts Parts Parts Parts Parts Parts at_atom at_and at_cell at_compare at_expr at_product at_sum at_unary)
+    (λ x y k. rw (← k) (rw (fold-roll-Expr Parts Parts Parts Parts Parts Parts Parts Parts at_atom at_and at_cell at_compare at_expr at_product at_sum
+    at_unary)
     (simp flat_map-map (expr_layer (λ z. z.0) (λ z. z.1) y.first y.rest))))
     (λ x y k. rw (← k) (rw (fold-roll-Product Parts Parts Parts Parts Parts Parts Parts Parts at_atom at_and at_cell at_compare at_expr at_product at_sum
     at_unary) (simp flat_map-map (product_layer (λ z. z.0) (λ z. z.1) y.first y.rest))))
-    (λ x y k. rw (← k) (rw (fold-roll-Sum Parts Parts Parts Parts Parts Parts Parts Parts at_atom at_and at_cell at_compare at_expr at_product at_sum at_unary)
+    (λ x y k. rw (← k) (rw (fold-roll-Sum Parts Parts Parts Parts Parts Parts Parts Parts at_atom at_and at_cell at_compare at_expr at_product at_sum
+    at_unary)
     (simp flat_map-map (sum_layer (λ z. z.0) (λ z. z.1) y.first y.rest))))
     (λ x y k. rw (← k) (rw unary_opens (unary_layer (λ z. z.0) (λ z. z.1) y.signs y.atom))) e

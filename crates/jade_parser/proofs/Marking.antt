@@ -218,7 +218,8 @@ inner_bracketed p q {ps} o e h = record {
       simp (append_assoc, map-append) in
       let b : marks (Inside (suc d) k) (q.token ∷ rest) ≡ (k + 1) ∷ marks (Inside d (k + 1)) rest =
       ap (λ r. inner_mark (suc d) k r ∷ marks (after_inside (suc d) k r) rest) e in
-      let f : marks (Inside d c) (p.token ∷ (tokens_of (ps ++ q ∷ []) ++ rest)) ≡ (c + 1) ∷ marks (Inside (suc d) (c + 1)) (tokens_of (ps ++ q ∷ []) ++ rest) =
+      let f : marks (Inside d c) (p.token ∷ (tokens_of (ps ++ q ∷ []) ++ rest)) ≡ (c + 1)
+      ∷ marks (Inside (suc d) (c + 1)) (tokens_of (ps ++ q ∷ []) ++ rest) =
       ap (λ i. i ∷ marks (after_inside d c (role p.token)) (tokens_of (ps ++ q ∷ []) ++ rest)) (o.marked d c)
       ∙ ap (λ s. (c + 1) ∷ marks s (tokens_of (ps ++ q ∷ []) ++ rest)) (o.opened d c) in
       let g : n ++ ((k + 1) ∷ marks (Inside d (k + 1)) rest) ≡ nths (numbered (c + 1) (ps ++ q ∷ [])) ++ marks (Inside d (k + 1)) rest =

@@ -161,7 +161,8 @@ pub long_once : (ts : List (List ℕ)) (i j : ℕ) → IsTooLong ts i → IsTooL
 long_once ts i j a b lt = let e : true ≡ false = sym (fine_less ts (i + 1) j (omega arith) (long_fine ts j b)) ∙ long_not ts i a in absurd (cc)
 
 pub refused_or_long : (ts : List (List ℕ)) (i j : ℕ) → IsRefused ts i → IsTooLong ts j → j < i → ⊥
-refused_or_long ts i j a b lt = let e : true ≡ false = sym (fine_less ts (j + 1) i (omega arith) (begun_fine ts i a.begun)) ∙ long_not ts j b in absurd (cc)
+refused_or_long ts i j a b lt = let e : true ≡ false = sym (fine_less ts (j + 1) i (omega arith) (begun_fine ts i a.begun)) ∙ long_not ts j b in
+    absurd (cc)
 
 pub long_or_refused : (ts : List (List ℕ)) (i j : ℕ) → IsRefused ts i → IsTooLong ts j → i ≤ j → ⊥
 long_or_refused ts i j a b le =
@@ -175,7 +176,8 @@ read_or_refused ts p i sound e a lt =
     a.no_more lt (begun_less p [] ts (i + 1) (length ts) (omega arith) sound
     (e ∙ sym (take_all (length ts) ts (omega arith)) ∙ sym (append-nil (take (length ts) ts))))
 
-pub read_or_long : (ts : List (List ℕ)) (p : Program) (i : ℕ) → IsProgram p → AllShort (program_parts p) → bytes_of (program_parts p) ≡ ts → IsTooLong ts i → ⊥
+pub read_or_long : (ts : List (List ℕ)) (p : Program) (i : ℕ) → IsProgram p → AllShort (program_parts p) → bytes_of (program_parts p) ≡ ts → IsTooLong ts i
+    → ⊥
 read_or_long ts p i sound short e b =
     let w = b.within in
     let same : bytes_of (program_parts p) ≡ take (length ts) ts = e ∙ sym (take_all (length ts) ts (omega arith)) in
@@ -212,7 +214,8 @@ refusals_same ts (Long p) Memory a b = tt
 
 pub apart_is : (ts : TokenList) (p : Program) (e : ParseError) → IsReading ts p → IsRefusal ts e → IsMemory e
 apart_is ts p (AtToken q) r a =
-    by_order a.number (length (texts ts)) (λ l. read_or_refused (texts ts) p a.number r.sound r.spelled a.refused l) (λ h. a.refused.no_end p r.sound r.spelled)
+    by_order a.number (length (texts ts)) (λ l. read_or_refused (texts ts) p a.number r.sound r.spelled a.refused l)
+    (λ h. a.refused.no_end p r.sound r.spelled)
     (λ l. let w = a.refused.within in absurd (omega (arith, l, w)))
 apart_is ts p (Long q) r a = read_or_long (texts ts) p a.number r.sound r.short r.spelled a.too_long
 apart_is ts p Memory r a = tt

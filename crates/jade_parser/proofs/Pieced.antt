@@ -29,15 +29,15 @@ use Rattle.jade_syntax.specs.declared.tree.Expr.{Expr}
 use Rattle.jade_syntax.specs.declared.tree.Named.{Named}
 use Rattle.jade_syntax.specs.declared.tree.ObjectRef.{ObjectRef}
 use Rattle.jade_parser.specs.Spelled.{Tokens, Fixed, Called, Counted, Odd, Part, Parts, fixed, marked, outer}
-use Rattle.jade_parser.specs.Machine.{Stack, goes, Must, NameIs, Names, MoreNames, Second, expr_in}
+use Rattle.jade_parser.specs.steps.Machine.{Stack, goes, Must, NameIs, Names, MoreNames, Second, expr_in}
 use Rattle.jade_parser.specs.Statements.{object_parts, name_parts}
 use Rattle.jade_parser.specs.declared.Sign.{Sign}
 use Rattle.jade_parser.specs.declared.Sign.TheVariants.{LeftParen, RightParen, LeftBracket, RightBracket, Semicolon, Comma}
 use Rattle.jade_parser.specs.declared.Seen.{Seen}
 use Rattle.jade_parser.specs.declared.Stop.{Stop}
-use Rattle.jade_parser.specs.Reads.{Passes, Whole, OnStop, OnOther, head_sign, kinds, place_at}
-use Rattle.jade_parser.specs.Parts.{Any, RefusalIn, LongIn, OuterIn}
-use Rattle.jade_parser.specs.Forms.{Came, NoHead, ended, indexes, declared, named_list}
+use Rattle.jade_parser.specs.steps.Reads.{Passes, Whole, OnStop, OnOther, head_sign, kinds, place_at}
+use Rattle.jade_parser.specs.steps.Parts.{Any, RefusalIn, LongIn, OuterIn}
+use Rattle.jade_parser.specs.steps.Forms.{Came, NoHead, ended, indexes, declared, named_list}
 use Rattle.jade_parser.proofs.Standing.{takes_sign}
 use Rattle.jade_parser.proofs.Going.{stop_here}
 use Rattle.jade_parser.proofs.Coming.{
@@ -65,7 +65,8 @@ pub ended_first : (all : List Seen) (start : ℕ) (closer : Sign) (e : Stop) →
     → OnStop e (RefusalIn Any outer all start expr_in) (LongIn Any outer all start)
     → OnStop e (RefusalIn Any (ended closer) all start (expr_in ++ Must closer ∷ [])) (LongIn Any (ended closer) all start)
 ended_first all start closer e le o =
-    after Any Any (ended closer) outer all start start (expr_in ++ Must closer ∷ []) expr_in (Must closer ∷ []) [] (λ y. y) (fixed closer ∷ []) e (λ y. refl)
+    after Any Any (ended closer) outer all start start (expr_in ++ Must closer ∷ []) expr_in (Must closer ∷ []) [] (λ y. y) (fixed closer ∷ []) e
+    (λ y. refl)
     (λ y _. any y) (record { is = refl }) (came_none all start (expr_in ++ Must closer ∷ []) le) o
 
 pub ended_second : (all : List Seen) (start at : ℕ) (closer : Sign) (x : Expr) (e : Stop) → OuterIn all start at x → OnOther e all at (Must closer ∷ [])
@@ -84,7 +85,8 @@ pub first_refused : (all : List Seen) (start : ℕ) (e : Stop) → start ≤ len
     → OnStop e (RefusalIn Any (ended RightBracket) all start (expr_in ++ Must RightBracket ∷ [])) (LongIn Any (ended RightBracket) all start)
     → OnStop e (RefusalIn Any indexes all start (expr_in ++ Must RightBracket ∷ Second ∷ [])) (LongIn Any indexes all start)
 first_refused all start e le o =
-    after Any Any indexes (ended RightBracket) all start start (expr_in ++ Must RightBracket ∷ Second ∷ []) (expr_in ++ Must RightBracket ∷ []) (Second ∷ []) []
+    after Any Any indexes (ended RightBracket) all start start (expr_in ++ Must RightBracket ∷ Second ∷ []) (expr_in ++ Must RightBracket ∷ [])
+    (Second ∷ []) []
     (λ y. (None, y)) [] e (λ y. sym (append-nil (ended RightBracket y))) (λ y _. any (None, y)) (record { is = refl }) (came_none all start _ le) o
 
 opened_again : (all : List Seen) (start at next : ℕ) (x : Expr) → Came all start (expr_in ++ Must RightBracket ∷ []) at [] (ended RightBracket x)
@@ -126,7 +128,8 @@ some_object = object_with some_name nowhere None
 pub object_refused : (all : List Seen) (start : ℕ) (e : Stop) → start ≤ length all → OnOther e all start (NameIs ∷ [])
     → OnStop e (RefusalIn Any object_parts all start (NameIs ∷ Second ∷ [])) (LongIn Any object_parts all start)
 object_refused all start e le o =
-    other Any object_parts all start start (NameIs ∷ Second ∷ []) (NameIs ∷ []) (Second ∷ []) [] (object_parts some_object) some_object e refl (any some_object)
+    other Any object_parts all start start (NameIs ∷ Second ∷ []) (NameIs ∷ []) (Second ∷ []) [] (object_parts some_object) some_object e refl
+    (any some_object)
     (record { is = refl }) (came_none all start _ le) o
 
 pub member_refused : (all : List Seen) (start next : ℕ) (n : List ℕ) (p : Pos) (e : Stop) → p ≡ place_at all start
@@ -160,7 +163,8 @@ declared_in = Must LeftParen ∷ NameIs ∷ Second ∷ Must RightParen ∷ Must 
 pub paren_refused : (all : List Seen) (start : ℕ) (e : Stop) → start ≤ length all → OnOther e all start (Must LeftParen ∷ [])
     → OnStop e (RefusalIn Any declared all start declared_in) (LongIn Any declared all start)
 paren_refused all start e le o =
-    other Any declared all start start declared_in (Must LeftParen ∷ []) (NameIs ∷ Second ∷ Must RightParen ∷ Must Semicolon ∷ []) [] (declared some_object)
+    other Any declared all start start declared_in (Must LeftParen ∷ []) (NameIs ∷ Second ∷ Must RightParen ∷ Must Semicolon ∷ []) []
+    (declared some_object)
     some_object e refl (any some_object) (record { is = refl }) (came_none all start _ le) o
 
 paren_read : (all : List Seen) (start at : ℕ) → Whole all start (Must LeftParen ∷ []) at [] (fixed LeftParen ∷ [])
@@ -174,9 +178,11 @@ pub inner_refused : (all : List Seen) (start at : ℕ) (e : Stop) → Whole all 
     → OnStop e (RefusalIn Any object_parts all at (NameIs ∷ Second ∷ [])) (LongIn Any object_parts all at)
     → OnStop e (RefusalIn Any declared all start declared_in) (LongIn Any declared all start)
 inner_refused all start at e w o =
-    after Any Any declared object_parts all start at declared_in (NameIs ∷ Second ∷ []) (Must RightParen ∷ Must Semicolon ∷ []) (fixed LeftParen ∷ []) (λ y. y)
+    after Any Any declared object_parts all start at declared_in (NameIs ∷ Second ∷ []) (Must RightParen ∷ Must Semicolon ∷ []) (fixed LeftParen ∷ [])
+    (λ y. y)
     (fixed RightParen ∷ fixed Semicolon ∷ []) e
-    (λ y. inside (fixed LeftParen) (object_parts y) (fixed RightParen) (fixed Semicolon)) (λ y _. any y) (record { is = refl }) (paren_read all start at w) o
+    (λ y. inside (fixed LeftParen) (object_parts y) (fixed RightParen) (fixed Semicolon)) (λ y _. any y) (record { is = refl }) (paren_read all start at w)
+    o
 
 inner_read : (all : List Seen) (start at next : ℕ) (x : ObjectRef) → Whole all start (Must LeftParen ∷ []) at [] (fixed LeftParen ∷ [])
     → Came all at (NameIs ∷ Second ∷ []) next [] (object_parts x)
@@ -201,7 +207,8 @@ pub semicolon_refused : (all : List Seen) (start at next end : ℕ) (x : ObjectR
     → Whole all next (Must RightParen ∷ []) end [] (fixed RightParen ∷ [])
     → OnOther e all end (Must Semicolon ∷ []) → OnStop e (RefusalIn Any declared all start declared_in) (LongIn Any declared all start)
 semicolon_refused all start at next end x e w p q o =
-    other Any declared all start end declared_in (Must Semicolon ∷ []) [] ((fixed LeftParen ∷ object_parts x) ++ fixed RightParen ∷ []) (fixed Semicolon ∷ []) x
+    other Any declared all start end declared_in (Must Semicolon ∷ []) [] ((fixed LeftParen ∷ object_parts x) ++ fixed RightParen ∷ [])
+    (fixed Semicolon ∷ []) x
     e refl (any x) (record { is = refl }) (closing_read all start at next end x w p q) o
 
 pub declared_read : (all : List Seen) (start at next end last : ℕ) (x : ObjectRef) → Whole all start (Must LeftParen ∷ []) at [] (fixed LeftParen ∷ [])
@@ -228,7 +235,8 @@ no_first (Odd ∷ ts) st n e = refl
 pub names_refused : (all : List Seen) (start : ℕ) (e : Stop) → start ≤ length all → NoHead RightParen all start → OnOther e all start (NameIs ∷ [])
     → OnStop e (RefusalIn Any named_list all start (Names ∷ [])) (LongIn Any named_list all start)
 names_refused all start e le n o =
-    other Any named_list all start start (Names ∷ []) (Names ∷ []) [] [] (named_list []) [] e refl (any []) (record { is = refl }) (came_none all start _ le)
+    other Any named_list all start start (Names ∷ []) (Names ∷ []) [] [] (named_list []) [] e refl (any []) (record { is = refl })
+    (came_none all start _ le)
     (other_as all start (NameIs ∷ []) (Names ∷ []) e (λ st k. no_first (drop start (kinds all)) st n.none k) o)
 
 -- a name stands where the list begins
@@ -253,7 +261,8 @@ no_more (t ∷ ts) st n m = rw (not_sign Comma t ts m, not_sign RightParen t ts 
 pub comma_refused : (all : List Seen) (start at : ℕ) (ns : List Named) → Came all start (Names ∷ []) at (MoreNames ∷ []) (name_parts ns)
     → NoHead RightParen all at → NoHead Comma all at → RefusalIn Any named_list all start (Names ∷ []) at
 comma_refused all start at ns w n m =
-    stop_here Any named_list all start at (Names ∷ []) (MoreNames ∷ []) (name_parts ns) (fixed RightParen ∷ []) ns refl (any ns) (record { is = refl }) w.short
+    stop_here Any named_list all start at (Names ∷ []) (MoreNames ∷ []) (name_parts ns) (fixed RightParen ∷ []) ns refl (any ns) (record { is = refl })
+    w.short
     w.whole
     (record { by = λ st. let k = no_more (drop at (kinds all)) st n.none m.none in omega (arith, k) })
 
@@ -281,9 +290,11 @@ pub later_kept : (all : List Seen) (start at : ℕ) (ns new : List Named) (n : L
     → Came all start (Names ∷ []) (at + 2) (MoreNames ∷ []) (name_parts new) × (0 < length new)
 later_kept all start at ns new n p e is w h q =
     let two : at + 1 + 1 ≡ at + 2 = omega arith in
-    let c : Came all start (Names ∷ []) (at + 1 + 1) (MoreNames ∷ []) ((name_parts ns ++ fixed Comma ∷ []) ++ marked (Called n) (place_at all (at + 1)) ∷ []) =
+    let c : Came all start (Names ∷ []) (at + 1 + 1) (MoreNames ∷ [])
+    ((name_parts ns ++ fixed Comma ∷ []) ++ marked (Called n) (place_at all (at + 1)) ∷ []) =
     came_on (comma_read all start at ns w.0 h) (came_under (MoreNames ∷ []) (came_marked q)) in
-    let m : name_parts (ns ++ named n (place_at all (at + 1)) ∷ []) ≡ (name_parts ns ++ fixed Comma ∷ []) ++ marked (Called n) (place_at all (at + 1)) ∷ [] =
+    let m : name_parts (ns ++ named n (place_at all (at + 1)) ∷ []) ≡ (name_parts ns ++ fixed Comma ∷ []) ++ marked (Called n) (place_at all (at + 1))
+    ∷ [] =
     more_is ns (named n (place_at all (at + 1))) w.1
     ∙ sym (append_assoc (name_parts ns) (fixed Comma ∷ []) (marked (Called n) (place_at all (at + 1)) ∷ [])) in
     (rw (e, is, m, ← two) c, rw e (omega (arith, length-append ns (named n p ∷ []))))

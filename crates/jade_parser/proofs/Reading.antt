@@ -26,11 +26,12 @@ use Rattle.std.proofs.lemmas.List.Folds.{list_all-append}
 use Rattle.jade_base.specs.declared.place.Pos.{Pos}
 use Rattle.std.proofs.lemmas.List.Concat.{flat_map-append}
 use Rattle.jade_parser.specs.Spelled.{Part, Parts, tokens_of, is_valid, AllValid}
-use Rattle.jade_parser.specs.Machine.{Stack}
+use Rattle.jade_parser.specs.steps.Machine.{Stack}
 use Rattle.jade_parser.specs.declared.Seen.{Seen}
 use Rattle.jade_parser.specs.declared.Stop.{Stop}
 use Rattle.jade_parser.specs.declared.Stop.TheVariants.{Token as AtToken, Long, Memory}
-use Rattle.jade_parser.specs.Reads.{Reads, kinds, places, Agrees, Passes, Whole, Refusal, OnToken}
+use Rattle.jade_parser.specs.steps.Reads.{Reads, kinds, places, Passes, Whole, Refusal, OnToken}
+use Rattle.jade_parser.specs.Spelled.{Agrees}
 
 pub reads_none : (all : List Seen) (at : ℕ) → at ≤ length all → Reads all at at []
 reads_none all at le = record { forward = omega arith; within = le; stands = refl; agrees = tt; valid = λ k. record { is = refl } }
@@ -68,7 +69,8 @@ passes_on p q = record { by = λ st. p.by st ∙ q.by st }
 pub whole_none : (all : List Seen) (at : ℕ) (xs : Stack) → at ≤ length all → Whole all at xs at xs []
 whole_none all at xs le = record { reads = reads_none all at le; passes = record { by = λ st. refl } }
 
-pub whole_on : {all : List Seen} {a b c : ℕ} {xs ys zs : Stack} {s t : Parts} → Whole all a xs b ys s → Whole all b ys c zs t → Whole all a xs c zs (s ++ t)
+pub whole_on : {all : List Seen} {a b c : ℕ} {xs ys zs : Stack} {s t : Parts} → Whole all a xs b ys s → Whole all b ys c zs t
+    → Whole all a xs c zs (s ++ t)
 whole_on p q = record { reads = reads_on p.reads q.reads; passes = passes_on p.passes q.passes }
 
 -- where nothing more comes at this level
@@ -80,8 +82,10 @@ pub whole_under : {all : List Seen} {a b : ℕ} {xs ys : Stack} {s : Parts} (zs 
 whole_under {all} {a} {b} {xs} {ys} zs p =
     record { reads = p.reads; passes = record { by = λ st. rw (append_assoc xs zs st, append_assoc ys zs st) (p.passes.by (zs ++ st)) } }
 
-pub refusal_under : {X : Type 0} {f : X → Parts} {all : List Seen} {a k : ℕ} {xs : Stack} (zs : Stack) → Refusal f all a xs k → Refusal f all a (xs ++ zs) k
-refusal_under {X} {f} {all} {a} {k} {xs} zs p = record { stops = record { by = λ st. rw (append_assoc xs zs st) (p.stops.by (zs ++ st)) }; begun = p.begun }
+pub refusal_under : {X : Type 0} {f : X → Parts} {all : List Seen} {a k : ℕ} {xs : Stack} (zs : Stack) → Refusal f all a xs k
+    → Refusal f all a (xs ++ zs) k
+refusal_under {X} {f} {all} {a} {k} {xs} zs p =
+    record { stops = record { by = λ st. rw (append_assoc xs zs st) (p.stops.by (zs ++ st)) }; begun = p.begun }
 
 -- one more part of a chain
 pub whole_more : {A : Type 0} (f : A → Parts) {all : List Seen} {a b c : ℕ} {xs ys zs : Stack} (first : Parts) (done : List A) (y : A)

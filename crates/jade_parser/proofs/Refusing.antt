@@ -35,12 +35,14 @@ use Rattle.jade_parser.specs.declared.Stop.{Stop}
 use Rattle.jade_parser.specs.declared.Stop.TheVariants.{Token as AtToken, Long, Memory}
 use Rattle.jade_syntax.specs.declared.shapes.place.BlockKind.TheVariants.{Main}
 use Rattle.jade_parser.specs.Spelled.{Token, Tokens, tokens_of, AllShort}
-use Rattle.jade_parser.specs.Machine.{Stack, feed, goes, counted, Items}
+use Rattle.jade_parser.specs.steps.Machine.{Stack, feed, goes, counted, Items}
 use Rattle.jade_parser.specs.Statements.{block_parts}
-use Rattle.jade_parser.specs.Programs.{head_parts, program_parts, Proper, body_in}
-use Rattle.jade_parser.specs.Parts.{Any, FitsAll, BegunIn, RefusalIn, LongIn, ReadIn}
-use Rattle.jade_parser.specs.Reads.{kinds, Whole, OnStop}
-use Rattle.jade_parser.specs.Refused.{ReadAll, Nowhere, Never, RefusedAt, TooLongAt}
+use Rattle.jade_parser.specs.Programs.{head_parts, program_parts, Proper}
+use Rattle.jade_parser.specs.steps.Openings.{body_in}
+use Rattle.jade_parser.specs.steps.Parts.{Any, BegunIn, RefusalIn, LongIn, ReadIn}
+use Rattle.jade_parser.specs.Programs.{FitsAll}
+use Rattle.jade_parser.specs.steps.Reads.{kinds, Whole, OnStop}
+use Rattle.jade_parser.specs.steps.Refused.{ReadAll, Nowhere, Never, RefusedAt, TooLongAt}
 use Rattle.jade_parser.proofs.Sounding.{program_runs}
 use Rattle.jade_parser.proofs.Reading.{whole_none, whole_on, none_valid}
 use Rattle.jade_parser.proofs.Going.{stop_in, none_short, all_short}
@@ -101,7 +103,8 @@ refused_so all Memory r = tt
 pub head_refused : (all : List Seen) (e : Stop) → OnStop e (RefusalIn Any head_parts all 0 (Items ∷ [])) (LongIn Any head_parts all 0)
     → OnStop e (RefusedAt all) (TooLongAt all)
 head_refused all e o = refused_so all e
-    (stop_in Proper Any program_parts head_parts all 0 0 (Items ∷ []) (Items ∷ []) [] (λ (ys : List Item). record { items = ys; main = [] }) (block_parts [])
+    (stop_in Proper Any program_parts head_parts all 0 0 (Items ∷ []) (Items ∷ []) [] (λ (ys : List Item). record { items = ys; main = [] })
+    (block_parts [])
     (λ ys. refl)
     (λ ys k. record { is = record { is = refl } }) (record { is = refl }) none_short (whole_none all 0 (Items ∷ []) (omega arith)) e o)
 

@@ -4,7 +4,7 @@ use Rattle.std.proofs.lemmas.List.{map-append}
 use Rattle.std.proofs.lemmas.Bool.Decides.{nat_tests}
 use Rattle.std.specs.List.{flat_map}
 use Rattle.jade_parser.specs.Spelled.{Token, Tokens, Part, Parts, tokens_of}
-use Rattle.jade_parser.specs.Machine.{Rest, Stack, rank, asks, goes}
+use Rattle.jade_parser.specs.steps.Machine.{Rest, Stack, rank, asks, goes}
 
 -- the rest does not go on at this level or below
 abbrev pub Follows : ℕ → Tokens → Type 0

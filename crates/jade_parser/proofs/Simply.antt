@@ -37,20 +37,34 @@ use Rattle.jade_syntax.specs.declared.tree.Statement.TheVariants.{Local, Assign,
 use Rattle.jade_syntax.specs.Shapes.{declares, is_main}
 use Rattle.jade_syntax.proofs.Placing.{placed_opens}
 use Rattle.jade_parser.specs.Spelled.{Token, Tokens, Fixed, Called, Counted, Odd, Part, Parts, AllValid, plain, fixed, marked, outer}
-use Rattle.jade_parser.specs.Machine.{Stack, goes, Must, NameIs, Named, Body, Second, expr_in, is_sign}
+use Rattle.jade_parser.specs.steps.Machine.{Stack, goes, Must, NameIs, Named, Body, Second, expr_in, is_sign}
 use Rattle.jade_parser.specs.Statements.{statement_parts, at_statement, kind_word, declare_word, target_parts}
 use Rattle.jade_syntax.specs.declared.shapes.place.BlockKind.{BlockKind}
 use Rattle.jade_parser.specs.declared.Sign.TheVariants.{LeftParen, RightParen, LeftBracket, RightBracket, Semicolon, Becomes}
 use Rattle.jade_parser.specs.declared.Seen.{Seen}
 use Rattle.jade_parser.specs.declared.Stop.{Stop}
-use Rattle.jade_parser.specs.Reads.{Whole, OnStop, OnOther, head_sign, kinds, place_at}
-use Rattle.jade_parser.specs.Parts.{Any, Fits, RefusalIn, LongIn, ReadIn}
-use Rattle.jade_parser.specs.Forms.{Came, NoHead, ended, indexes, declared}
+use Rattle.jade_parser.specs.steps.Reads.{Whole, OnStop, OnOther, head_sign, kinds, place_at}
+use Rattle.jade_parser.specs.steps.Parts.{Any, RefusalIn, LongIn, ReadIn}
+use Rattle.jade_parser.specs.Programs.{Fits}
+use Rattle.jade_parser.specs.steps.Forms.{Came, NoHead, ended, indexes, declared}
 use Rattle.jade_parser.proofs.Reading.{all_valid}
 use Rattle.jade_parser.proofs.Standing.{takes_sign}
 use Rattle.jade_parser.proofs.Steps.{some_expr}
 use Rattle.jade_parser.proofs.Going.{stop_here}
-use Rattle.jade_parser.proofs.Coming.{came_none, came_on, came_under, came_fixed, came_marked, after, other, other_as, not_sign, nowhere, some_name, some_valid}
+use Rattle.jade_parser.proofs.Coming.{
+  came_none,
+  came_on,
+  came_under,
+  came_fixed,
+  came_marked,
+  after,
+  other,
+  other_as,
+  not_sign,
+  nowhere,
+  some_name,
+  some_valid,
+}
 
 pub came_plain : {all : List Seen} {a b : ℕ} {xs ys : Stack} {t : Token} → Whole all a xs b ys (plain t ∷ []) → Came all a xs b ys (plain t ∷ [])
 came_plain p = record { whole = p; short = record { is = refl } }
@@ -62,7 +76,8 @@ pub given_valid : AllValid (fixed Becomes ∷ ended Semicolon some_expr)
 given_valid = all_valid (fixed Becomes ∷ []) (ended Semicolon some_expr) (record { is = refl }) value_valid
 
 -- a whole form was read
-pub read_in : {X : Type 0} (P : X → Type 0) (f : X → Parts) (all : List Seen) (start mid end : ℕ) (xs ys : Stack) (s : Parts) (tree : X) → f tree ≡ s → P tree
+pub read_in : {X : Type 0} (P : X → Type 0) (f : X → Parts) (all : List Seen) (start mid end : ℕ) (xs ys : Stack) (s : Parts) (tree : X) → f tree ≡ s
+    → P tree
     → start < mid → mid ≤ end → Came all start xs end ys s → ReadIn P f all start xs end ys tree
 read_in P f all start mid end xs ys s tree eq fits lt le w = record { whole = rw eq w.whole; fits = fits; further = omega arith; short = rw eq w.short }
 
@@ -91,7 +106,8 @@ local_named : (all : List Seen) (start at : ℕ) (c : BlockKind) (k : ValueKind)
     → Whole all start (Body c ∷ []) (start + 1) (local_in c) (plain (kind_word k) ∷ [])
     → Whole all (start + 1) (NameIs ∷ []) at [] (marked (Called n) (place_at all (start + 1)) ∷ [])
     → Came all start (Body c ∷ []) at (Must Becomes ∷ expr_in ++ Must Semicolon ∷ Body c ∷ []) (plain (kind_word k) ∷ marked (Called n) p ∷ [])
-local_named all start at c k n p is w q = rw is (came_on (came_plain w) (came_under (Must Becomes ∷ expr_in ++ Must Semicolon ∷ Body c ∷ []) (came_marked q)))
+local_named all start at c k n p is w q =
+    rw is (came_on (came_plain w) (came_under (Must Becomes ∷ expr_in ++ Must Semicolon ∷ Body c ∷ []) (came_marked q)))
 
 pub local_ungiven : (all : List Seen) (start at : ℕ) (c : BlockKind) (k : ValueKind) (n : List ℕ) (p : Pos) (e : Stop) → p ≡ place_at all (start + 1)
     → Whole all start (Body c ∷ []) (start + 1) (local_in c) (plain (kind_word k) ∷ [])
@@ -155,13 +171,15 @@ declare_refused all start c k e h w o =
     (λ y. declare_is k (place_at all start) y ∙ ap (λ l. marked (declare_word k) (place_at all start) ∷ l) (sym (append-nil (declared y))))
     (λ y _. declare_fits c k (place_at all start) y h) (record { is = refl }) (came_marked w) o
 
-pub declare_read : (all : List Seen) (start end : ℕ) (c : BlockKind) (k : DeclareWord) (p : Pos) (x : ObjectRef) → p ≡ place_at all start → declares c k ≡ true
+pub declare_read : (all : List Seen) (start end : ℕ) (c : BlockKind) (k : DeclareWord) (p : Pos) (x : ObjectRef) → p ≡ place_at all start → declares c k
+    ≡ true
     → Whole all start (Body c ∷ []) (start + 1) (Must LeftParen ∷ NameIs ∷ Second ∷ Must RightParen ∷ Must Semicolon ∷ Body c ∷ [])
     (marked (declare_word k) (place_at all start) ∷ [])
     → Came all (start + 1) declared_in end [] (declared x) → ReadIn (Fits c) statement_parts all start (Body c ∷ []) end (Body c ∷ []) (Declare k p x)
 declare_read all start end c k p x is h w v = rw is (
     read_in (Fits c) statement_parts all start (start + 1) end (Body c ∷ []) (Body c ∷ []) (marked (declare_word k) (place_at all start) ∷ declared x)
-    (Declare k (place_at all start) x) (declare_is k (place_at all start) x) (declare_fits c k (place_at all start) x h) (omega arith) v.whole.reads.forward
+    (Declare k (place_at all start) x) (declare_is k (place_at all start) x) (declare_fits c k (place_at all start) x h) (omega arith)
+    v.whole.reads.forward
     (came_on (came_marked w) (came_under (Body c ∷ []) v)))
 
 -- ---- assignments
@@ -202,7 +220,8 @@ target_is : (n : List ℕ) (p : Pos) (o : Option Expr) (c : Expr) → target_par
 target_is n p None c = rw (out-roll-CellRef (record { name = n; pos = p; family = None; cell = c })) refl
 target_is n p (Some u) c = rw (out-roll-CellRef (record { name = n; pos = p; family = Some u; cell = c })) refl
 
-store_is : (n : List ℕ) (p : Pos) (o : Option Expr) (i x : Expr) → statement_parts (Store (cell_with n p o i) x) ≡ (stored n p (o, i) ++ fixed Becomes ∷ [])
+store_is : (n : List ℕ) (p : Pos) (o : Option Expr) (i x : Expr) → statement_parts (Store (cell_with n p o i) x)
+    ≡ (stored n p (o, i) ++ fixed Becomes ∷ [])
     ++ ended Semicolon x
 store_is n p o i x =
     fold_out-Statement Parts at_statement (Store (cell_with n p o i) x) ∙ rw (outs-Store (cell_with n p o i) x)
@@ -226,7 +245,8 @@ indexes_refused all start next c n p e h w o =
     after (Fits c) Any statement_parts indexes all start next (Body c ∷ []) (expr_in ++ Must RightBracket ∷ Second ∷ [])
     (Must Becomes ∷ expr_in ++ Must Semicolon ∷ Body c ∷ []) (marked (Called n) p ∷ fixed LeftBracket ∷ []) (λ y. Store (cell_with n p y.0 y.1) some_expr)
     (fixed Becomes ∷ ended Semicolon some_expr) e
-    (λ y. store_is n p y.0 y.1 some_expr ∙ stored_ends (marked (Called n) p ∷ fixed LeftBracket ∷ []) (indexes y) (fixed Becomes) (ended Semicolon some_expr))
+    (λ y. store_is n p y.0 y.1 some_expr
+    ∙ stored_ends (marked (Called n) p ∷ fixed LeftBracket ∷ []) (indexes y) (fixed Becomes) (ended Semicolon some_expr))
     (λ y _. store_fits c (cell_with n p y.0 y.1) some_expr h) given_valid w o
 
 store_indexed : (all : List Seen) (start next at : ℕ) (c : BlockKind) (n : List ℕ) (p : Pos) (i : Option Expr × Expr)
@@ -253,7 +273,8 @@ store_given : (all : List Seen) (start next at then : ℕ) (c : BlockKind) (n : 
 store_given all start next at then c n p i w v r =
     came_on (store_indexed all start next at c n p i w v) (came_under (expr_in ++ Must Semicolon ∷ Body c ∷ []) (came_fixed r))
 
-pub store_refused : (all : List Seen) (start next at then : ℕ) (c : BlockKind) (n : List ℕ) (p : Pos) (i : Option Expr × Expr) (e : Stop) → is_main c ≡ true
+pub store_refused : (all : List Seen) (start next at then : ℕ) (c : BlockKind) (n : List ℕ) (p : Pos) (i : Option Expr × Expr) (e : Stop) → is_main c
+    ≡ true
     → Came all start (Body c ∷ []) next (store_in c) (marked (Called n) p ∷ fixed LeftBracket ∷ [])
     → Came all next (expr_in ++ Must RightBracket ∷ Second ∷ []) at [] (indexes i) → Whole all at (Must Becomes ∷ []) then [] (fixed Becomes ∷ [])
     → OnStop e (RefusalIn Any (ended Semicolon) all then (expr_in ++ Must Semicolon ∷ [])) (LongIn Any (ended Semicolon) all then)
@@ -313,7 +334,8 @@ assign_begun all start c n p is w h =
     (came_fixed (takes_sign all (start + 1) Becomes (Named c ∷ Body c ∷ []) (expr_in ++ Must Semicolon ∷ Body c ∷ []) h (λ rest st. refl)))
 
 pub store_begun : (all : List Seen) (start : ℕ) (c : BlockKind) (n : List ℕ) (p : Pos) → p ≡ place_at all start → is_main c ≡ true
-    → Whole all start (NameIs ∷ []) (start + 1) [] (marked (Called n) (place_at all start) ∷ []) → Some LeftBracket ≡ head_sign (drop (start + 1) (kinds all))
+    → Whole all start (NameIs ∷ []) (start + 1) [] (marked (Called n) (place_at all start) ∷ []) → Some LeftBracket
+    ≡ head_sign (drop (start + 1) (kinds all))
     → Came all start (Body c ∷ []) (start + 1 + 1) (store_in c) (marked (Called n) p ∷ fixed LeftBracket ∷ [])
 store_begun all start c n p is m w h =
     came_on (name_begun all start c n p is w)

@@ -11,10 +11,11 @@ use Rattle.jade_syntax.specs.declared.shapes.place.BlockKind.{BlockKind}
 use Rattle.jade_syntax.specs.declared.shapes.place.BlockKind.TheVariants.{Main}
 use Rattle.jade_parser.specs.declared.Sign.TheVariants.{LeftBrace, RightBrace, MainWord}
 use Rattle.jade_parser.specs.Spelled.{Tokens, Fixed, Part, Parts, tokens_of, fixed}
-use Rattle.jade_parser.specs.Machine.{Stack, Must, Body, Items, goes}
+use Rattle.jade_parser.specs.steps.Machine.{Stack, Must, Body, Items, goes}
 use Rattle.jade_parser.specs.Statements.{block_parts, statement_parts, braced}
-use Rattle.jade_parser.specs.Programs.{item_parts, head_parts, program_parts, Proper, body_in}
-use Rattle.jade_parser.specs.Parts.{FitsAll}
+use Rattle.jade_parser.specs.Programs.{item_parts, head_parts, program_parts, Proper}
+use Rattle.jade_parser.specs.steps.Openings.{body_in}
+use Rattle.jade_parser.specs.Programs.{FitsAll}
 use Rattle.jade_parser.proofs.Blocks.{block_goes, split_tokens}
 use Rattle.jade_parser.proofs.Laid.{stands, statement_goes}
 

@@ -99,12 +99,14 @@ expr_made f r = expr_opens (roll-Expr (record { first = f; rest = r }))
     ∙ ap (λ (x : Expr-F Atom AndExpr CellRef Compare Expr Product Sum Unary). and_parts x.first ++ flat_map or_part x.rest)
     (out-roll-Expr (record { first = f; rest = r }))
 
-pub and_made : (f : Compare) (r : List (Pos × Compare)) → and_parts (roll-AndExpr (record { first = f; rest = r })) ≡ compare_parts f ++ flat_map and_part r
+pub and_made : (f : Compare) (r : List (Pos × Compare)) → and_parts (roll-AndExpr (record { first = f; rest = r })) ≡ compare_parts f
+    ++ flat_map and_part r
 and_made f r = and_opens (roll-AndExpr (record { first = f; rest = r }))
     ∙ ap (λ (x : AndExpr-F Atom AndExpr CellRef Compare Expr Product Sum Unary). compare_parts x.first ++ flat_map and_part x.rest)
     (out-roll-AndExpr (record { first = f; rest = r }))
 
-pub sum_made : (f : Product) (r : List (SumOp × Pos × Product)) → sum_parts (roll-Sum (record { first = f; rest = r })) ≡ product_parts f ++ flat_map sum_part r
+pub sum_made : (f : Product) (r : List (SumOp × Pos × Product)) → sum_parts (roll-Sum (record { first = f; rest = r })) ≡ product_parts f
+    ++ flat_map sum_part r
 sum_made f r = sum_opens (roll-Sum (record { first = f; rest = r }))
     ∙ ap (λ (x : Sum-F Atom AndExpr CellRef Compare Expr Product Sum Unary). product_parts x.first ++ flat_map sum_part x.rest)
     (out-roll-Sum (record { first = f; rest = r }))

@@ -40,9 +40,10 @@ use Rattle.jade_syntax.specs.declared.name.NameError.TheVariants.{Shape, Memory 
 use Rattle.jade_syntax.specs.Names.{is_name}
 use Rattle.jade_syntax.specs.Refusals.{IsNameRefusal}
 use Rattle.jade_parser.specs.Spelled.{Token, Tokens, Fixed, Called, Counted, Odd, marked, fixed, sum_sign, product_sign, relation_sign, unary_sign}
-use Rattle.jade_parser.specs.Machine.{Need, Rest, First, Must, Stack, goes, sum_in, product_in, same_sign}
-use Rattle.jade_parser.specs.Reads.{kinds, place_at, KeptAt, is_known, Known, token_of, head_sign, Reads, Passes, Whole, Stops, NoUnary}
-use Rattle.jade_parser.specs.Ops.{sum_of, product_of, relation_of, unary_of}
+use Rattle.jade_parser.specs.steps.Machine.{Need, Rest, First, Must, Stack, goes, sum_in, product_in, same_sign}
+use Rattle.jade_parser.specs.steps.Reads.{kinds, place_at, is_known, Known, token_of, head_sign, Reads, Passes, Whole, Stops, NoUnary}
+use Rattle.jade_parser.specs.Spelled.{KeptAt}
+use Rattle.jade_parser.specs.steps.Ops.{sum_of, product_of, relation_of, unary_of}
 use Rattle.jade_parser.specs.declared.Seen.{Seen}
 use Rattle.jade_parser.specs.declared.Kind.{Kind}
 use Rattle.jade_parser.specs.declared.Kind.TheVariants.{Fixed as KFixed, Called as KCalled, Counted as KCounted, Odd as KOdd}
@@ -108,13 +109,15 @@ here xs at d lt =
     let m : at < length (kinds xs) = omega arith in
     rw (drop-cons (kinds xs) at (token_of d.kind) m, get_or-map (λ (x : Seen). token_of x.kind) xs at d, add-one) refl
 
-pub head_fixed : (xs : List Seen) (at : ℕ) (d : Seen) (s : Sign) → at < length xs → (get_or xs at d).kind ≡ KFixed s → Some s ≡ head_sign (drop at (kinds xs))
+pub head_fixed : (xs : List Seen) (at : ℕ) (d : Seen) (s : Sign) → at < length xs → (get_or xs at d).kind ≡ KFixed s → Some s
+    ≡ head_sign (drop at (kinds xs))
 head_fixed xs at d s lt e = rw (here xs at d lt, e) refl
 
 pub head_called : (xs : List Seen) (at : ℕ) (d : Seen) (b : _) → at < length xs → (get_or xs at d).kind ≡ KCalled b → None ≡ head_sign (drop at (kinds xs))
 head_called xs at d b lt e = rw (here xs at d lt, e) refl
 
-pub head_counted : (xs : List Seen) (at : ℕ) (d : Seen) (v : ℤ) → at < length xs → (get_or xs at d).kind ≡ KCounted v → None ≡ head_sign (drop at (kinds xs))
+pub head_counted : (xs : List Seen) (at : ℕ) (d : Seen) (v : ℤ) → at < length xs → (get_or xs at d).kind ≡ KCounted v → None
+    ≡ head_sign (drop at (kinds xs))
 head_counted xs at d v lt e = rw (here xs at d lt, e) refl
 
 pub head_odd : (xs : List Seen) (at : ℕ) (d : Seen) → at < length xs → (get_or xs at d).kind ≡ KOdd → None ≡ head_sign (drop at (kinds xs))
@@ -156,7 +159,8 @@ split (t ∷ ts) (suc at) s e =
     let w : suc at + 1 ≡ suc (at + 1) = omega arith in
     (r.0 ∙ ap (λ k. Fixed s ∷ drop k (t ∷ ts)) (sym w), omega (arith, r.1))
 
-pub split_sign : (all : List Seen) (at : ℕ) (s : Sign) → Some s ≡ head_sign (drop at (kinds all)) → drop at (kinds all) ≡ Fixed s ∷ drop (at + 1) (kinds all)
+pub split_sign : (all : List Seen) (at : ℕ) (s : Sign) → Some s ≡ head_sign (drop at (kinds all)) → drop at (kinds all) ≡ Fixed s
+    ∷ drop (at + 1) (kinds all)
 split_sign all at s e = (split (kinds all) at s e).0
 
 pub stands : (all : List Seen) (at : ℕ) (s : Sign) (o : Option Pos) → KeptAt o (place_at all at) → Some s ≡ head_sign (drop at (kinds all))
@@ -252,7 +256,8 @@ sum_leaf all at s r e k = rw k (sum_leaf_of s e)
     sum_leaf_of Colon f = past_sign all at Colon _ f (λ rest st. refl)
 
 pub product_leaf : (all : List Seen) (at : ℕ) (s : Sign) (r : _) → Some s ≡ head_sign (drop at (kinds all)) → r ≡ product_of s
-    → MatchOption r (Passes all at (Rest 1 ∷ []) at []) (λ op. Whole all at (Rest 1 ∷ []) (at + 1) product_in (marked (product_sign op) (place_at all at) ∷ []))
+    → MatchOption r (Passes all at (Rest 1 ∷ []) at [])
+    (λ op. Whole all at (Rest 1 ∷ []) (at + 1) product_in (marked (product_sign op) (place_at all at) ∷ []))
 product_leaf all at s r e k = rw k (product_leaf_of s e)
   where
     product_leaf_of : (u : Sign) → Some u ≡ head_sign (drop at (kinds all))
@@ -310,7 +315,8 @@ product_leaf all at s r e k = rw k (product_leaf_of s e)
     product_leaf_of Colon f = past_sign all at Colon _ f (λ rest st. refl)
 
 pub relation_leaf : (all : List Seen) (at : ℕ) (s : Sign) (r : _) → Some s ≡ head_sign (drop at (kinds all)) → r ≡ relation_of s
-    → MatchOption r (Passes all at (Rest 3 ∷ []) at []) (λ op. Whole all at (Rest 3 ∷ []) (at + 1) sum_in (marked (relation_sign op) (place_at all at) ∷ []))
+    → MatchOption r (Passes all at (Rest 3 ∷ []) at [])
+    (λ op. Whole all at (Rest 3 ∷ []) (at + 1) sum_in (marked (relation_sign op) (place_at all at) ∷ []))
 relation_leaf all at s r e k = rw k (relation_leaf_of s e)
   where
     relation_leaf_of : (u : Sign) → Some u ≡ head_sign (drop at (kinds all))
@@ -575,10 +581,12 @@ no_atom ObjectsWord a b c d rest st = refl
 no_atom MainWord a b c d rest st = refl
 no_atom Colon a b c d rest st = refl
 
-pub odd_here : (xs : List Seen) (at : ℕ) (d : Seen) → at < length xs → (get_or xs at d).kind ≡ KOdd → (st : Stack) → goes (drop at (kinds xs)) (Need ∷ st) ≡ 0
+pub odd_here : (xs : List Seen) (at : ℕ) (d : Seen) → at < length xs → (get_or xs at d).kind ≡ KOdd → (st : Stack) → goes (drop at (kinds xs)) (Need ∷ st)
+    ≡ 0
 odd_here xs at d lt e st = rw (here xs at d lt, e) refl
 
-pub no_sign_here : (all : List Seen) (at : ℕ) (s : Sign) → Some s ≡ head_sign (drop at (kinds all)) → NoUnary all at → (s ≡ TrueWord → ⊥) → (s ≡ FalseWord → ⊥)
+pub no_sign_here : (all : List Seen) (at : ℕ) (s : Sign) → Some s ≡ head_sign (drop at (kinds all)) → NoUnary all at → (s ≡ TrueWord → ⊥)
+    → (s ≡ FalseWord → ⊥)
     → (s ≡ LeftParen → ⊥)
     → (st : Stack) → goes (drop at (kinds all)) (Need ∷ st) ≡ 0
 no_sign_here all at s e u a b c st = let r = split (kinds all) at s e in rw (r.0) (no_atom s a b c (u.none s (sym e)) (drop (at + 1) (kinds all)) st)

@@ -72,11 +72,11 @@ use Rattle.jade_parser.specs.Spelled.{
 }
 use Rattle.jade_parser.specs.declared.Sign.{Sign}
 use Rattle.jade_parser.specs.declared.Sign.TheVariants.{TrueWord, FalseWord, LeftParen, RightParen, LeftBracket, RightBracket}
-use Rattle.jade_parser.specs.Machine.{Stack, Need, Rest, Second, Must, unary_in, sum_in, compare_in, expr_in, goes}
+use Rattle.jade_parser.specs.steps.Machine.{Stack, Need, Rest, Second, Must, unary_in, sum_in, compare_in, expr_in, goes}
 use Rattle.jade_parser.specs.declared.Seen.{Seen}
 use Rattle.jade_parser.specs.declared.Stop.{Stop}
 use Rattle.jade_parser.specs.declared.Stop.TheVariants.{Token as AtToken, Long, Memory}
-use Rattle.jade_parser.specs.Reads.{place_at, Stops, Passes, Whole, Refusal, OnToken, OnStop, OnOther, closed, head_sign, kinds}
+use Rattle.jade_parser.specs.steps.Reads.{place_at, Stops, Passes, Whole, Refusal, OnToken, OnStop, OnOther, closed, head_sign, kinds}
 use Rattle.jade_parser.proofs.Spelling.{unary_opens, group_made}
 use Rattle.jade_parser.proofs.Reading.{whole_past, whole_none, whole_on, whole_under, refusal_under, refused_on, lift, reads_none, none_valid}
 use Rattle.jade_parser.proofs.Standing.{takes_marked}
@@ -94,26 +94,31 @@ pub pair_made : (l r : Sum) (o : Relation) (p : Pos) → compare_parts (roll-Com
 pair_made l r o p = fold-roll-Compare Parts Parts Parts Parts Parts Parts Parts Parts at_atom at_and at_cell at_compare at_expr at_product at_sum at_unary
     (record { left = l; right = Some (o, p, r) })
 
-pub single_made : (n : List ℕ) (p : Pos) (c : Expr) → cell_parts (roll-CellRef (record { name = n; pos = p; family = None; cell = c })) ≡ marked (Called n) p
+pub single_made : (n : List ℕ) (p : Pos) (c : Expr) → cell_parts (roll-CellRef (record { name = n; pos = p; family = None; cell = c }))
+    ≡ marked (Called n) p
     ∷ bracketed (expr_parts c)
 single_made n p c = fold-roll-CellRef Parts Parts Parts Parts Parts Parts Parts Parts at_atom at_and at_cell at_compare at_expr at_product at_sum at_unary
     (record { name = n; pos = p; family = None; cell = c })
 
 pub member_made : (n : List ℕ) (p : Pos) (o c : Expr) → cell_parts (roll-CellRef (record { name = n; pos = p; family = Some o; cell = c }))
     ≡ marked (Called n) p ∷ (bracketed (expr_parts o) ++ bracketed (expr_parts c))
-member_made n p o c = fold-roll-CellRef Parts Parts Parts Parts Parts Parts Parts Parts at_atom at_and at_cell at_compare at_expr at_product at_sum at_unary
+member_made n p o c = fold-roll-CellRef Parts Parts Parts Parts Parts Parts Parts Parts at_atom at_and at_cell at_compare at_expr at_product at_sum
+    at_unary
     (record { name = n; pos = p; family = Some o; cell = c })
 
 pub named_made : (n : List ℕ) (p : Pos) → atom_parts (Named n p) ≡ marked (Called n) p ∷ []
-named_made n p = fold_out-Atom Parts Parts Parts Parts Parts Parts Parts Parts at_atom at_and at_cell at_compare at_expr at_product at_sum at_unary (Named n p)
+named_made n p = fold_out-Atom Parts Parts Parts Parts Parts Parts Parts Parts at_atom at_and at_cell at_compare at_expr at_product at_sum at_unary
+    (Named n p)
     ∙ rw (outs-Named n p) refl
 
 pub whole_made : (n : Number) → atom_parts (WholeAtom n) ≡ marked (Counted n.value) n.pos ∷ []
-whole_made n = fold_out-Atom Parts Parts Parts Parts Parts Parts Parts Parts at_atom at_and at_cell at_compare at_expr at_product at_sum at_unary (WholeAtom n)
+whole_made n = fold_out-Atom Parts Parts Parts Parts Parts Parts Parts Parts at_atom at_and at_cell at_compare at_expr at_product at_sum at_unary
+    (WholeAtom n)
     ∙ rw (outs-Whole n) refl
 
 pub truth_made : (b : _) (p : Pos) → atom_parts (Truth b p) ≡ marked (truth_word b) p ∷ []
-truth_made b p = fold_out-Atom Parts Parts Parts Parts Parts Parts Parts Parts at_atom at_and at_cell at_compare at_expr at_product at_sum at_unary (Truth b p)
+truth_made b p = fold_out-Atom Parts Parts Parts Parts Parts Parts Parts Parts at_atom at_and at_cell at_compare at_expr at_product at_sum at_unary
+    (Truth b p)
     ∙ rw (outs-Truth b p) refl
 
 pub cell_made : (b : Box CellRef Global) → atom_parts (Cell b) ≡ cell_parts b.value
@@ -142,7 +147,8 @@ some_expr = roll-Expr (record {
 pub compare_first : (all : List Seen) (start : ℕ) (e : Stop) → start ≤ length all → OnToken e (Refusal sum_parts all start sum_in)
     → OnToken e (Refusal compare_parts all start compare_in)
 compare_first all start e le o = lift e (Refusal sum_parts all start sum_in) (Refusal compare_parts all start compare_in)
-    (λ k r. refused_on compare_parts sum_parts all start start compare_in compare_in [] (λ y. roll-Compare (record { left = y; right = None })) [] alone_made
+    (λ k r. refused_on compare_parts sum_parts all start start compare_in compare_in [] (λ y. roll-Compare (record { left = y; right = None })) []
+    alone_made
     none_valid (whole_none all start compare_in le) k (refusal_under (Rest 3 ∷ []) r)) o
 
 pub compare_second : (all : List Seen) (start at next : ℕ) (l : Sum) (op : Relation) (p : Pos) (e : Stop) → Whole all start sum_in at [] (sum_parts l)
@@ -169,7 +175,8 @@ unary_refused all start at signs e w o = lift e (Refusal atom_parts all at unary
 pub closed_first : (all : List Seen) (start : ℕ) (closer : Sign) (e : Stop) → start ≤ length all → OnToken e (Refusal expr_parts all start expr_in)
     → OnToken e (Refusal (closed closer) all start (expr_in ++ Must closer ∷ []))
 closed_first all start closer e le o = lift e (Refusal expr_parts all start expr_in) (Refusal (closed closer) all start (expr_in ++ Must closer ∷ []))
-    (λ k r. refused_on (closed closer) expr_parts all start start (expr_in ++ Must closer ∷ []) (expr_in ++ Must closer ∷ []) [] (λ y. y) (fixed closer ∷ [])
+    (λ k r. refused_on (closed closer) expr_parts all start start (expr_in ++ Must closer ∷ []) (expr_in ++ Must closer ∷ []) [] (λ y. y)
+    (fixed closer ∷ [])
     (λ y. refl) (record { is = refl }) (whole_none all start _ le) k (refusal_under (Must closer ∷ []) r)) o
 
 only_token : (e : Stop) (P : ℕ → Type 0) → OnStop e P (λ k. ⊥) → OnToken e P
@@ -196,7 +203,8 @@ closed_second all start at closer x e w o =
         }
 
 -- a part that stands alone after some tokens
-pub after_refused : {X Y : Type 0} (f : X → Parts) (g : Y → Parts) (all : List Seen) (a b : ℕ) (xs ys : Stack) (s : Parts) (make : Y → X) (z : Parts) (e : Stop)
+pub after_refused : {X Y : Type 0} (f : X → Parts) (g : Y → Parts) (all : List Seen) (a b : ℕ) (xs ys : Stack) (s : Parts) (make : Y → X) (z : Parts)
+    (e : Stop)
     → ((y : Y) → f (make y) ≡ s ++ (g y ++ z)) → AllValid z → Whole all a xs b ys s → OnToken e (Refusal g all b ys) → OnToken e (Refusal f all a xs)
 after_refused f g all a b xs ys s make z e eq v w o =
     lift e (Refusal g all b ys) (Refusal f all a xs) (λ k r. refused_on f g all a b xs ys s make z eq v w k r) o
@@ -256,7 +264,8 @@ abbrev pub truth_sign : Bool → Sign
 truth_sign true = TrueWord
 truth_sign false = FalseWord
 
-pub truth_here : (all : List Seen) (at : ℕ) (s : Sign) (b : Bool) (p : Pos) → p ≡ place_at all at → s ≡ truth_sign b → Some s ≡ head_sign (drop at (kinds all))
+pub truth_here : (all : List Seen) (at : ℕ) (s : Sign) (b : Bool) (p : Pos) → p ≡ place_at all at → s ≡ truth_sign b → Some s
+    ≡ head_sign (drop at (kinds all))
     → Whole all at unary_in (at + 1) [] (atom_parts (Truth b p))
 truth_here all at s true p q e h = rw (truth_made true p, q) (takes_marked all at TrueWord unary_in [] (rw (← e) h) (λ rest st. refl))
 truth_here all at s false p q e h = rw (truth_made false p, q) (takes_marked all at FalseWord unary_in [] (rw (← e) h) (λ rest st. refl))
@@ -269,7 +278,8 @@ pub group_refused : (all : List Seen) (at : ℕ) (s : Sign) (a : Global) (e : St
     → OnToken e (Refusal (closed RightParen) all (at + 1) (expr_in ++ Must RightParen ∷ []))
     → OnToken e (Refusal atom_parts all at unary_in)
 group_refused all at s a e i h o =
-    after_refused atom_parts (closed RightParen) all at (at + 1) unary_in (expr_in ++ Must RightParen ∷ []) (marked (Fixed LeftParen) (place_at all at) ∷ [])
+    after_refused atom_parts (closed RightParen) all at (at + 1) unary_in (expr_in ++ Must RightParen ∷ [])
+    (marked (Fixed LeftParen) (place_at all at) ∷ [])
     (λ y. Group (place_at all at) (record { ptr = null_ptr; alloc = a; value = y })) [] e
     (λ y. group_made (place_at all at) (record { ptr = null_ptr; alloc = a; value = y }) ∙ simp append-nil) none_valid (open_here all at s i h) o
 

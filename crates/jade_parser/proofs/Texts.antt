@@ -32,11 +32,12 @@ use Rattle.jade_lexer.specs.Lexemes.{TokenAt, TokenList}
 use Rattle.jade_syntax.specs.declared.tree.Program.{Program}
 use Rattle.jade_parser.specs.declared.Seen.{Seen}
 use Rattle.jade_parser.specs.Spelled.{Token, Tokens, Fixed, Called, Counted, Odd, Part, Parts, tokens_of, is_valid, AllValid}
-use Rattle.jade_parser.specs.Kinds.{token_bytes, token_of_bytes, IsSeen}
+use Rattle.jade_parser.specs.Kinds.{token_bytes, token_of_bytes}
+use Rattle.jade_parser.specs.steps.Reads.{IsSeen}
 use Rattle.jade_parser.specs.Programs.{program_parts, Proper}
-use Rattle.jade_parser.specs.Reads.{kinds, is_known, Known, Reads}
-use Rattle.jade_parser.specs.Parts.{BegunIn}
-use Rattle.jade_parser.specs.Refused.{ReadAll, RefusedAt, TooLongAt}
+use Rattle.jade_parser.specs.steps.Reads.{kinds, is_known, Known, Reads}
+use Rattle.jade_parser.specs.steps.Parts.{BegunIn}
+use Rattle.jade_parser.specs.steps.Refused.{ReadAll, RefusedAt, TooLongAt}
 use Rattle.jade_parser.specs.Grammar.{
   bytes_of,
   texts,

@@ -43,7 +43,7 @@ use Rattle.jade_parser.specs.Spelled.{
   at_unary,
 }
 use Rattle.jade_parser.specs.declared.Sign.TheVariants.{OrSign, AndSign}
-use Rattle.jade_parser.specs.Machine.{Rest, rank, asks, unary_in, product_in, sum_in, compare_in, and_in, expr_in}
+use Rattle.jade_parser.specs.steps.Machine.{Rest, rank, asks, unary_in, product_in, sum_in, compare_in, and_in, expr_in}
 use Rattle.jade_parser.proofs.Running.{Runs, chain_runs}
 use Rattle.jade_parser.proofs.Layers.{
   counted_runs,
@@ -124,9 +124,11 @@ module _ {A B C D E F G H : Type 0} (a : A → Atom) (b : B → AndExpr) (c : C 
   atom_layer (Atom-F.Cell x) = cells x.value
 
   cell_at : (n : List ℕ) (p : Pos) (o : Option E) (x : E)
-      → Runs unary_in 0 (at_cell (map-CellRef Atom AndExpr CellRef Compare Expr Product Sum Unary Parts Parts Parts Parts Parts Parts Parts Parts atom_parts
+      → Runs unary_in 0 (at_cell (map-CellRef Atom AndExpr CellRef Compare Expr Product Sum Unary Parts Parts Parts Parts Parts Parts Parts Parts
+      atom_parts
       and_parts cell_parts compare_parts expr_parts product_parts sum_parts unary_parts
-      (map-CellRef A B C D E F G H Atom AndExpr CellRef Compare Expr Product Sum Unary a b c d e f g h (record { name = n; pos = p; family = o; cell = x }))))
+      (map-CellRef A B C D E F G H Atom AndExpr CellRef Compare Expr Product Sum Unary a b c d e f g h
+      (record { name = n; pos = p; family = o; cell = x }))))
   cell_at n p None x = single_runs n p _ (exprs x)
   cell_at n p (Some o) x = member_runs n p _ _ (exprs o) (exprs x)
 
@@ -139,7 +141,8 @@ module _ {A B C D E F G H : Type 0} (a : A → Atom) (b : B → AndExpr) (c : C 
   compare_at x (Some r) = compare_pair r.0 r.1 _ _ (sums x) (sums r.2)
 
   cell_layer : (y : CellRef-F A B C D E F G H)
-      → Runs unary_in 0 (at_cell (map-CellRef Atom AndExpr CellRef Compare Expr Product Sum Unary Parts Parts Parts Parts Parts Parts Parts Parts atom_parts
+      → Runs unary_in 0 (at_cell (map-CellRef Atom AndExpr CellRef Compare Expr Product Sum Unary Parts Parts Parts Parts Parts Parts Parts Parts
+      atom_parts
       and_parts cell_parts compare_parts expr_parts product_parts sum_parts unary_parts
       (map-CellRef A B C D E F G H Atom AndExpr CellRef Compare Expr Product Sum Unary a b c d e f g h y)))
   cell_layer y = cell_at y.name y.pos y.family y.cell
@@ -155,7 +158,8 @@ pub expr_runs : (e : Expr) → Runs expr_in 5 (expr_parts e)
 expr_runs e = ind-Expr (λ a. Runs unary_in 0 (atom_parts a)) (λ a. Runs and_in 4 (and_parts a)) (λ c. Runs unary_in 0 (cell_parts c))
     (λ c. Runs compare_in 3 (compare_parts c)) (λ e. Runs expr_in 5 (expr_parts e))
     (λ p. Runs product_in 1 (product_parts p)) (λ s. Runs sum_in 2 (sum_parts s)) (λ u. Runs unary_in 0 (unary_parts u))
-    (λ x y k. rw (← k) (rw (fold-roll-Atom Parts Parts Parts Parts Parts Parts Parts Parts at_atom at_and at_cell at_compare at_expr at_product at_sum at_unary)
+    (λ x y k. rw (← k) (rw (fold-roll-Atom Parts Parts Parts Parts Parts Parts Parts Parts at_atom at_and at_cell at_compare at_expr at_product at_sum
+    at_unary)
     (atom_layer (λ z. z.0) (λ z. z.0) (λ z. z.0) (λ z. z.0) (λ z. z.0) (λ z. z.0) (λ z. z.0) (λ z. z.0) (λ z. z.1) (λ z. z.1) (λ z. z.1) (λ z. z.1)
     (λ z. z.1) (λ z. z.1) (λ z. z.1) (λ z. z.1) y)))
     (λ x y k. rw (← k) (rw (fold-roll-AndExpr Parts Parts Parts Parts Parts Parts Parts Parts at_atom at_and at_cell at_compare at_expr at_product at_sum
@@ -166,10 +170,12 @@ expr_runs e = ind-Expr (λ a. Runs unary_in 0 (atom_parts a)) (λ a. Runs and_in
     (λ x y k. rw (← k) (rw (fold-roll-Compare Parts Parts Parts Parts Parts Parts Parts Parts at_atom at_and at_cell at_compare at_expr at_product at_sum
     at_unary) (compare_layer (λ z. z.0) (λ z. z.0) (λ z. z.0) (λ z. z.0) (λ z. z.0) (λ z. z.0) (λ z. z.0) (λ z. z.0) (λ z. z.1) (λ z. z.1) (λ z. z.1)
     (λ z. z.1) (λ z. z.1) (λ z. z.1) (λ z. z.1) (λ z. z.1) y)))
-    (λ x y k. rw (← k) (rw (fold-roll-Expr Parts Parts Parts Parts Parts Parts Parts Parts at_atom at_and at_cell at_compare at_expr at_product at_sum at_unary)
+    (λ x y k. rw (← k) (rw (fold-roll-Expr Parts Parts Parts Parts Parts Parts Parts Parts at_atom at_and at_cell at_compare at_expr at_product at_sum
+    at_unary)
     (simp flat_map-map (expr_layer (λ z. z.0) (λ z. z.1) y.first y.rest))))
     (λ x y k. rw (← k) (rw (fold-roll-Product Parts Parts Parts Parts Parts Parts Parts Parts at_atom at_and at_cell at_compare at_expr at_product at_sum
     at_unary) (simp flat_map-map (product_layer (λ z. z.0) (λ z. z.1) y.first y.rest))))
-    (λ x y k. rw (← k) (rw (fold-roll-Sum Parts Parts Parts Parts Parts Parts Parts Parts at_atom at_and at_cell at_compare at_expr at_product at_sum at_unary)
+    (λ x y k. rw (← k) (rw (fold-roll-Sum Parts Parts Parts Parts Parts Parts Parts Parts at_atom at_and at_cell at_compare at_expr at_product at_sum
+    at_unary)
     (simp flat_map-map (sum_layer (λ z. z.0) (λ z. z.1) y.first y.rest))))
     (λ x y k. rw (← k) (rw unary_opens (unary_layer (λ z. z.0) (λ z. z.1) y.signs y.atom))) e

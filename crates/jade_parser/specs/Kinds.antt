@@ -81,10 +81,7 @@ use Rattle.jade_parser.specs.declared.Sign.TheVariants.{
   OrSign,
   AndSign,
 }
-use Rattle.jade_parser.specs.declared.Seen.{Seen}
-use Rattle.jade_lexer.specs.Lexemes.{TokenAt}
 use Rattle.jade_parser.specs.Spelled.{Token, Fixed, Called, Counted, Odd}
-use Rattle.jade_parser.specs.Reads.{kinds}
 
 -- the bytes of a sign
 abbrev pub sign_bytes : Sign → List ℕ
@@ -242,8 +239,3 @@ sign_or None plain = plain
 -- what some bytes are: a sign, a name, a number, or none of them
 abbrev pub token_of_bytes : List ℕ → Token
 token_of_bytes bytes = sign_or (sign_in all_signs bytes) (plain_token bytes)
-
--- the lexemes of a text, each with what it is and its place
-pub record IsSeen (lexemes : List TokenAt) (seen : List Seen) : Type 0 where
-  pub tokens : kinds seen ≡ map (λ t. token_of_bytes t.bytes) lexemes
-  pub places : map (λ s. s.pos) seen ≡ map (λ t. t.pos) lexemes

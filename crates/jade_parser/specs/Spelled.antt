@@ -251,3 +251,19 @@ sign_part p = marked (unary_sign p.0) p.1 ∷ []
 -- an expression that lies in no other
 abbrev pub outer : Expr → Parts
 outer e = numbered 0 (expr_parts e)
+
+-- the place of a token by its number
+abbrev pub pos_in : List Pos → ℕ → Pos
+pos_in [] at = record { line = 0; column = 0 }
+pos_in (p ∷ ps) zero = p
+pos_in (p ∷ ps) (suc at) = pos_in ps at
+
+-- the place that is kept, if one is
+abbrev pub KeptAt : Option Pos → Pos → Type 0
+KeptAt None q = Unit {0}
+KeptAt (Some p) q = p ≡ q
+
+-- the places that are kept of these parts are those of the tokens from this one on
+abbrev pub Agrees : List Pos → ℕ → Parts → Type 0
+Agrees qs at [] = Unit {0}
+Agrees qs at (p ∷ ps) = KeptAt p.at (pos_in qs at) × Agrees qs (at + 1) ps

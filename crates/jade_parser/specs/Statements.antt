@@ -94,7 +94,8 @@ else_parts (Some b) = fixed ElseWord ∷ braced b
 
 -- a statement, by those within it
 abbrev pub at_statement : Statement-F Parts → Parts
-at_statement (Statement-F.Local kind name pos value) = plain (kind_word kind) ∷ marked (Called name) pos ∷ fixed Becomes ∷ [] ++ outer value ++ fixed Semicolon
+at_statement (Statement-F.Local kind name pos value) = plain (kind_word kind) ∷ marked (Called name) pos ∷ fixed Becomes ∷ [] ++ outer value
+    ++ fixed Semicolon
     ∷ []
 at_statement (Statement-F.Assign name pos value) = marked (Called name) pos ∷ fixed Becomes ∷ [] ++ outer value ++ fixed Semicolon ∷ []
 at_statement (Statement-F.Store target value) = target_parts target ++ fixed Becomes ∷ [] ++ outer value ++ fixed Semicolon ∷ []
@@ -123,7 +124,8 @@ else_block (Some b) = fixed ElseWord ∷ [] ++ block_parts b
 
 -- a statement whose parts are trees
 abbrev pub opened : Statement-F Statement → Parts
-opened (Statement-F.Local kind name pos value) = plain (kind_word kind) ∷ marked (Called name) pos ∷ fixed Becomes ∷ [] ++ outer value ++ fixed Semicolon ∷ []
+opened (Statement-F.Local kind name pos value) = plain (kind_word kind) ∷ marked (Called name) pos ∷ fixed Becomes ∷ [] ++ outer value ++ fixed Semicolon
+    ∷ []
 opened (Statement-F.Assign name pos value) = marked (Called name) pos ∷ fixed Becomes ∷ [] ++ outer value ++ fixed Semicolon ∷ []
 opened (Statement-F.Store target value) = target_parts target ++ fixed Becomes ∷ [] ++ outer value ++ fixed Semicolon ∷ []
 opened (Statement-F.If test then otherwise) = fixed IfWord ∷ [] ++ outer test ++ block_parts then ++ else_block otherwise

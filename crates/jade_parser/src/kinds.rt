@@ -1,8 +1,9 @@
 //! What a token of the text is: a sign, a name, a number, or none of them.
 
 ghost use Rattle.std.specs.Prelude.{◌≡◌, ◌+◌, ◌-◌, ◌*◌, ◌<◌, ◌≤◌, length, codes, true, false, not, ◌&&◌, IfOk, IfSome, MatchOption, map};
-ghost use Rattle.jade_parser.specs.Kinds.{is_kept, is_free, is_small_run, has_needless_zero, is_counted, token_of_bytes, IsValue, IsNumber, IsSeen};
-ghost use Rattle.jade_parser.specs.Reads.{token_of};
+ghost use Rattle.jade_parser.specs.Kinds.{is_kept, is_free, is_small_run, has_needless_zero, is_counted, token_of_bytes, IsValue, IsNumber};
+ghost use Rattle.jade_parser.specs.steps.Reads.{IsSeen};
+ghost use Rattle.jade_parser.specs.steps.Reads.{token_of};
 
 use crate::lexicon::sign_of;
 use crate::{Kind, Seen};

@@ -1,6 +1,6 @@
 ghost use Rattle.std.specs.Prelude.{◌≡◌, ◌+◌, [], ◌∷◌, MatchResult};
-ghost use Rattle.jade_parser.specs.Reads.{Known, Whole, OnOther, place_at};
-ghost use Rattle.jade_parser.specs.Machine.{NameIs, NumberIs};
+ghost use Rattle.jade_parser.specs.steps.Reads.{Known, Whole, OnOther, place_at};
+ghost use Rattle.jade_parser.specs.steps.Machine.{NameIs, NumberIs};
 ghost use Rattle.jade_parser.specs.Spelled.{Called, marked, number_part};
 
 use crate::{Kind, Seen, Stop};

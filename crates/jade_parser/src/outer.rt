@@ -1,6 +1,6 @@
 ghost use Rattle.std.specs.Prelude.{◌≤◌, length};
-ghost use Rattle.jade_parser.specs.Reads.{Known};
-ghost use Rattle.jade_parser.specs.Parts.{ParsedOuter};
+ghost use Rattle.jade_parser.specs.steps.Reads.{Known};
+ghost use Rattle.jade_parser.specs.steps.Parts.{ParsedOuter};
 
 use crate::expressions::parse_expr;
 use crate::{Seen, Stop};

@@ -81,12 +81,14 @@ parse_for-returns-in_err-low t c =
 pub parse_for-returns-in_err-high : goal.parse_for-returns-in_err-high
 parse_for-returns-in_err-high t c =
     residual _ _ _ _ c.from_residual-in_err-high.ensures.1
-    (high_refused _ _ _ c.requires.read _ _ c.pos_at-pos.ensures c.in_ok-name.ensures _ c.in_ok-begun.ensures _ _ c.in_ok-low.ensures _ c.in_err-high.ensures)
+    (high_refused _ _ _ c.requires.read _ _ c.pos_at-pos.ensures c.in_ok-name.ensures _ c.in_ok-begun.ensures _ _ c.in_ok-low.ensures _
+    c.in_err-high.ensures)
 
 pub parse_for-returns-in_err-body : goal.parse_for-returns-in_err-body
 parse_for-returns-in_err-body t c =
     residual _ _ _ _ c.from_residual-in_err-body.ensures.1
-    (body_refused _ _ _ c.requires.read _ _ c.pos_at-pos.ensures c.in_ok-name.ensures _ c.in_ok-begun.ensures _ _ c.in_ok-low.ensures _ _ c.in_ok-high.ensures _
+    (body_refused _ _ _ c.requires.read _ _ c.pos_at-pos.ensures c.in_ok-name.ensures _ c.in_ok-begun.ensures _ _ c.in_ok-low.ensures _ _
+    c.in_ok-high.ensures _
     c.in_err-body.ensures)
 
 pub parse_for-returns : goal.parse_for-returns

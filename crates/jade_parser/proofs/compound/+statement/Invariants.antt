@@ -2,11 +2,11 @@ use Rattle.std.proofs.Common.{◌-◌, ◌+◌, ◌*◌, ◌++◌, [], ◌∷◌
 use Rattle.std.specs.List.{flat_map}
 use Rattle.jade_parser.specs.Spelled.{fixed}
 use Rattle.jade_parser.specs.Statements.{statement_parts}
-use Rattle.jade_parser.specs.Machine.{Body}
+use Rattle.jade_parser.specs.steps.Machine.{Body}
 use Rattle.jade_parser.specs.declared.Sign.TheVariants.{LeftBrace}
-use Rattle.jade_parser.specs.Parts.{FitsAll}
-use Rattle.jade_parser.specs.Compound.{block_in}
-use Rattle.jade_parser.specs.Forms.{Came}
+use Rattle.jade_parser.specs.Programs.{FitsAll}
+use Rattle.jade_parser.specs.steps.Compound.{block_in}
+use Rattle.jade_parser.specs.steps.Forms.{Came}
 use Rattle.jade_parser.proofs.compound.+statement.Given as goal
 
 abbrev pub decreases-parse_block : goal.decreases-parse_block

@@ -3,14 +3,35 @@ use Rattle.jade_syntax.specs.declared.tree.AndExpr.{roll-AndExpr}
 use Rattle.jade_syntax.specs.declared.tree.Expr.{roll-Expr}
 use Rattle.jade_syntax.specs.declared.tree.Product.{roll-Product}
 use Rattle.jade_syntax.specs.declared.tree.Sum.{roll-Sum}
-use Rattle.jade_parser.specs.Spelled.{expr_parts, and_parts, compare_parts, sum_parts, product_parts, unary_parts, or_part, and_part, sum_part, product_part}
-use Rattle.jade_parser.specs.Machine.{Must, unary_in, product_in, compare_in, and_in}
+use Rattle.jade_parser.specs.Spelled.{
+  expr_parts,
+  and_parts,
+  compare_parts,
+  sum_parts,
+  product_parts,
+  unary_parts,
+  or_part,
+  and_part,
+  sum_part,
+  product_part,
+}
+use Rattle.jade_parser.specs.steps.Machine.{Must, unary_in, product_in, compare_in, and_in}
 use Rattle.jade_parser.proofs.Spelling.{unary_opens, expr_made, and_made, sum_made, product_made}
 use Rattle.jade_parser.proofs.Reading.{whole_on, whole_under}
 use mir.Val.{SFits}
 use mir.Syntax.{w64}
 use Rattle.std.proofs.lemmas.Int.{to_z-of_z}
-use Rattle.jade_parser.proofs.Standing.{called_here, called_known, never_shape, counted_here, head_fixed, nothing_here, odd_here, no_sign_here, within_here}
+use Rattle.jade_parser.proofs.Standing.{
+  called_here,
+  called_known,
+  never_shape,
+  counted_here,
+  head_fixed,
+  nothing_here,
+  odd_here,
+  no_sign_here,
+  within_here,
+}
 use Rattle.jade_parser.proofs.Chains.{chain_first, chain_more, chain_kept, chain_done}
 use Rattle.jade_parser.proofs.Steps.{
   residual,
@@ -40,8 +61,10 @@ parse_and-returns-in_err-first t c =
     c.in_err-first.ensures)
 
 pub parse_and-returns-in-Err : goal.parse_and-returns-in-Err
-parse_and-returns-in-Err t c = chain_more and_parts compare_parts compare_in 4 and_part (λ y ps. roll-AndExpr (record { first = y; rest = ps })) and_made _ _ _
-    _ _ _ _ (λ y. (c.pos_at-pos.result, y)) _ (λ y. rw c.pos_at-pos.ensures refl) c.chain.invariant (c.and_op.ensures.yes c.chain-test.true) c.in-Err.ensures
+parse_and-returns-in-Err t c = chain_more and_parts compare_parts compare_in 4 and_part (λ y ps. roll-AndExpr (record { first = y; rest = ps })) and_made _
+    _ _
+    _ _ _ _ (λ y. (c.pos_at-pos.result, y)) _ (λ y. rw c.pos_at-pos.ensures refl) c.chain.invariant (c.and_op.ensures.yes c.chain-test.true)
+    c.in-Err.ensures
 
 pub parse_and-chain-preserved : goal.parse_and-chain-preserved
 parse_and-chain-preserved t c =
@@ -49,7 +72,8 @@ parse_and-chain-preserved t c =
     (rw c.pos_at-pos.ensures refl) c.in-Ok-push.ensures c.chain.invariant (c.and_op.ensures.yes c.chain-test.true) c.in-Ok.ensures
 
 pub parse_and-returns : goal.parse_and-returns
-parse_and-returns t c = chain_done and_parts compare_parts compare_in 4 and_part (λ y ps. roll-AndExpr (record { first = y; rest = ps })) and_made _ _ _ _ _
+parse_and-returns t c = chain_done and_parts compare_parts compare_in 4 and_part (λ y ps. roll-AndExpr (record { first = y; rest = ps })) and_made _ _ _ _
+    _
     c.chain.invariant (c.and_op.ensures.no c.chain-test.false)
 
 pub parse_atom-parse_named-requires : goal.parse_atom-parse_named-requires
@@ -82,7 +106,8 @@ pub parse_closed-returns-in_err-inner : goal.parse_closed-returns-in_err-inner
 parse_closed-returns-in_err-inner t c = residual _ _ _ _ c.from_residual.ensures.1 (closed_first _ _ _ _ c.requires.within c.in_err-inner.ensures)
 
 pub parse_closed-returns-in_err-at : goal.parse_closed-returns-in_err-at
-parse_closed-returns-in_err-at t c = residual _ _ _ _ c.from_residual-in_err-at.ensures.1 (closed_second _ _ _ _ _ _ c.in_ok-inner.ensures c.in_err-at.ensures)
+parse_closed-returns-in_err-at t c =
+    residual _ _ _ _ c.from_residual-in_err-at.ensures.1 (closed_second _ _ _ _ _ _ c.in_ok-inner.ensures c.in_err-at.ensures)
 
 pub parse_compare-returns-in_err-left : goal.parse_compare-returns-in_err-left
 parse_compare-returns-in_err-left t c = residual _ _ _ _ c.from_residual.ensures.1 (compare_first _ _ _ c.requires.within c.in_err-left.ensures)
@@ -140,7 +165,8 @@ parse_named-returns-in_err-cell t c = residual _ _ _ _ c.from_residual.ensures.1
 pub parse_product-returns-in_err-first : goal.parse_product-returns-in_err-first
 parse_product-returns-in_err-first t c =
     residual _ _ _ _ c.from_residual.ensures.1
-    (chain_first product_parts unary_parts unary_in 1 product_part (λ y ps. roll-Product (record { first = y; rest = ps })) product_made _ _ _ c.requires.within
+    (chain_first product_parts unary_parts unary_in 1 product_part (λ y ps. roll-Product (record { first = y; rest = ps })) product_made _ _ _
+    c.requires.within
     c.in_err-first.ensures)
 
 pub parse_product-returns-in-Err : goal.parse_product-returns-in-Err
@@ -150,11 +176,13 @@ parse_product-returns-in-Err t c =
 
 pub parse_product-chain-preserved : goal.parse_product-chain-preserved
 parse_product-chain-preserved t c =
-    chain_kept product_parts unary_parts unary_in 1 product_part (λ y ps. roll-Product (record { first = y; rest = ps })) product_made _ _ _ _ _ _ _ _ _ _ _
+    chain_kept product_parts unary_parts unary_in 1 product_part (λ y ps. roll-Product (record { first = y; rest = ps })) product_made _ _ _ _ _ _ _ _ _ _
+    _
     (rw c.pos_at-pos.ensures refl) c.in-Ok-push.ensures c.chain.invariant c.in-Some.ensures c.in-Ok.ensures
 
 pub parse_product-returns : goal.parse_product-returns
-parse_product-returns t c = chain_done product_parts unary_parts unary_in 1 product_part (λ y ps. roll-Product (record { first = y; rest = ps })) product_made _
+parse_product-returns t c = chain_done product_parts unary_parts unary_in 1 product_part (λ y ps. roll-Product (record { first = y; rest = ps }))
+    product_made _
     _ _ _ _ c.chain.invariant c.in_default.ensures
 
 pub parse_sum-returns-in_err-first : goal.parse_sum-returns-in_err-first
@@ -164,7 +192,8 @@ parse_sum-returns-in_err-first t c =
     c.in_err-first.ensures)
 
 pub parse_sum-returns-in-Err : goal.parse_sum-returns-in-Err
-parse_sum-returns-in-Err t c = chain_more sum_parts product_parts product_in 2 sum_part (λ y ps. roll-Sum (record { first = y; rest = ps })) sum_made _ _ _ _ _
+parse_sum-returns-in-Err t c = chain_more sum_parts product_parts product_in 2 sum_part (λ y ps. roll-Sum (record { first = y; rest = ps })) sum_made _ _ _
+    _ _
     _ _ (λ y. (c.in-Some.op, c.pos_at-pos.result, y)) _ (λ y. rw c.pos_at-pos.ensures refl) c.chain.invariant c.in-Some.ensures c.in-Err.ensures
 
 pub parse_sum-chain-preserved : goal.parse_sum-chain-preserved

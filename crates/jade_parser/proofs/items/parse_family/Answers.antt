@@ -16,4 +16,5 @@ returns-in_err-size c = residual _ _ _ _ c.from_residual-in_err-size.ensures.1
 
 pub returns : goal.returns
 returns c = family_read _ _ _ _ _ _ _ _
-    (family_counted _ _ _ _ _ _ (word_named _ _ _ _ _ _ c.pos_at-pos.ensures c.requires.read c.in_ok-name.ensures) c.in_ok-count.ensures) c.in_ok-size.ensures
+    (family_counted _ _ _ _ _ _ (word_named _ _ _ _ _ _ c.pos_at-pos.ensures c.requires.read c.in_ok-name.ensures) c.in_ok-count.ensures)
+    c.in_ok-size.ensures

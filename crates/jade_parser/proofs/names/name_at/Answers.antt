@@ -1,5 +1,5 @@
 use Rattle.std.proofs.Common.{refl, [], ◌∷◌}
-use Rattle.jade_parser.specs.Machine.{NameIs}
+use Rattle.jade_parser.specs.steps.Machine.{NameIs}
 use Rattle.jade_parser.proofs.Standing.{called_taken, called_known, never_shape, stops_kind}
 use Rattle.jade_parser.proofs.names.name_at.Goals as goal
 

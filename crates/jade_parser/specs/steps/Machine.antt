@@ -50,7 +50,7 @@ use Rattle.jade_parser.specs.declared.Sign.TheVariants.{
   MainWord,
   Colon,
 }
-use Rattle.jade_parser.specs.Ops.{declare_of}
+use Rattle.jade_parser.specs.steps.Ops.{declare_of}
 use Rattle.jade_parser.specs.Spelled.{Token, Tokens, Fixed, Called, Counted, Odd}
 
 -- What is asked for: an operand (`Need`); what goes on with a chain of a level (`Rest`), a first or a second index or an `else`, each of which may
@@ -170,9 +170,11 @@ statement_sign c IntWord st = Some (NameIs ∷ Must Becomes ∷ expr_in ++ Must 
 statement_sign c BoolWord st = Some (NameIs ∷ Must Becomes ∷ expr_in ++ Must Semicolon ∷ Body c ∷ st)
 statement_sign c IfWord st = Some (expr_in ++ Must LeftBrace ∷ Body c ∷ Else c ∷ Body c ∷ st)
 statement_sign c ForWord st = Some (NameIs ∷ Must InWord ∷ expr_in ++ Must DotDot ∷ expr_in ++ Must LeftBrace ∷ Body c ∷ Body c ∷ st)
-statement_sign Main WithonlyWord st = Some (Must LeftBrace ∷ Body Section ∷ Must DoWord ∷ Must LeftParen ∷ Names ∷ Must LeftBrace ∷ Body Main ∷ Body Main ∷ st)
+statement_sign Main WithonlyWord st =
+    Some (Must LeftBrace ∷ Body Section ∷ Must DoWord ∷ Must LeftParen ∷ Names ∷ Must LeftBrace ∷ Body Main ∷ Body Main ∷ st)
 statement_sign Main WithWord st = Some (Must LeftBrace ∷ Body Amends ∷ Must ContWord ∷ Must Semicolon ∷ Body Main ∷ st)
-statement_sign c s st = cond (declares_with c (declare_of s)) (Some (Must LeftParen ∷ NameIs ∷ Second ∷ Must RightParen ∷ Must Semicolon ∷ Body c ∷ st)) None
+statement_sign c s st = cond (declares_with c (declare_of s)) (Some (Must LeftParen ∷ NameIs ∷ Second ∷ Must RightParen ∷ Must Semicolon ∷ Body c ∷ st))
+    None
 
 -- the same of a token: a name begins a statement too
 abbrev pub statement : BlockKind → Token → Stack → Option Stack

@@ -4,8 +4,8 @@ use Rattle.jade_syntax.specs.declared.tree.Program.{Program}
 use Rattle.jade_parser.specs.declared.Seen.{Seen}
 use Rattle.jade_parser.specs.Spelled.{Tokens, tokens_of, AllShort}
 use Rattle.jade_parser.specs.Programs.{program_parts, Proper}
-use Rattle.jade_parser.specs.Reads.{Reads, kinds}
-use Rattle.jade_parser.specs.Parts.{BegunIn, LongIn}
+use Rattle.jade_parser.specs.steps.Reads.{Reads, kinds}
+use Rattle.jade_parser.specs.steps.Parts.{BegunIn, LongIn}
 
 -- they are the tokens of the program
 pub record ReadAll (all : List Seen) (p : Program) : Type 0 where

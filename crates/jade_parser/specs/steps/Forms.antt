@@ -4,10 +4,10 @@ use Rattle.jade_syntax.specs.declared.tree.Expr.{Expr}
 use Rattle.jade_syntax.specs.declared.tree.Named.{Named}
 use Rattle.jade_syntax.specs.declared.tree.ObjectRef.{ObjectRef}
 use Rattle.jade_parser.specs.Spelled.{Parts, AllShort, fixed, bracketed, outer}
-use Rattle.jade_parser.specs.Machine.{Stack}
+use Rattle.jade_parser.specs.steps.Machine.{Stack}
 use Rattle.jade_parser.specs.Statements.{object_parts, name_parts}
-use Rattle.jade_parser.specs.Reads.{Whole, OnStop, head_sign, kinds}
-use Rattle.jade_parser.specs.Parts.{Any, RefusalIn, LongIn}
+use Rattle.jade_parser.specs.steps.Reads.{Whole, OnStop, head_sign, kinds}
+use Rattle.jade_parser.specs.steps.Parts.{Any, RefusalIn, LongIn}
 use Rattle.jade_parser.specs.declared.Sign.{Sign}
 use Rattle.jade_parser.specs.declared.Sign.TheVariants.{LeftParen, RightParen, RightBracket, Semicolon}
 use Rattle.jade_parser.specs.declared.Seen.{Seen}

@@ -1,23 +1,11 @@
 -- What a parser of statements promises.
-use Rattle.std.specs.Prelude.{◌≡◌, ℕ, ◌+◌, ◌<◌, true, List, [], ◌∷◌, Result, MatchResult, ◌++◌}
-use Rattle.std.specs.List.{list_all}
-use Rattle.jade_syntax.specs.declared.tree.Statement.{Statement}
+use Rattle.std.specs.Prelude.{◌≡◌, ℕ, ◌+◌, ◌<◌, List, [], ◌∷◌, Result, MatchResult, ◌++◌}
 use Rattle.jade_syntax.specs.declared.tree.Expr.{Expr}
 use Rattle.jade_parser.specs.Spelled.{Part, Parts, AllValid, AllShort, outer}
-use Rattle.jade_parser.specs.Machine.{Stack, expr_in}
-use Rattle.jade_syntax.specs.declared.shapes.place.BlockKind.{BlockKind}
-use Rattle.jade_syntax.specs.Shapes.{is_placed}
+use Rattle.jade_parser.specs.steps.Machine.{Stack, expr_in}
 use Rattle.jade_parser.specs.declared.Seen.{Seen}
 use Rattle.jade_parser.specs.declared.Stop.{Stop}
-use Rattle.jade_parser.specs.Reads.{Reads, Stops, Whole, OnStop, Known}
-
--- the statement may stand there
-pub record Fits (c : BlockKind) (s : Statement) : Type 0 where
-  pub is : is_placed c s ≡ true
-
--- each statement may stand there
-pub record FitsAll (c : BlockKind) (b : List Statement) : Type 0 where
-  pub is : list_all (is_placed c) b ≡ true
+use Rattle.jade_parser.specs.steps.Reads.{Reads, Stops, Whole, OnStop, Known}
 
 -- every tree
 pub record Any {X : Type 0} (x : X) : Type 0 where

@@ -3,9 +3,11 @@ use Rattle.std.specs.Prelude.{◌≡◌, ℕ, zero, suc, ◌+◌, ◌≤◌, Boo
 use Rattle.std.specs.List.{list_all}
 use Rattle.jade_base.specs.declared.place.Pos.{Pos}
 use Rattle.jade_syntax.specs.declared.tree.Expr.{Expr}
-use Rattle.jade_parser.specs.Spelled.{Token, Tokens, Fixed, Called, Counted, Odd, Parts, tokens_of, fixed, is_valid, AllValid, expr_parts}
-use Rattle.jade_parser.specs.Ops.{unary_of}
-use Rattle.jade_parser.specs.Machine.{Stack, goes}
+use Rattle.jade_parser.specs.Spelled.{pos_in, Agrees, Token, Tokens, Fixed, Called, Counted, Odd, Parts, tokens_of, fixed, is_valid, AllValid, expr_parts}
+use Rattle.jade_lexer.specs.Lexemes.{TokenAt}
+use Rattle.jade_parser.specs.Kinds.{token_of_bytes}
+use Rattle.jade_parser.specs.steps.Ops.{unary_of}
+use Rattle.jade_parser.specs.steps.Machine.{Stack, goes}
 use Rattle.jade_parser.specs.declared.Seen.{Seen}
 use Rattle.jade_parser.specs.declared.Kind.{Kind}
 use Rattle.jade_parser.specs.declared.Kind.TheVariants.{Fixed as KFixed, Called as KCalled, Counted as KCounted, Odd as KOdd}
@@ -47,25 +49,9 @@ head_sign (Called n ∷ ts) = None
 head_sign (Counted v ∷ ts) = None
 head_sign (Odd ∷ ts) = None
 
--- the place of a token by its number
-abbrev pub pos_in : List Pos → ℕ → Pos
-pos_in [] at = record { line = 0; column = 0 }
-pos_in (p ∷ ps) zero = p
-pos_in (p ∷ ps) (suc at) = pos_in ps at
-
 -- the place of a token that was seen
 abbrev pub place_at : List Seen → ℕ → Pos
 place_at all at = pos_in (places all) at
-
--- the place that is kept, if one is
-abbrev pub KeptAt : Option Pos → Pos → Type 0
-KeptAt None q = Unit {0}
-KeptAt (Some p) q = p ≡ q
-
--- the places that are kept of these parts are those of the tokens from this one on
-abbrev pub Agrees : List Pos → ℕ → Parts → Type 0
-Agrees qs at [] = Unit {0}
-Agrees qs at (p ∷ ps) = KeptAt p.at (pos_in qs at) × Agrees qs (at + 1) ps
 
 -- from one place to another stand these parts
 pub record Reads (all : List Seen) (start end : ℕ) (ps : Parts) : Type 0 where
@@ -133,3 +119,8 @@ closed s e = expr_parts e ++ fixed s ∷ []
 -- no sign of a unary operator stands there
 pub record NoUnary (all : List Seen) (a : ℕ) : Type 0 where
   pub none : (s : Sign) → head_sign (drop a (kinds all)) ≡ Some s → unary_of s ≡ None
+
+-- the lexemes of a text, each with what it is and its place
+pub record IsSeen (lexemes : List TokenAt) (seen : List Seen) : Type 0 where
+  pub tokens : kinds seen ≡ map (λ t. token_of_bytes t.bytes) lexemes
+  pub places : map (λ s. s.pos) seen ≡ map (λ t. t.pos) lexemes

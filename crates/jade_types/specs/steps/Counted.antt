@@ -2,13 +2,14 @@
 use Rattle.std.specs.Prelude.{◌≡◌, ℕ, ◌-◌, nat_le, List, [], ◌∷◌, ◌++◌, sum, length, Option, Some, None, if◌then◌else◌}
 use Rattle.jade_syntax.specs.declared.tree.Item.{Item}
 use Rattle.jade_syntax.specs.Abstract.{Name}
+use Rattle.jade_syntax.specs.declared.objects.TheConstants.{INPUT_LIMIT, OBJECT_LIMIT, CELL_LIMIT}
 use Rattle.jade_syntax.specs.Objects.{input_names, sizes}
 use Rattle.jade_syntax.specs.StaticFaults.{Site, Declares, Counts, item_known, item_place, item_names, amount_sites, counted}
 use Rattle.jade_types.specs.declared.faults.items.Room.{Room}
 use Rattle.jade_types.specs.declared.faults.names.Meaning.{Meaning}
 use Rattle.jade_types.specs.declared.faults.notes.Notes.{Notes}
-use Rattle.jade_types.specs.Noted.{Noted}
-use Rattle.jade_types.specs.Scoped.{as_names}
+use Rattle.jade_types.specs.steps.Noted.{Noted}
+use Rattle.jade_types.specs.steps.Scoped.{as_names}
 
 -- what is left of the most that is allowed, or nothing where that is exceeded
 abbrev pub left_of : (most n : ℕ) → Option ℕ
@@ -16,9 +17,9 @@ left_of most n = if nat_le n most then Some (most - n) else None
 
 -- the room that these items leave
 pub record Leaves (items : List Item) (room : Room) : Type 0 where
-  pub inputs : room.inputs ≡ left_of 64 (length (input_names items))
-  pub objects : room.objects ≡ left_of 4096 (length (sizes items))
-  pub cells : room.cells ≡ left_of 1048576 (sum (sizes items))
+  pub inputs : room.inputs ≡ left_of INPUT_LIMIT (length (input_names items))
+  pub objects : room.objects ≡ left_of OBJECT_LIMIT (length (sizes items))
+  pub cells : room.cells ≡ left_of CELL_LIMIT (sum (sizes items))
 
 -- what is known of the items that were gone through: their names, and the room that those leave that count
 pub record Behind (before : List Item) (known : List (Name × Meaning)) (room : Room) : Type 0 where

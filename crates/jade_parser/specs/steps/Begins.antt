@@ -26,9 +26,9 @@ use Rattle.jade_parser.specs.declared.Sign.TheVariants.{
 }
 use Rattle.jade_parser.specs.declared.begins.Begin.{Begin}
 use Rattle.jade_parser.specs.declared.begins.Begin.TheVariants.{Local, If, For, Withonly, With, Declare, Closing, Nothing}
-use Rattle.jade_parser.specs.Ops.{declare_of}
+use Rattle.jade_parser.specs.steps.Ops.{declare_of}
 use Rattle.jade_parser.specs.Spelled.{Fixed}
-use Rattle.jade_parser.specs.Machine.{Stack, Must, NameIs, Names, Second, Body, Else, expr_in, statement_sign}
+use Rattle.jade_parser.specs.steps.Machine.{Stack, Must, NameIs, Names, Second, Body, Else, expr_in, statement_sign}
 use Rattle.jade_parser.specs.Statements.{kind_word, declare_word}
 
 -- a declaration, where one with this word may stand
@@ -55,7 +55,8 @@ begin_of c s = declaration_of c (declare_of s)
 
 -- what the word asks for, where it begins this
 abbrev pub Told : BlockKind → Sign → Begin → Type 0
-Told c s (Local k) = (kind_word k ≡ Fixed s) × ((st : Stack) → statement_sign c s st ≡ Some (NameIs ∷ Must Becomes ∷ expr_in ++ Must Semicolon ∷ Body c ∷ st))
+Told c s (Local k) = (kind_word k ≡ Fixed s)
+    × ((st : Stack) → statement_sign c s st ≡ Some (NameIs ∷ Must Becomes ∷ expr_in ++ Must Semicolon ∷ Body c ∷ st))
 Told c s If = (s ≡ IfWord) × ((st : Stack) → statement_sign c s st ≡ Some (expr_in ++ Must LeftBrace ∷ Body c ∷ Else c ∷ Body c ∷ st))
 Told c s For = (s ≡ ForWord) × ((st : Stack) → statement_sign c s st
     ≡ Some (NameIs ∷ Must InWord ∷ expr_in ++ Must DotDot ∷ expr_in ++ Must LeftBrace ∷ Body c ∷ Body c ∷ st))

@@ -3,8 +3,8 @@ use Rattle.std.specs.Prelude.{◌≡◌, ◌∷◌, Some}
 use Rattle.jade_syntax.specs.Placed.{Phrase, Phrases, Local, Assign, Store, If, IfElse, For, Withonly, With, Declare}
 use Rattle.jade_syntax.specs.StaticFaults.{Holds, known, sites, block_sites}
 use Rattle.jade_types.specs.declared.faults.notes.Notes.{Notes}
-use Rattle.jade_types.specs.Noted.{Noted}
-use Rattle.jade_types.specs.Scoped.{Scoped, in_scope}
+use Rattle.jade_types.specs.steps.Noted.{Noted}
+use Rattle.jade_types.specs.steps.Scoped.{Scoped, in_scope}
 
 -- the names in scope after a statement: a local is one more
 abbrev pub scope_after : Scoped → Phrase → Scoped

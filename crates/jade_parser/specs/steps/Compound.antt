@@ -25,10 +25,11 @@ use Rattle.jade_parser.specs.declared.Sign.TheVariants.{
   WithWord,
 }
 use Rattle.jade_parser.specs.Spelled.{Fixed, plain, fixed, marked}
-use Rattle.jade_parser.specs.Machine.{Stack, Must, NameIs, Names, Second, Body, Else, expr_in}
+use Rattle.jade_parser.specs.steps.Machine.{Stack, Must, NameIs, Names, Second, Body, Else, expr_in}
 use Rattle.jade_parser.specs.Statements.{statement_parts, kind_word, declare_word}
-use Rattle.jade_parser.specs.Reads.{Whole, Stops, OnStop, place_at}
-use Rattle.jade_parser.specs.Parts.{Fits, ReadIn, RefusalIn, LongIn}
+use Rattle.jade_parser.specs.steps.Reads.{Whole, Stops, OnStop, place_at}
+use Rattle.jade_parser.specs.steps.Parts.{ReadIn, RefusalIn, LongIn}
+use Rattle.jade_parser.specs.Programs.{Fits}
 
 -- what is asked for where a block begins
 abbrev pub block_in : BlockKind → Stack
@@ -52,7 +53,8 @@ with_in = Must LeftBrace ∷ Body Amends ∷ Must ContWord ∷ Must Semicolon �
 
 -- what is asked for once the word was read
 abbrev pub BeginAt : BlockKind → List Seen → ℕ → Begin → Type 0
-BeginAt c all at (Local k) = Whole all at (Body c ∷ []) (at + 1) (NameIs ∷ Must Becomes ∷ expr_in ++ Must Semicolon ∷ Body c ∷ []) (plain (kind_word k) ∷ [])
+BeginAt c all at (Local k) = Whole all at (Body c ∷ []) (at + 1) (NameIs ∷ Must Becomes ∷ expr_in ++ Must Semicolon ∷ Body c ∷ [])
+    (plain (kind_word k) ∷ [])
 BeginAt c all at If = Whole all at (Body c ∷ []) (at + 1) (if_in c) (fixed IfWord ∷ [])
 BeginAt c all at For = Whole all at (Body c ∷ []) (at + 1) (for_in c) (fixed ForWord ∷ [])
 BeginAt c all at Withonly = (c ≡ Main) × Whole all at (Body Main ∷ []) (at + 1) withonly_in (marked (Fixed WithonlyWord) (place_at all at) ∷ [])

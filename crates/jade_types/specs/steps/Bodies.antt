@@ -1,6 +1,7 @@
 -- What going through a part of a body adds to it.
 use Rattle.std.specs.Prelude.{◌≡◌, ℕ, ◌+◌, List, [], ◌++◌, length, map, Option, Some, None}
 use Rattle.jade_syntax.specs.declared.stands.Stand.{Stand}
+use Rattle.jade_syntax.specs.declared.stands.Stand.TheVariants.{Slot}
 use Rattle.jade_syntax.specs.Abstract.{Name, Expression, Action, Actions, Local, Assign, Store, If, IfElse, For, Withonly, With, Declare}
 use Rattle.jade_syntax.specs.Image.{Reference}
 use Rattle.jade_syntax.specs.Numbering.{Scope, Numbered, slotted, parameters, numbered, numbered_all, expression_stands, place_stands}
@@ -8,6 +9,10 @@ use Rattle.jade_syntax.specs.Numbering.{Scope, Numbered, slotted, parameters, nu
 -- the items by name as names in scope
 abbrev pub as_scope : List (Name × Stand) → Scope
 as_scope items = map (λ i. record { name = i.0; stand = i.1 }) items
+
+-- variables by name with their slots as names in scope
+abbrev pub in_slots : List (Name × ℕ) → Scope
+in_slots variables = map (λ v. record { name = v.0; stand = Slot v.1 }) variables
 
 -- a body: its variables in scope, the newest first, the items, and the number of slots taken
 pub record InBody : Type 0 where
