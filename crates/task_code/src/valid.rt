@@ -1,11 +1,11 @@
 //! Whether code keeps the rules, and the first place where it does not.
 
 ghost use Rattle.std.specs.Prelude.{◌≡◌, ◌<◌, ◌≤◌, ◌^◌, Some, true, false, length, slice_get, MatchResult};
-ghost use Rattle.task_code.specs.declared.code.Instruction.{Instruction as InstructionOf};
+ghost use Rattle.code_meaning.specs.declared.code.Instruction.{Instruction as InstructionOf};
 ghost use Rattle.task_code.specs.Checking.{FirstBad, AnyBad};
 ghost use Rattle.task_code.specs.Rules.{Valid, BadAt, IsSmall, is_there, are_there, slots_are_there, is_turn, places_are_there, is_size, have_size, objects_are_there, is_given, body_is_there, keeps, begins, fine};
 
-use crate::code::{Body, Instruction, Operand};
+use code_meaning::code::{Body, Instruction, Operand};
 use std::marker::Model;
 
 /// Bodies, the number of inputs, and the sizes of the objects. Contracts see these three.
@@ -115,8 +115,8 @@ fn is_turn(code: &[Instruction], place: usize, base: u32, passed: u64) -> bool
 
 // Whether the places to which an instruction may go are there.
 fn places_are_there(code: &[Instruction], place: usize, instruction: Instruction) -> bool
-    requires { length code.now < 2 ^ 32 }
-    requires { place < length code.now }
+    requires small { length code.now < 2 ^ 32 }
+    requires place { place < length code.now }
     ensures { result ≡ places_are_there code.now place instruction }
 {
     match instruction {
@@ -279,7 +279,7 @@ impl Code {
 }
 
 // A place as two numbers.
-fn bad(body: usize, place: usize) -> Bad
+fn bad_at(body: usize, place: usize) -> Bad
     requires body { body < 2 ^ 32 }
     requires place { place < 2 ^ 32 }
     ensures body { result.0.body ≡ body }
@@ -297,12 +297,12 @@ fn first_bad(raw: &Raw) -> Option<Bad>
     ensures { AnyBad raw.now result }
 {
     if raw.bodies.len() == 0 {
-        return Some(bad(0, 0));
+        return Some(bad_at(0, 0));
     }
     'bodies: for own in 0..raw.bodies.len() {
         match bad_place(raw, own, &raw.bodies[own]) {
             None => {}
-            Some(place) => return Some(bad(own, place)),
+            Some(place) => return Some(bad_at(own, place)),
         }
     }
     None

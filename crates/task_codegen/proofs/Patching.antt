@@ -6,9 +6,9 @@ use Rattle.std.proofs.lemmas.List.{get_or_append_left, take-append-le}
 use Rattle.std.proofs.lemmas.Bool.{cases_lt}
 use Rattle.std.proofs.Math.Seq.{drop-cons, get_or-append_seam, take-append_seam}
 use Rattle.std.proofs.lemmas.Option.{slice_get_within, get_or_from_slice_get, slice_get-get_or}
-use Rattle.task_code.specs.declared.code.Logic.{Logic}
-use Rattle.task_code.specs.declared.code.Instruction.{Instruction}
-use Rattle.task_code.specs.declared.code.Instruction.TheVariants as i
+use Rattle.code_meaning.specs.declared.code.Logic.{Logic}
+use Rattle.code_meaning.specs.declared.code.Instruction.{Instruction}
+use Rattle.code_meaning.specs.declared.code.Instruction.TheVariants as i
 use Rattle.task_codegen.specs.Chains.{Codes, counted, opened, closed, Places}
 
 pub opened_both : (l : Logic) (t : ℕ) (cs ds : Codes) → opened l t (cs ++ ds) ≡ opened l t cs ++ opened l t ds

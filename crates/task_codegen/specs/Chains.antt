@@ -1,8 +1,8 @@
 -- The code of a chain whose operands are passed where a value decides, before and after its jumps are written.
 use Rattle.std.specs.Prelude.{◌≡◌, ℕ, ◌+◌, List, [], ◌∷◌, ◌++◌, length, Some, slice_get, take}
-use Rattle.task_code.specs.declared.code.Logic.{Logic}
-use Rattle.task_code.specs.declared.code.Instruction.{Instruction}
-use Rattle.task_code.specs.declared.code.Instruction.TheVariants as i
+use Rattle.code_meaning.specs.declared.code.Logic.{Logic}
+use Rattle.code_meaning.specs.declared.code.Instruction.{Instruction}
+use Rattle.code_meaning.specs.declared.code.Instruction.TheVariants as i
 
 abbrev pub Codes : Type 0
 Codes = List (List Instruction)

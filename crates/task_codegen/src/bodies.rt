@@ -1,10 +1,10 @@
 //! The code of the bodies of a program.
 
 ghost use Rattle.std.specs.Prelude.{◌≡◌, [], ◌∷◌, ◌++◌, List, length, OnOk};
-ghost use Rattle.task_code.specs.Meaning.{Body as BodyOf};
+ghost use Rattle.code_meaning.specs.Meaning.{Body as BodyOf};
 
 use jade_base::Memory;
-use task_code::code::Body;
+use code_meaning::code::Body;
 
 // A body whose code is finished takes the place that was kept for it.
 pub(crate) fn fill(bodies: &mut Vec<Body>, at: usize, body: Body) -> Result<(), Memory>

@@ -3,10 +3,10 @@
 ghost use Rattle.std.specs.Prelude.{◌≡◌, [], ◌∷◌, ◌++◌, List, ℕ, length, OnOk, IfOk};
 ghost use Rattle.task_translation.specs.Compile.{brought, where_is};
 ghost use Rattle.task_codegen.specs.Bodies.{Emits};
-ghost use Rattle.task_code.specs.declared.code.Instruction.{Instruction as InstructionOf};
+ghost use Rattle.code_meaning.specs.declared.code.Instruction.{Instruction as InstructionOf};
 ghost use Rattle.task_codegen.specs.Chains.{Codes, Places, counted, opened, closed};
 
-use task_code::code::{Instruction, Logic, Operand};
+use code_meaning::code::{Instruction, Logic, Operand};
 use jade_base::Memory;
 
 /// One more instruction.

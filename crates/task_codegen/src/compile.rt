@@ -1,20 +1,63 @@
 //! The code of a program.
 
-ghost use Rattle.std.specs.Prelude.{◌≡◌, ◌≤◌, length, IfOk};
+ghost use Rattle.std.specs.Prelude.{◌≡◌, ◌≤◌, ℕ, length, IfOk};
 ghost use Rattle.jade_syntax.specs.Image.{program as abstracted};
 ghost use Rattle.jade_syntax.specs.Objects.{sizes};
 ghost use Rattle.task_translation.specs.Compile.{compiled};
+ghost use Rattle.task_translation.specs.Correct.{Follows};
 
-use task_code::code::Body;
 use crate::ranges::Ranges;
 use crate::statements::task;
+use code_meaning::code::Body;
 use jade_base::Memory;
+use jade_syntax::Checked;
 use jade_syntax::tree::{NameList, Program};
 use std::alloc::Global;
+use std::marker::Model;
+
+/// A checked program and the bodies of its tasks, of which the first is that of `main`.
+#[derive(Drop)]
+pub struct Compiled {
+    checked: Checked,
+    bodies: Vec<Body>,
+}
+
+impl Model for Compiled {
+    ghost use Rattle.std.specs.Prelude.{◌≡◌};
+    ghost use Rattle.jade_syntax.specs.CheckedProgram.{CheckedProgram};
+    ghost use Rattle.jade_syntax.specs.Image.{program as abstracted};
+    ghost use Rattle.task_translation.specs.Compile.{compiled};
+
+    ghost Value = { CheckedProgram };
+
+    ghost view = { λ c. c.checked };
+
+    ghost invariant = { λ c. c.bodies.items ≡ compiled (abstracted c.checked.program) };
+}
+
+impl Compiled {
+    /// The program that was compiled. It takes no memory.
+    pub fn checked(&self) -> &Checked
+        ensures { result.now ≡ self.now }
+    {
+        &self.checked
+    }
+
+    /// The bodies of its tasks, of which the first is that of `main`: they are the code of the
+    /// program, and on any numbers, as many as it has inputs, and under any limit, they do what the
+    /// program does. It takes no memory.
+    pub fn bodies(&self) -> &[Body]
+        ensures code { result.now ≡ compiled (abstracted self.now.program) }
+        ensures follows { (limit : ℕ) → Follows result.now (abstracted self.now.program) limit }
+    {
+        code_follows();
+        self.bodies.as_slice()
+    }
+}
 
 /// The bodies of a program, the first of which is that of `main`. The error is want of memory, or
 /// that a number is too large for an instruction.
-pub fn compile(alloc: Global, program: &Program) -> Result<Vec<Body>, Memory>
+fn bodies_of(alloc: Global, program: &Program) -> Result<Vec<Body>, Memory>
     requires { length (sizes program.now.items) ≤ 4096 }
     ensures { IfOk result (λ bodies. bodies.items ≡ compiled (abstracted program.now)) }
 {
@@ -30,4 +73,13 @@ pub fn compile(alloc: Global, program: &Program) -> Result<Vec<Body>, Memory>
         &program.main,
     )?;
     Ok(bodies)
+}
+
+/// The code of a checked program. The error is want of memory, or code that is too long for the
+/// numbers in instructions.
+pub fn compile(alloc: Global, checked: Checked) -> Result<Compiled, Memory>
+    ensures { IfOk result (λ compiled. compiled ≡ checked) }
+{
+    let bodies = bodies_of(alloc, checked.program())?;
+    Ok(Compiled { checked, bodies })
 }

@@ -7,7 +7,7 @@ use Rattle.jade_syntax.specs.Abstract.{AbstractProgram}
 use Rattle.jade_meaning.specs.declared.values.Value.TheVariants.{IntOf}
 use Rattle.jade_meaning.specs.Specification.{Specification}
 use Rattle.jade_meaning.specs.Course.{Course, Ends, inputs, run_all, finish, child_start, root_spec}
-use Rattle.task_code.specs.Meaning.{Slots, Children, Body, body_going, by_number, bodies_from}
+use Rattle.code_meaning.specs.Meaning.{Slots, Children, Body, body_going, by_number, bodies_from}
 use Rattle.task_translation.specs.Compile.{inputs_in, given_scope, bodies_for_all}
 use Rattle.task_translation.proofs.Scopes.{below_parameters}
 use Rattle.task_translation.specs.Correct.{CodeFollows}

@@ -12,14 +12,14 @@ use Rattle.jade_meaning.specs.declared.found.Range.{Range}
 use Rattle.jade_meaning.specs.Values.{operated, decides, signed, whole, is_index, magnitude}
 use Rattle.jade_meaning.specs.Specification.{Specification}
 use Rattle.jade_meaning.specs.Course.{Course, Draft, Mine, Setting, On, choose, given, fault, read_cell, reach, member, value_of, eval, eval_links, find}
-use Rattle.task_code.specs.declared.code.BinaryOp.{BinaryOp}
-use Rattle.task_code.specs.declared.code.Operand.{Operand}
-use Rattle.task_code.specs.declared.code.Operand.TheVariants as operand
-use Rattle.task_code.specs.declared.code.Instruction.{Instruction}
-use Rattle.task_code.specs.declared.code.Instruction.TheVariants as i
-use Rattle.task_code.specs.Meaning.{Slots, Go, Children, worth, with_slot, own, either, operator, numbered, index_of, member_at, cell_at, from_place}
+use Rattle.code_meaning.specs.declared.code.BinaryOp.{BinaryOp}
+use Rattle.code_meaning.specs.declared.code.Operand.{Operand}
+use Rattle.code_meaning.specs.declared.code.Operand.TheVariants as operand
+use Rattle.code_meaning.specs.declared.code.Instruction.{Instruction}
+use Rattle.code_meaning.specs.declared.code.Instruction.TheVariants as i
+use Rattle.code_meaning.specs.Meaning.{Slots, Go, Children, worth, with_slot, own, either, operator, numbered, index_of, member_at, cell_at, from_place}
 use Rattle.task_translation.specs.Compile.{Scope, slot_of, variable_at, where_is, brought, operand_of, unless, range_of, member_read, member_reached, code_of, code_of_links, code_at, operand_at, code_of_place, place_at}
-use Rattle.task_code.proofs.Stepping.{Spans, split, span_length, fire}
+use Rattle.code_meaning.proofs.Stepping.{Spans, split, span_length, fire}
 use Rattle.task_translation.proofs.Scopes.{Matches, Below, Agree, agree_all, agree_on, agree_less, put, slot_same, Low, worth_same, lower, kept_by, value_at, operand_low, known_low}
 use Rattle.task_translation.proofs.Values.{choose_same, either_same, given_same, read_same, or_gives, and_gives}
 

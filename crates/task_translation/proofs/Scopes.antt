@@ -11,9 +11,9 @@ use Rattle.jade_meaning.specs.Course.{Binding, Environment, value_of, assigned, 
 use Rattle.jade_syntax.specs.declared.tree.Item.{Item}
 use Rattle.jade_syntax.specs.declared.tree.Item.TheVariants as item
 use Rattle.jade_syntax.specs.Abstract.{Expression, Whole, Truth, Variable, Group, Signed, Chain, Cell}
-use Rattle.task_code.specs.declared.code.Operand.{Operand}
-use Rattle.task_code.specs.declared.code.Operand.TheVariants as operand
-use Rattle.task_code.specs.Meaning.{Slots, worth, with_slot, given_slots, passed}
+use Rattle.code_meaning.specs.declared.code.Operand.{Operand}
+use Rattle.code_meaning.specs.declared.code.Operand.TheVariants as operand
+use Rattle.code_meaning.specs.Meaning.{Slots, worth, with_slot, given_slots, passed}
 use Rattle.task_translation.specs.Compile.{Entry, Scope, entry, slot_of, variable_at, operand_of, where_is, scope_after, next_after, call_of, inputs_in, given_scope, parameters}
 
 -- the slot of a variable has its value

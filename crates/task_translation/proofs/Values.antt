@@ -14,7 +14,7 @@ use Rattle.jade_meaning.specs.Values.{Given, Gives, Fails, operated, magnitude, 
 use Rattle.jade_meaning.specs.Specification.{Specification, rights_on}
 use Rattle.jade_meaning.specs.Changes.{amended, declared}
 use Rattle.jade_meaning.specs.Course.{Course, Reads, Writes, Draft, NoDraft, Building, Amending, Mine, On, choose, given, read_cell, write_cell, declare, amend}
-use Rattle.task_code.specs.Meaning.{Slots, Go, own, either}
+use Rattle.code_meaning.specs.Meaning.{Slots, Go, own, either}
 
 pub choose_same : (t : Bool) (x y x' y' : On) (m m' : Mine) → x m ≡ x' m' → y m ≡ y' m' → choose t x y m ≡ choose t x' y' m'
 choose_same true x y x' y' m m' h g = h

@@ -3,7 +3,7 @@ use Rattle.std.specs.Prelude.{◌≡◌, ℕ, ℤ, List, length}
 use Rattle.jade_syntax.specs.Abstract.{AbstractProgram}
 use Rattle.jade_syntax.specs.Objects.{sizes}
 use Rattle.jade_meaning.specs.Course.{Setting, root_spec, root_course, run_all, finish, child_start}
-use Rattle.task_code.specs.Meaning.{code_course}
+use Rattle.code_meaning.specs.Meaning.{code_course}
 use Rattle.task_translation.specs.Compile.{compiled, inputs_in}
 
 -- the code goes on to do what `main` does, whatever numbers it is given

@@ -134,7 +134,7 @@ pub struct Body {
 }
 
 impl Model for Body {
-    ghost use Rattle.task_code.specs.Meaning.{Body as BodyOf};
+    ghost use Rattle.code_meaning.specs.Meaning.{Body as BodyOf};
 
     ghost Value = { BodyOf };
 
