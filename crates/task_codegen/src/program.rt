@@ -14,6 +14,7 @@ use jade_syntax::Checked;
 use jade_syntax::tree::{NameList, Program};
 use std::alloc::Global;
 use std::marker::Model;
+use task_translation::laws::code_follows;
 
 /// A checked program and the bodies of its tasks, of which the first is that of `main`.
 #[derive(Drop)]
@@ -23,12 +24,19 @@ pub struct Compiled {
 }
 
 impl Model for Compiled {
-    ghost use Rattle.std.specs.Prelude.{◌≡◌};
     ghost use Rattle.jade_syntax.specs.CheckedProgram.{CheckedProgram};
+    ghost use Rattle.std.specs.Coded.{code_by, coded×, coded_list};
+    ghost use Rattle.std.specs.Prelude.{◌≡◌, List, refl};
+    ghost use Rattle.jade_syntax.specs.declared.tree.Program.{Program as ProgramTree};
+    ghost use Rattle.jade_syntax.specs.declared.stands.Stand.{Stand as StandOf};
+    ghost use Rattle.jade_syntax.specs.contracts.tree.Program as tree;
+    ghost use Rattle.jade_syntax.specs.contracts.stands.Stand as stand;
     ghost use Rattle.jade_syntax.specs.Image.{program as abstracted};
     ghost use Rattle.task_translation.specs.Compile.{compiled};
 
     ghost Value = { CheckedProgram };
+
+    ghost coded = { code_by (ProgramTree × List StandOf) (coded× tree.the_row.coded (coded_list stand.the_row.coded)) (λ c. (c.program, c.stands)) (λ p. record { program = p.0; stands = p.1 }) (λ _. refl) };
 
     ghost view = { λ c. c.checked };
 
