@@ -6,3 +6,4 @@ mod Chaining
 mod Params
 mod Blocks
 mod Cells
+mod Sizing

@@ -3,10 +3,11 @@
 ghost use Rattle.std.specs.Prelude.{◌≡◌, ◌≤◌, ℕ, length, IfOk};
 ghost use Rattle.jade_syntax.specs.Image.{program as abstracted};
 ghost use Rattle.jade_syntax.specs.Objects.{sizes};
-ghost use Rattle.task_translation.specs.Compile.{compiled};
+ghost use Rattle.task_translation.specs.Compile.{compiled, inputs_in};
 ghost use Rattle.task_translation.specs.Correct.{Follows};
 
 use crate::ranges::Ranges;
+use crate::slots::size;
 use crate::statements::task;
 use code_meaning::code::Body;
 use jade_base::Memory;
@@ -65,8 +66,9 @@ impl Compiled {
 
 /// The bodies of a program, the first of which is that of `main`. The error is want of memory, or
 /// that a number is too large for an instruction.
-fn bodies_of(alloc: Global, program: &Program) -> Result<Vec<Body>, Memory>
-    requires { length (sizes program.now.items) ≤ 4096 }
+fn bodies_of(alloc: Global, program: &Program, inputs: u32) -> Result<Vec<Body>, Memory>
+    requires objects { length (sizes program.now.items) ≤ 4096 }
+    requires inputs { inputs ≡ inputs_in program.now.items }
     ensures { IfOk result (λ bodies. bodies.items ≡ compiled (abstracted program.now)) }
 {
     let ranges = Ranges::of(&program.items);
@@ -80,14 +82,17 @@ fn bodies_of(alloc: Global, program: &Program) -> Result<Vec<Body>, Memory>
         &none,
         &program.main,
     )?;
+    size(&mut bodies, inputs)?;
     Ok(bodies)
 }
 
 /// The code of a checked program. The error is want of memory, or code that is too long for the
 /// numbers in instructions.
+#[tactic(auto, using(crate::proofs::Sizing::inputs_many))]
 pub fn compile(alloc: Global, checked: Checked) -> Result<Compiled, Memory>
     ensures { IfOk result (λ compiled. compiled ≡ checked) }
 {
-    let bodies = bodies_of(alloc, checked.program())?;
+    let inputs = checked.inputs();
+    let bodies = bodies_of(alloc, checked.program(), inputs)?;
     Ok(Compiled { checked, bodies })
 }
