@@ -58,7 +58,11 @@ pub enum Instruction {
         pos: Pos,
     },
     /// An index of a cell is within a size.
-    Within { size: u32, index: Operand, pos: Pos },
+    Within {
+        size: u32,
+        index: Operand,
+        pos: Pos,
+    },
     /// The number of a member of a family, and then the index of a cell of it is within its size.
     Reach {
         first: u32,

@@ -166,10 +166,16 @@ fn objects_are_there(sizes: &[u32], instruction: Instruction) -> bool
             0 < count && first as u64 + count as u64 <= sizes.len() as u64
         }
         Instruction::Reach {
-            first, count, size, ..
+            first,
+            count,
+            size,
+            ..
         }
         | Instruction::ReadIn {
-            first, count, size, ..
+            first,
+            count,
+            size,
+            ..
         } => 0 < count && have_size(sizes, first, count, size),
         Instruction::ReadOf { object, size, .. } => is_size(sizes, object as usize, size),
         Instruction::WriteOf { object, .. } => (object as usize) < sizes.len(),
@@ -317,5 +323,65 @@ pub fn validate(raw: Raw) -> Result<Code, Bad>
     match first_bad(&raw) {
         None => Ok(Code::of(raw)),
         Some(bad) => Err(bad),
+    }
+}
+
+#[cfg(test)]
+mod tests {
+    use super::*;
+    use jade_base::Memory;
+    use std::alloc::Global;
+
+    /// One body of so many slots, without inputs or objects.
+    fn alone(alloc: Global, slots: u32, first: Instruction) -> Result<Raw, Memory> {
+        let mut code = Vec::new(alloc);
+        code.push(first)?;
+        code.push(Instruction::Finish)?;
+        let mut bodies = Vec::new(alloc);
+        bodies.push(Body {
+            call: Vec::new(alloc),
+            slots,
+            code,
+        })?;
+        Ok(Raw {
+            bodies,
+            inputs: 0,
+            sizes: Vec::new(alloc),
+        })
+    }
+
+    /// Where the code breaks a rule; nothing where it keeps all of them.
+    fn broken(raw: Raw) -> Option<At> {
+        if raw.bodies.len() != 1 || raw.bodies[0].code.len() != 2 {
+            return None;
+        }
+        match first_bad(&raw) {
+            None => None,
+            Some(Bad(at)) => Some(at),
+        }
+    }
+
+    #[test]
+    fn answers_the_first_place(rt: HostRuntime) -> Result<(), Memory> {
+        let alloc = rt.alloc();
+        let begin = Some(At { body: 0, place: 0 });
+        let cases = [
+            (0, Instruction::Finish, None),
+            (0, Instruction::Step, None),
+            (0, Instruction::Jump(0), None),
+            (0, Instruction::Jump(1), begin),
+            (0, Instruction::Set(0, Operand::Whole(7)), begin),
+            (1, Instruction::Set(0, Operand::Whole(7)), None),
+            (1, Instruction::Set(0, Operand::Slot(1)), begin),
+            (2, Instruction::Turn(0, 0), begin),
+            (3, Instruction::Turn(0, 0), None),
+            (3, Instruction::Next(0, 0), begin),
+            (0, Instruction::Fresh(1), begin),
+        ];
+        for i in 0..cases.len() {
+            let (slots, first, at) = cases[i];
+            assert_eq!(rt; broken(alone(alloc, slots, first)?), at);
+        }
+        Ok(())
     }
 }

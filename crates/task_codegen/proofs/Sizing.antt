@@ -1,5 +1,5 @@
 -- Bodies get their slots, one after another.
-use Rattle.std.proofs.Common.{◌≡◌, ℕ, suc, ◌+◌, ◌-◌, ◌<◌, ◌≤◌, List, [], ◌∷◌, ◌++◌, map, max, Some, refl, ap, ap₂, sym, ◌∙◌, take, drop, length, append_assoc, append-nil, arith}
+use Rattle.std.proofs.Common.{◌≡◌, ℕ, suc, ◌+◌, ◌<◌, ◌≤◌, List, [], ◌∷◌, ◌++◌, map, max, Some, refl, ap, ap₂, sym, ◌∙◌, take, drop, length, append_assoc, append-nil, arith}
 use Rattle.std.specs.List.{slice_get}
 use Rattle.std.specs.Prelude.{zero, slice_index_or}
 use Rattle.std.proofs.lemmas.List.{take_all, drop_all, map-append, take-append-drop}

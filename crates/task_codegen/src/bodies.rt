@@ -3,8 +3,8 @@
 ghost use Rattle.std.specs.Prelude.{◌≡◌, [], ◌∷◌, ◌++◌, List, length, OnOk};
 ghost use Rattle.code_meaning.specs.Meaning.{Body as BodyOf};
 
-use jade_base::Memory;
 use code_meaning::code::Body;
+use jade_base::Memory;
 
 // A body whose code is finished takes the place that was kept for it.
 pub(crate) fn fill(bodies: &mut Vec<Body>, at: usize, body: Body) -> Result<(), Memory>

@@ -20,7 +20,11 @@ pub(crate) fn emit(code: &mut Vec<Instruction>, instr: Instruction) -> Result<()
 }
 
 /// The value goes to the slot meant for it, where it is in an operand of its own.
-pub(crate) fn bring(code: &mut Vec<Instruction>, slot: u32, value: Option<Operand>) -> Result<(), Memory>
+pub(crate) fn bring(
+    code: &mut Vec<Instruction>,
+    slot: u32,
+    value: Option<Operand>,
+) -> Result<(), Memory>
     ensures { OnOk result (Emits code.old.items code.new.items (brought slot value)) }
 {
     match value {

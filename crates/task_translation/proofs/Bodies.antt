@@ -1,18 +1,15 @@
 -- The code of a whole program.
-use Rattle.std.proofs.Common.{◌≡◌, ℕ, zero, suc, ◌+◌, ◌-◌, ◌≤◌, List, [], ◌∷◌, ◌++◌, None, length, map, refl, sym, ap, ◌∙◌, arith}
+use Rattle.std.proofs.Common.{◌≡◌, ℕ, suc, ◌+◌, ◌-◌, ◌≤◌, List, [], ◌∷◌, None, map, refl, sym, ap, ◌∙◌, arith}
 use Rattle.std.specs.Prelude.{ℤ, pos, slice_index_or}
-use Rattle.jade_syntax.specs.declared.tree.Item.{Item}
-use Rattle.jade_syntax.specs.declared.tree.Item.TheVariants.{Input, Single, Family}
 use Rattle.jade_syntax.specs.Abstract.{AbstractProgram}
 use Rattle.jade_meaning.specs.declared.values.Value.TheVariants.{IntOf}
-use Rattle.jade_meaning.specs.Specification.{Specification}
-use Rattle.jade_meaning.specs.Course.{Course, Ends, inputs, run_all, finish, child_start, root_spec}
-use Rattle.code_meaning.specs.Meaning.{Slots, Children, Body, body_going, by_number, bodies_from}
+use Rattle.jade_meaning.specs.Course.{Ends, inputs, root_spec}
+use Rattle.code_meaning.specs.Meaning.{Children, Body, body_going, by_number, bodies_from}
 use Rattle.task_translation.specs.Compile.{inputs_in, given_scope, bodies_for_all, unsized}
 use Rattle.task_translation.specs.Room.{Calls, calls_of, with_slots}
 use Rattle.task_translation.proofs.Scopes.{below_parameters}
 use Rattle.task_translation.specs.Correct.{Follows, CodeFollows}
-use Rattle.task_translation.proofs.Statements.{Knows, setting, nothing, all_goes, body_goes}
+use Rattle.task_translation.proofs.Statements.{Knows, nothing, all_goes, body_goes}
 
 knows_same : (c d : Children) (zs : List ℤ) (limit b : ℕ) (bodies : List Body) → ((k : ℕ) → b ≤ k → c k ≡ d k) → Knows c zs limit b bodies → Knows d zs limit b bodies
 knows_same c d zs limit b [] e h = tt
@@ -26,9 +23,10 @@ table_knows zs limit base (x ∷ bodies) =
     let inner = by_number (base + 1) rest in
     let all = bodies_from zs limit base (x ∷ bodies) in
     let known = table_knows zs limit (base + 1) bodies in
-    let here : base - base ≡ 0 = omega arith in
-    ((inner, known, λ ss spec. ap (λ n. slice_index_or all n (λ ss spec. Ends None) ss spec) here),
-      knows_same inner (by_number base all) zs limit (base + 1) bodies (λ k le. let e : suc (k - (base + 1)) ≡ k - base = omega (arith, le) in ap (λ n. slice_index_or all n (λ ss spec. Ends None)) e) known)
+    let here : base - base ≡ 0 = omega arith in (
+      (inner, known, λ ss spec. ap (λ n. slice_index_or all n (λ ss spec. Ends None) ss spec) here),
+      knows_same inner (by_number base all) zs limit (base + 1) bodies (λ k le. let e : suc (k - (base + 1)) ≡ k - base = omega (arith, le) in ap (λ n. slice_index_or all n (λ ss spec. Ends None)) e) known,
+    )
 
 -- the bodies do what the program does, whatever slots they have
 unsized_follows : (p : AbstractProgram) (limit : ℕ) → Follows (unsized p) p limit

@@ -1,12 +1,12 @@
 -- Variables and their slots.
-use Rattle.std.proofs.Common.{◌≡◌, ℕ, zero, suc, ◌+◌, ◌-◌, ◌<◌, ◌≤◌, ◌⊎◌, List, [], ◌∷◌, ◌++◌, length, drop, Bool, true, false, Option, Some, None, refl, sym, ap, ap₂, ◌∙◌, subst, arith, inl, inr, ⊎_elim, length-append}
-use Rattle.std.specs.Prelude.{nat_eq, ℤ, pos, if◌then◌else◌}
-use Rattle.std.proofs.lemmas.Bool.{eq-eqb, ne_eqb, cases_Bool}
+use Rattle.std.proofs.Common.{◌≡◌, ℕ, suc, ◌+◌, ◌-◌, ◌<◌, ◌≤◌, ◌⊎◌, List, [], ◌∷◌, ◌++◌, length, drop, Bool, true, false, Option, Some, None, refl, sym, ap, ap₂, ◌∙◌, subst, arith, inl, inr, length-append}
+use Rattle.std.specs.Prelude.{ℤ, if◌then◌else◌}
+use Rattle.std.proofs.lemmas.Bool.{eq-eqb, ne_eqb}
 use Rattle.std.proofs.lemmas.Option.{same_Some, none-some}
 use Rattle.jade_syntax.specs.Abstract.{Name, Actions, Done, Then, Action, Local, Assign, Store, If, IfElse, For, Withonly, With, Declare}
 use Rattle.jade_syntax.specs.Numbering.{same_name}
 use Rattle.jade_meaning.specs.declared.values.Value.{Value}
-use Rattle.jade_meaning.specs.declared.values.Value.TheVariants.{IntOf, BoolOf}
+use Rattle.jade_meaning.specs.declared.values.Value.TheVariants.{IntOf}
 use Rattle.jade_meaning.specs.Course.{Binding, Environment, value_of, assigned, copied, inputs}
 use Rattle.jade_syntax.specs.declared.tree.Item.{Item}
 use Rattle.jade_syntax.specs.declared.tree.Item.TheVariants as item
@@ -149,7 +149,7 @@ assigned_too x [] (b ∷ env) ss k n v low h m = absurd m
 assigned_too x (e ∷ scope) [] ss k n v low h m = absurd m
 assigned_too x (e ∷ scope) (b ∷ env) ss k n v low h m =
     subst (λ y. Matches (e ∷ scope) (if same_name x y then record b { value = v } ∷ env else b ∷ assigned x v env) (with_slot k v ss)) m.0.name
-      (assigned_case (same_name x e.name) x e scope b env ss k n v low m.0 m.1 h (λ g. assigned_too x scope env ss k e.slot v low.1 g m.1))
+    (assigned_case (same_name x e.name) x e scope b env ss k n v low m.0 m.1 h (λ g. assigned_too x scope env ss k e.slot v low.1 g m.1))
 
 unassigned_case : (t : Bool) (x : Name) (e : Entry) (scope : Scope) (b : Binding) (env : Environment) (ss : Slots) (v : Value) → Meets e b ss → (if t then Some e.slot else slot_of x scope) ≡ None → (slot_of x scope ≡ None → Matches scope (assigned x v env) ss) → Matches (e ∷ scope) (if t then record b { value = v } ∷ env else b ∷ assigned x v env) ss
 unassigned_case true x e scope b env ss v meets h ih = absurd (none-some e.slot (sym h))
@@ -161,7 +161,7 @@ unassigned x [] (b ∷ env) ss v h m = absurd m
 unassigned x (e ∷ scope) [] ss v h m = absurd m
 unassigned x (e ∷ scope) (b ∷ env) ss v h m =
     subst (λ y. Matches (e ∷ scope) (if same_name x y then record b { value = v } ∷ env else b ∷ assigned x v env) ss) m.0.name
-      (unassigned_case (same_name x e.name) x e scope b env ss v m.0 h (λ g. unassigned x scope env ss v g m.1))
+    (unassigned_case (same_name x e.name) x e scope b env ss v m.0 h (λ g. unassigned x scope env ss v g m.1))
 
 pub same_length : (scope : Scope) (env : Environment) (ss : Slots) → Matches scope env ss → length env ≡ length scope
 same_length [] [] ss m = refl
@@ -258,7 +258,7 @@ given_match (item.Input y at ∷ items) [] e = absurd (omega (arith, e))
 given_match (item.Input y at ∷ items) (z ∷ zs) e =
     let same : length zs ≡ inputs_in items = omega (arith, e) in
     subst (λ n. Matches (entry y (inputs_in items) ∷ given_scope items) (record { name = y; value = IntOf z } ∷ inputs items zs) (with_slot n (IntOf z) (given_slots zs))) (sym same)
-      (bound_too y (inputs_in items) (IntOf z) (given_scope items) (inputs items zs) (given_slots zs) (below_given items) (given_match items zs same))
+    (bound_too y (inputs_in items) (IntOf z) (given_scope items) (inputs items zs) (given_slots zs) (below_given items) (given_match items zs same))
 given_match (item.Single y at size ∷ items) zs e = given_match items zs e
 given_match (item.Family y at count size ∷ items) zs e = given_match items zs e
 
@@ -279,7 +279,7 @@ passed_match items zs e (x ∷ xs) scope env ss m =
     let same = ap (λ k. with_slot k v rest) (ap₂ (λ a b. a + b) e (call_length scope xs)) in
     let all = bound_too x (inputs_in items + length xs) v (parameters items xs) (copied xs env ++ inputs items zs) rest (below_parameters items xs) (passed_match items zs e xs scope env ss m) in
     subst (λ g. Matches (parameters items (x ∷ xs)) (copied (x ∷ xs) env ++ inputs items zs) g) (sym same)
-      (subst (λ u. Matches (parameters items (x ∷ xs)) (record { name = x; value = u } ∷ (copied xs env ++ inputs items zs)) (with_slot (inputs_in items + length xs) v rest)) (sym (value_at x scope env ss m)) all)
+    (subst (λ u. Matches (parameters items (x ∷ xs)) (record { name = x; value = u } ∷ (copied xs env ++ inputs items zs)) (with_slot (inputs_in items + length xs) v rest)) (sym (value_at x scope env ss m)) all)
 
 variable_low : (t : ℕ) (x : Name) (scope : Scope) (o : Option ℕ) → slot_of x scope ≡ o → Below t scope → Low t (variable_at o)
 variable_low t x scope None e low = tt

@@ -1,5 +1,5 @@
 -- What judgements come to on both sides.
-use Rattle.std.proofs.Common.{◌≡◌, ℕ, zero, suc, ◌+◌, ◌-◌, ◌<◌, ◌≤◌, List, [], ◌∷◌, Bool, true, false, Option, Some, None, refl, sym, ap, ◌∙◌, subst, arith}
+use Rattle.std.proofs.Common.{◌≡◌, ℕ, zero, suc, Bool, true, false, Option, Some, None, refl, ap, ◌∙◌, arith}
 use Rattle.std.specs.Prelude.{ℤ, pos, negsuc, ◌+ℤ◌, ◌-ℤ◌, ◌<ℤ◌, ◌≤ℤ◌, int_lt}
 use Rattle.std.proofs.Math.Path.{fun_ext}
 use Rattle.std.proofs.lemmas.Int.{ints}
@@ -12,7 +12,7 @@ use Rattle.jade_meaning.specs.declared.values.Value.{Value}
 use Rattle.jade_meaning.specs.declared.values.Value.TheVariants.{IntOf, BoolOf}
 use Rattle.jade_meaning.specs.Values.{Given, Gives, Fails, operated, magnitude, turn_count}
 use Rattle.jade_meaning.specs.Specification.{Specification, rights_on}
-use Rattle.jade_meaning.specs.Changes.{amended, declared}
+use Rattle.jade_meaning.specs.Changes.{amended}
 use Rattle.jade_meaning.specs.Course.{Course, Reads, Writes, Draft, NoDraft, Building, Amending, Mine, On, choose, given, read_cell, write_cell, declare, amend}
 use Rattle.code_meaning.specs.Meaning.{Slots, Go, own, either}
 

@@ -1,4 +1,4 @@
-use Rattle.std.proofs.Common.{◌≡◌, ◌+◌, ◌≤◌, drop, length}
+use Rattle.std.proofs.Common.{◌≡◌, ◌≤◌, drop, length}
 use Rattle.task_translation.specs.Room.{calls_of, room}
 use Rattle.task_codegen.proofs.slots.room.Given as goal
 

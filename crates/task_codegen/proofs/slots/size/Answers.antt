@@ -1,4 +1,4 @@
-use Rattle.std.proofs.Common.{◌≡◌, ◌<◌, ap, ◌∙◌, length, arith}
+use Rattle.std.proofs.Common.{◌<◌, ap, ◌∙◌, length, arith}
 use Rattle.task_translation.specs.Room.{calls_of, with_slots}
 use Rattle.task_codegen.proofs.Sizing.{one_sized}
 use Rattle.task_codegen.proofs.slots.size.Goals as goal
