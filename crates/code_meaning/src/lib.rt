@@ -1,0 +1,6 @@
+//! The instructions of a task, and what they mean: the course that a task with such a body takes.
+#![tactic(auto)]
+
+pub mod code;
+
+pub use code::{BinaryOp, Body, Instruction, Logic, Operand};

@@ -1,0 +1,7 @@
+//! The code of a program, the rules that it keeps, and the first place where it does not.
+#![tactic(auto)]
+
+pub mod valid;
+
+pub use code_meaning::code::{BinaryOp, Body, Instruction, Logic, Operand};
+pub use valid::{At, Bad, Code, Raw, validate};

@@ -1,0 +1,5 @@
+mod Scopes
+mod Values
+mod Follows
+mod Statements
+mod Bodies

@@ -1,0 +1,53 @@
+//! Compiles a program, and prints the instructions of its bodies.
+#![tactic(auto)]
+
+use code_meaning::Body;
+use jade_base::{StdSource, read_text};
+use jade_lexer::tokens;
+use jade_parser::parse;
+use jade_syntax::Checked;
+use jade_types::check;
+use std::alloc::Global;
+use std::io;
+use task_codegen::compile;
+
+/// The checked program of a text; nothing where it is refused, or for want of memory.
+fn checked(alloc: Global, text: &[u8]) -> Option<Checked> {
+    if text.len() > 1_048_576 {
+        return None;
+    }
+    let tokens = tokens(alloc, text).ok()?;
+    let program = parse(alloc, &tokens).ok()?;
+    check(alloc, program).ok()
+}
+
+/// Prints a body: what it is given, and its instructions with their places.
+fn tell(rt: &HostRuntime, number: usize, body: &Body) -> io::Result<()> {
+    println!(rt; "body {number}")?;
+    for i in 0..body.call.len() {
+        println!(rt; "  given {:?}", body.call[i])?;
+    }
+    for place in 0..body.code.len() {
+        println!(rt; "  {place}: {:?}", body.code[place])?;
+    }
+    Ok(())
+}
+
+fn main(rt: HostRuntime) -> io::Result<()> {
+    let alloc = rt.alloc();
+    let mut source = StdSource::new(rt.stdin());
+    let Ok(text) = read_text(alloc, &mut source) else {
+        return println!(rt; "no text");
+    };
+    let Some(checked) = checked(alloc, &text) else {
+        return println!(rt; "no checked program");
+    };
+    let Ok(compiled) = compile(alloc, checked) else {
+        return println!(rt; "no memory");
+    };
+    let bodies = compiled.bodies();
+    for number in 0..bodies.len() {
+        tell(&rt, number, &bodies[number])?;
+    }
+    Ok(())
+}
