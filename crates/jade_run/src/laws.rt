@@ -4,8 +4,8 @@ ghost use Rattle.std.specs.Prelude.{ℕ, List};
 ghost use Rattle.jade_run.specs.declared.status.Status.{Status};
 ghost use Rattle.jade_run.specs.Outcome.{IsOutcome, SameOutcome};
 
-use jade_parser::laws::{one_reading, spelled_alike};
-use jade_reading::laws::{erased_is_program, one_tree};
+use jade_parser::laws::one_reading;
+use jade_reading::laws::{erased_is_program, one_tree, spelled_alike};
 
 /// Words and a text come to one text and one status.
 pub fn one_outcome()
