@@ -1,29 +1,6 @@
 -- The tokens of a shaped program are readable.
-use Rattle.std.proofs.Common.{
-  ◌≡◌,
-  ℕ,
-  max,
-  true,
-  false,
-  ◌&&◌,
-  List,
-  [],
-  ◌∷◌,
-  ◌++◌,
-  map,
-  Option,
-  Some,
-  None,
-  codes,
-  refl,
-  sym,
-  ap,
-  subst,
-  ◌∙◌,
-  arith,
-  append_assoc,
-  append-nil,
-}
+use Rattle.std.proofs.Common.{◌≡◌, ℕ, max, true, false, ◌&&◌, List, [], ◌∷◌, ◌++◌, map, Option, Some, None}
+use Rattle.std.proofs.Common.{codes, refl, sym, ap, subst, ◌∙◌, arith, append_assoc, append-nil}
 use Rattle.std.proofs.Math.Dec.{leb}
 use Rattle.std.specs.List.{flat_map, list_all}
 use Rattle.std.proofs.lemmas.Bool.{and_parts, leb-true}
@@ -43,72 +20,20 @@ use Rattle.jade_syntax.specs.declared.tree.Statement.{Statement, map-Statement, 
 use Rattle.jade_syntax.specs.declared.tree.Statement.TheOpen.{Statement-F}
 use Rattle.jade_syntax.specs.declared.tree.Program.{Program}
 use Rattle.jade_syntax.specs.Names.{is_name}
-use Rattle.jade_syntax.specs.Shapes.{
-  expr_extent,
-  ◌⊕◌,
-  signs,
-  all_of,
-  in_brackets,
-  name_extent,
-  limited,
-  outermost,
-  outer_index,
-  target_extent,
-  object_extent,
-  names_extent,
-  braced as braced_extent,
-  at_statement as e_statement,
-  statement_extent,
-  item_extent,
-  program_extent,
-  is_placed,
-  is_within,
-  is_shaped,
-}
-use Rattle.jade_layout.specs.Spelling.{
-  Token,
-  Tokens,
-  kind_word,
-  declare_word,
-  expr_tokens,
-  cell_tokens,
-  object_index,
-  object_tokens,
-  braced,
-  more_names,
-  name_tokens,
-  at_statement,
-  statement_tokens,
-  item_tokens,
-  spelling,
-}
+use Rattle.jade_syntax.specs.Shapes.{expr_extent, ◌⊕◌, signs, all_of, in_brackets, name_extent, limited}
+use Rattle.jade_syntax.specs.Shapes.{outermost, outer_index, target_extent, object_extent, names_extent}
+use Rattle.jade_syntax.specs.Shapes.{braced as braced_extent, at_statement as e_statement, statement_extent}
+use Rattle.jade_syntax.specs.Shapes.{item_extent, program_extent, is_placed, is_within, is_shaped}
+use Rattle.jade_layout.specs.Spelling.{Token, Tokens, kind_word, declare_word, expr_tokens, cell_tokens}
+use Rattle.jade_layout.specs.Spelling.{object_index, object_tokens, braced, more_names, name_tokens}
+use Rattle.jade_layout.specs.Spelling.{at_statement, statement_tokens, item_tokens, spelling}
 use Rattle.jade_layout.specs.Readable.{is_readable}
 use Rattle.jade_layout.proofs.Opened.{cell_opens}
 use Rattle.jade_layout.proofs.Goes.{GoesOn, on, wider, nothing, join, join_on, plain, is_plain, mark, round, curly, name_plain}
-use Rattle.jade_layout.proofs.Fine.{
-  Fine,
-  FineOn,
-  fine_on,
-  fine_join,
-  fine_join_on,
-  fine_nothing,
-  fine_regroup,
-  fine_all,
-  IsMark,
-  fine_number,
-  fine_name,
-  fine_bracketed,
-  fine_chain,
-  fine_signs,
-  fine_truth,
-  fine_group,
-  fine_single,
-  fine_member,
-  fine_alone,
-  fine_pair,
-  sum_mark,
-  product_mark,
-}
+use Rattle.jade_layout.proofs.Fine.{Fine, FineOn, fine_on, fine_join, fine_join_on, fine_nothing}
+use Rattle.jade_layout.proofs.Fine.{fine_regroup, fine_all, IsMark, fine_number, fine_name, fine_bracketed}
+use Rattle.jade_layout.proofs.Fine.{fine_chain, fine_signs, fine_truth, fine_group, fine_single, fine_member}
+use Rattle.jade_layout.proofs.Fine.{fine_alone, fine_pair, sum_mark, product_mark}
 use Rattle.jade_layout.proofs.Trees.{expr_holds}
 
 -- a word, before so many signs that are counted with it

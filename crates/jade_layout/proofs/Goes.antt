@@ -1,40 +1,7 @@
 -- Tokens that go on being readable.
-use Rattle.std.proofs.Common.{
-  ◌≡◌,
-  ℕ,
-  zero,
-  suc,
-  ◌+◌,
-  ◌-◌,
-  ◌*◌,
-  ◌/◌,
-  ◌%◌,
-  ◌^◌,
-  ◌<◌,
-  ◌≤◌,
-  Bool,
-  true,
-  false,
-  not,
-  ◌&&◌,
-  ◌||◌,
-  if◌then◌else◌,
-  List,
-  [],
-  ◌∷◌,
-  ◌++◌,
-  length,
-  get_or,
-  codes,
-  refl,
-  sym,
-  ap,
-  ◌∙◌,
-  ⊎_elim,
-  arith,
-  append_assoc,
-  length-append,
-}
+use Rattle.std.proofs.Common.{◌≡◌, ℕ, zero, suc, ◌+◌, ◌-◌, ◌*◌, ◌/◌, ◌%◌, ◌^◌, ◌<◌, ◌≤◌, Bool, true, false}
+use Rattle.std.proofs.Common.{not, ◌&&◌, ◌||◌, if◌then◌else◌, List, [], ◌∷◌, ◌++◌, length, get_or, codes}
+use Rattle.std.proofs.Common.{refl, sym, ap, ◌∙◌, ⊎_elim, arith, append_assoc, length-append}
 use Rattle.std.proofs.Math.Dec.{eqb, leb, ltb}
 use Rattle.std.specs.List.{list_any, list_all, flat_map}
 use Rattle.std.specs.Char.{is_ascii_digit, is_ascii_alphabetic}
@@ -42,22 +9,8 @@ use Rattle.std.specs.Int.{is_in_range}
 use Rattle.std.specs.Fmt.{decimal}
 use Rattle.std.proofs.lemmas.Fmt.{decimal_by_steps, decimal_digit, first_decimal}
 use Rattle.std.proofs.lemmas.List.Folds.{list_all-append}
-use Rattle.std.proofs.lemmas.Bool.{
-  and_from,
-  and_left,
-  and_right,
-  and_parts,
-  or_from,
-  or_cases,
-  eqb-true,
-  leb-true,
-  le-leb,
-  lt-ltb,
-  true≢false,
-  not-true,
-  ne_eqb,
-  false_from_ne_true,
-}
+use Rattle.std.proofs.lemmas.Bool.{and_from, and_left, and_right, and_parts, or_from, or_cases, eqb-true}
+use Rattle.std.proofs.lemmas.Bool.{leb-true, le-leb, lt-ltb, true≢false, not-true, ne_eqb, false_from_ne_true}
 use Rattle.jade_lexer.specs.Alphabet.{is_run, is_symbol, is_number, is_opener, is_closer, value_after}
 use Rattle.jade_alphabet.specs.Letters.{is_letter, is_letter_or_digit, is_word}
 use Rattle.jade_syntax.specs.Names.{is_name, is_reserved}

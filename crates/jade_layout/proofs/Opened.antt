@@ -20,61 +20,21 @@ use Rattle.jade_syntax.specs.declared.tree.Product.{Product, out-Product, fold_o
 use Rattle.jade_syntax.specs.declared.tree.ProductOp.{ProductOp}
 use Rattle.jade_syntax.specs.declared.tree.Statement.{Statement, out-Statement, fold_out-Statement, map-Statement}
 use Rattle.jade_syntax.specs.declared.tree.Statement.TheOpen.{Statement-F}
-use Rattle.jade_syntax.specs.declared.tree.Statement.TheVariants.{
-  Local,
-  Assign,
-  Store,
-  Declare,
-  outs-Local,
-  outs-Assign,
-  outs-Store,
-  outs-Declare,
-  If,
-  For,
-  Withonly,
-  With,
-  outs-If,
-  outs-For,
-  outs-Withonly,
-  outs-With,
-}
+use Rattle.jade_syntax.specs.declared.tree.Statement.TheVariants.{Local, Assign, Store, Declare, outs-Local}
+use Rattle.jade_syntax.specs.declared.tree.Statement.TheVariants.{outs-Assign, outs-Store, outs-Declare, If}
+use Rattle.jade_syntax.specs.declared.tree.Statement.TheVariants.{For, Withonly, With, outs-If, outs-For}
+use Rattle.jade_syntax.specs.declared.tree.Statement.TheVariants.{outs-Withonly, outs-With}
 use Rattle.jade_syntax.specs.declared.tree.Sum.{Sum, out-Sum, fold_out-Sum}
 use Rattle.jade_syntax.specs.declared.tree.SumOp.{SumOp}
 use Rattle.jade_syntax.specs.declared.tree.Unary.{Unary, fold_out-Unary}
 use Rattle.jade_syntax.specs.declared.tree.UnaryOp.{UnaryOp}
 use Rattle.jade_syntax.specs.declared.tree.ValueKind.{ValueKind}
-use Rattle.jade_layout.specs.Spelling.{
-  Tokens,
-  expr_tokens,
-  and_tokens,
-  cell_tokens,
-  sum_tokens,
-  product_tokens,
-  unary_tokens,
-  atom_tokens,
-  compare_tokens,
-  at_atom,
-  at_and,
-  at_cell,
-  at_compare,
-  at_expr,
-  at_product,
-  at_sum,
-  at_unary,
-  bracketed,
-  object_index as index_of,
-  statement_tokens,
-  block_tokens,
-  at_statement,
-  kind_word,
-  declare_word,
-  name_tokens,
-  object_tokens,
-  sum_sign,
-  product_sign,
-  unary_sign,
-  relation_sign,
-}
+use Rattle.jade_layout.specs.Spelling.{Tokens, expr_tokens, and_tokens, cell_tokens, sum_tokens}
+use Rattle.jade_layout.specs.Spelling.{product_tokens, unary_tokens, atom_tokens, compare_tokens, at_atom}
+use Rattle.jade_layout.specs.Spelling.{at_and, at_cell, at_compare, at_expr, at_product, at_sum, at_unary}
+use Rattle.jade_layout.specs.Spelling.{bracketed, object_index as index_of, statement_tokens, block_tokens}
+use Rattle.jade_layout.specs.Spelling.{at_statement, kind_word, declare_word, name_tokens, object_tokens}
+use Rattle.jade_layout.specs.Spelling.{sum_sign, product_sign, unary_sign, relation_sign}
 
 abbrev pub or_part : Pos × AndExpr → Tokens
 or_part p = codes "||" ∷ and_tokens p.1

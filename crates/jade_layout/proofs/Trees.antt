@@ -19,58 +19,17 @@ use Rattle.jade_syntax.specs.declared.tree.Sum.{Sum, fold-roll-Sum}
 use Rattle.jade_syntax.specs.declared.tree.Number.{Number}
 use Rattle.jade_syntax.specs.declared.tree.UnaryOp.{UnaryOp}
 use Rattle.jade_syntax.specs.declared.tree.Unary.{Unary, fold_out-Unary}
-use Rattle.jade_syntax.specs.Shapes.{
-  ◌⊕◌,
-  nothing,
-  signs,
-  all_of,
-  in_brackets,
-  name_extent,
-  number_extent,
-  atom_extent,
-  and_extent,
-  cell_extent,
-  compare_extent,
-  expr_extent,
-  product_extent,
-  sum_extent,
-  unary_extent,
-  at_atom as e_atom,
-  at_and as e_and,
-  at_cell as e_cell,
-  at_compare as e_compare,
-  at_expr as e_expr,
-  at_product as e_product,
-  at_sum as e_sum,
-  at_unary as e_unary,
-}
-use Rattle.jade_layout.specs.Spelling.{
-  Token,
-  Tokens,
-  relation_sign,
-  unary_sign,
-  number_token,
-  truth_word,
-  bracketed,
-  atom_tokens,
-  and_tokens,
-  cell_tokens,
-  compare_tokens,
-  expr_tokens,
-  product_tokens,
-  sum_tokens,
-  unary_tokens,
-  at_atom,
-  at_and,
-  at_cell,
-  at_compare,
-  at_expr,
-  at_product,
-  at_sum,
-  at_unary,
-  sum_sign,
-  product_sign,
-}
+use Rattle.jade_syntax.specs.Shapes.{◌⊕◌, nothing, signs, all_of, in_brackets, name_extent, number_extent}
+use Rattle.jade_syntax.specs.Shapes.{atom_extent, and_extent, cell_extent, compare_extent, expr_extent}
+use Rattle.jade_syntax.specs.Shapes.{product_extent, sum_extent, unary_extent, at_atom as e_atom}
+use Rattle.jade_syntax.specs.Shapes.{at_and as e_and, at_cell as e_cell, at_compare as e_compare}
+use Rattle.jade_syntax.specs.Shapes.{at_expr as e_expr, at_product as e_product, at_sum as e_sum}
+use Rattle.jade_syntax.specs.Shapes.{at_unary as e_unary}
+use Rattle.jade_layout.specs.Spelling.{Token, Tokens, relation_sign, unary_sign, number_token, truth_word}
+use Rattle.jade_layout.specs.Spelling.{bracketed, atom_tokens, and_tokens, cell_tokens, compare_tokens}
+use Rattle.jade_layout.specs.Spelling.{expr_tokens, product_tokens, sum_tokens, unary_tokens, at_atom, at_and}
+use Rattle.jade_layout.specs.Spelling.{at_cell, at_compare, at_expr, at_product, at_sum, at_unary, sum_sign}
+use Rattle.jade_layout.specs.Spelling.{product_sign}
 use Rattle.jade_layout.proofs.Opened.{unary_opens}
 
 unary_measured : (e : Unary) → unary_extent e ≡ signs (length e.signs) ⊕ atom_extent e.atom

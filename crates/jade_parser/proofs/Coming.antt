@@ -1,7 +1,7 @@
 -- Reading one piece of a statement after another, up to the first that is refused.
 use Rattle.std.proofs.Common.{◌≡◌, ℕ, ◌≤◌, Bool, true, false, List, [], ◌∷◌, ◌++◌, Some, refl, ap, length, drop, codes, arith}
 use Rattle.jade_base.specs.declared.place.Pos.{Pos}
-use Rattle.jade_parser.specs.Spelled.{Token, Tokens, Fixed, Called, Counted, Odd, Parts, AllValid, fixed, marked, outer, expr_parts}
+use Rattle.jade_parser.specs.Spelled.{Token, Tokens, Fixed, Called, Counted, Unknown, Parts, AllValid, fixed, marked, outer, expr_parts}
 use Rattle.jade_parser.specs.steps.Machine.{Stack, goes, is_sign, same_sign}
 use Rattle.jade_parser.specs.declared.Sign.{Sign}
 use Rattle.jade_parser.specs.declared.Seen.{Seen}
@@ -82,7 +82,7 @@ pub not_sign : (w : Sign) (t : Token) (ts : Tokens) → (Some w ≡ head_sign (t
 not_sign w (Fixed s) ts n = not_true (same_sign w s) (λ h. n (ap Some (same_is w s h)))
 not_sign w (Called m) ts n = refl
 not_sign w (Counted v) ts n = refl
-not_sign w Odd ts n = refl
+not_sign w Unknown ts n = refl
 
 -- ---- a shortest expression
 

@@ -1,28 +1,6 @@
 -- Blocks, and the statements that hold blocks.
-use Rattle.std.proofs.Common.{
-  ◌≡◌,
-  ℕ,
-  ◌+◌,
-  ◌≤◌,
-  Bool,
-  true,
-  ◌&&◌,
-  List,
-  [],
-  ◌∷◌,
-  ◌++◌,
-  Some,
-  None,
-  refl,
-  ap,
-  sym,
-  ◌∙◌,
-  length,
-  drop,
-  arith,
-  append_assoc,
-  append-nil,
-}
+use Rattle.std.proofs.Common.{◌≡◌, ℕ, ◌+◌, ◌≤◌, Bool, true, ◌&&◌, List, [], ◌∷◌, ◌++◌, Some, None, refl, ap}
+use Rattle.std.proofs.Common.{sym, ◌∙◌, length, drop, arith, append_assoc, append-nil}
 use Rattle.std.specs.List.{flat_map, list_all}
 use Rattle.std.proofs.lemmas.List.Folds.{flat_map-map, list_all-append}
 use Rattle.std.proofs.lemmas.List.Concat.{flat_map-append}
@@ -36,22 +14,9 @@ use Rattle.jade_syntax.specs.declared.shapes.place.BlockKind.TheVariants.{Main, 
 use Rattle.jade_syntax.specs.Shapes.{is_placed}
 use Rattle.jade_syntax.proofs.Placing.{placed_opens}
 use Rattle.jade_parser.specs.declared.Sign.{Sign}
-use Rattle.jade_parser.specs.declared.Sign.TheVariants.{
-  LeftBrace,
-  RightBrace,
-  LeftParen,
-  RightParen,
-  IfWord,
-  ElseWord,
-  ForWord,
-  InWord,
-  DotDot,
-  WithonlyWord,
-  DoWord,
-  WithWord,
-  ContWord,
-  Semicolon,
-}
+use Rattle.jade_parser.specs.declared.Sign.TheVariants.{LeftBrace, RightBrace, LeftParen, RightParen, IfWord}
+use Rattle.jade_parser.specs.declared.Sign.TheVariants.{ElseWord, ForWord, InWord, DotDot, WithonlyWord}
+use Rattle.jade_parser.specs.declared.Sign.TheVariants.{DoWord, WithWord, ContWord, Semicolon}
 use Rattle.jade_parser.specs.declared.Seen.{Seen}
 use Rattle.jade_parser.specs.declared.Stop.{Stop}
 use Rattle.jade_parser.specs.declared.begins.Begin.{Begin}
@@ -69,20 +34,8 @@ use Rattle.jade_parser.proofs.Steps.{some_expr}
 use Rattle.jade_parser.proofs.Reading.{whole_none, none_valid, all_valid}
 use Rattle.jade_parser.proofs.Standing.{takes_sign, takes_marked, split_sign}
 use Rattle.jade_parser.proofs.Going.{stop_here, none_short}
-use Rattle.jade_parser.proofs.Coming.{
-  came_none,
-  came_on,
-  came_under,
-  came_past,
-  came_fixed,
-  came_marked,
-  after,
-  other,
-  not_sign,
-  nowhere,
-  some_name,
-  some_valid,
-}
+use Rattle.jade_parser.proofs.Coming.{came_none, came_on, came_under, came_past, came_fixed, came_marked}
+use Rattle.jade_parser.proofs.Coming.{after, other, not_sign, nowhere, some_name, some_valid}
 use Rattle.jade_parser.proofs.Simply.{given_valid, read_in, assign_is, assign_fits}
 use Rattle.jade_parser.proofs.Beginning.{told}
 

@@ -10,7 +10,7 @@ use Rattle.jade_parser.specs.declared.Sign.{Sign}
 use Rattle.jade_parser.specs.declared.Sign.TheVariants.{InputWord, ObjectWord, ObjectsWord, MainWord, LeftBracket, RightBracket, Colon, Semicolon}
 use Rattle.jade_parser.specs.declared.Seen.{Seen}
 use Rattle.jade_parser.specs.declared.Stop.{Stop}
-use Rattle.jade_parser.specs.Spelled.{Tokens, Fixed, Called, Counted, Odd, Part, Parts, fixed, marked, number_part, AllValid, AllShort}
+use Rattle.jade_parser.specs.Spelled.{Tokens, Fixed, Called, Counted, Unknown, Part, Parts, fixed, marked, number_part, AllValid, AllShort}
 use Rattle.jade_parser.specs.steps.Machine.{Stack, Must, NameIs, NumberIs, Items, goes}
 use Rattle.jade_parser.specs.steps.Reads.{kinds, head_sign, place_at, Whole, Stops, OnStop, OnOther}
 use Rattle.jade_parser.specs.steps.Parts.{Any, ReadIn, RefusalIn, LongIn}
@@ -37,7 +37,7 @@ no_item [] e st = refl
 no_item (Fixed s ∷ ts) e st = absurd (cc)
 no_item (Called n ∷ ts) e st = refl
 no_item (Counted v ∷ ts) e st = refl
-no_item (Odd ∷ ts) e st = refl
+no_item (Unknown ∷ ts) e st = refl
 
 pub nothing_opens : (all : List Seen) (at : ℕ) → None ≡ head_sign (drop at (kinds all)) → Stops all at (Items ∷ []) at
 nothing_opens all at e = record { by = λ st. let z = no_item (drop at (kinds all)) e st in omega (arith, z) }

@@ -1,39 +1,7 @@
 -- What bytes say of a token, there and back.
-use Rattle.std.proofs.Common.{
-  ◌≡◌,
-  ℕ,
-  ◌<◌,
-  ◌≤◌,
-  zero,
-  suc,
-  ◌^◌,
-  Bool,
-  true,
-  false,
-  ◌&&◌,
-  ◌||◌,
-  not,
-  nat_le,
-  if◌then◌else◌,
-  List,
-  [],
-  ◌∷◌,
-  ◌++◌,
-  Option,
-  Some,
-  None,
-  length,
-  map,
-  codes,
-  get_or,
-  refl,
-  sym,
-  ap,
-  ◌∙◌,
-  arith,
-  rules,
-  ℤ,
-}
+use Rattle.std.proofs.Common.{◌≡◌, ℕ, ◌<◌, ◌≤◌, zero, suc, ◌^◌, Bool, true, false, ◌&&◌, ◌||◌, not, nat_le}
+use Rattle.std.proofs.Common.{if◌then◌else◌, List, [], ◌∷◌, ◌++◌, Option, Some, None, length, map, codes}
+use Rattle.std.proofs.Common.{get_or, refl, sym, ap, ◌∙◌, arith, rules, ℤ}
 use Rattle.std.specs.List.{list_any, list_all}
 use Rattle.std.specs.Char.{is_ascii_digit}
 use Rattle.std.specs.Fmt.{decimal}
@@ -47,83 +15,23 @@ use Rattle.jade_syntax.specs.Numbering.{same_name}
 use Rattle.jade_syntax.specs.Names.{is_name, is_reserved, item_words, statement_words, declare_words}
 use Rattle.jade_alphabet.specs.Letters.{is_letter, is_word}
 use Rattle.jade_parser.specs.declared.Sign.{Sign}
-use Rattle.jade_parser.specs.declared.Sign.TheVariants.{
-  InputWord,
-  ObjectWord,
-  ObjectsWord,
-  MainWord,
-  IntWord,
-  BoolWord,
-  TrueWord,
-  FalseWord,
-  IfWord,
-  ElseWord,
-  ForWord,
-  InWord,
-  WithonlyWord,
-  DoWord,
-  WithWord,
-  ContWord,
-  RdWord,
-  WrWord,
-  RdWrWord,
-  DfRdWord,
-  DfWrWord,
-  DfRdWrWord,
-  NoRdWord,
-  NoWrWord,
-  NoRdWrWord,
-  LeftParen,
-  RightParen,
-  LeftBracket,
-  RightBracket,
-  LeftBrace,
-  RightBrace,
-  Semicolon,
-  Colon,
-  Comma,
-  DotDot,
-  Becomes,
-  EqualSign,
-  UnequalSign,
-  LessSign,
-  LessEqualSign,
-  GreaterSign,
-  GreaterEqualSign,
-  PlusSign,
-  MinusSign,
-  TimesSign,
-  OverSign,
-  PercentSign,
-  NotSign,
-  OrSign,
-  AndSign,
-}
-use Rattle.jade_parser.specs.Spelled.{Token, Fixed, Called, Counted, Odd, is_valid}
-use Rattle.jade_parser.specs.Kinds.{
-  sign_bytes,
-  token_bytes,
-  sign_among,
-  first_of,
-  sign_in,
-  all_signs,
-  item_signs,
-  statement_signs,
-  access_signs,
-  change_signs,
-  bracket_signs,
-  mark_signs,
-  relation_signs,
-  operator_signs,
-  is_kept,
-  is_free,
-  is_small_run,
-  has_needless_zero,
-  is_counted,
-  plain_token,
-  sign_or,
-  token_of_bytes,
-}
+use Rattle.jade_parser.specs.declared.Sign.TheVariants.{InputWord, ObjectWord, ObjectsWord, MainWord, IntWord}
+use Rattle.jade_parser.specs.declared.Sign.TheVariants.{BoolWord, TrueWord, FalseWord, IfWord, ElseWord}
+use Rattle.jade_parser.specs.declared.Sign.TheVariants.{ForWord, InWord, WithonlyWord, DoWord, WithWord}
+use Rattle.jade_parser.specs.declared.Sign.TheVariants.{ContWord, RdWord, WrWord, RdWrWord, DfRdWord}
+use Rattle.jade_parser.specs.declared.Sign.TheVariants.{DfWrWord, DfRdWrWord, NoRdWord, NoWrWord, NoRdWrWord}
+use Rattle.jade_parser.specs.declared.Sign.TheVariants.{LeftParen, RightParen, LeftBracket, RightBracket}
+use Rattle.jade_parser.specs.declared.Sign.TheVariants.{LeftBrace, RightBrace, Semicolon, Colon, Comma}
+use Rattle.jade_parser.specs.declared.Sign.TheVariants.{DotDot, Becomes, EqualSign, UnequalSign, LessSign}
+use Rattle.jade_parser.specs.declared.Sign.TheVariants.{LessEqualSign, GreaterSign, GreaterEqualSign}
+use Rattle.jade_parser.specs.declared.Sign.TheVariants.{PlusSign, MinusSign, TimesSign, OverSign, PercentSign}
+use Rattle.jade_parser.specs.declared.Sign.TheVariants.{NotSign, OrSign, AndSign}
+use Rattle.jade_parser.specs.Spelled.{Token, Fixed, Called, Counted, Unknown, is_valid}
+use Rattle.jade_parser.specs.Kinds.{sign_bytes, token_bytes, sign_among, first_of, sign_in, all_signs}
+use Rattle.jade_parser.specs.Kinds.{item_signs, statement_signs, access_signs, change_signs, bracket_signs}
+use Rattle.jade_parser.specs.Kinds.{mark_signs, relation_signs, operator_signs, is_kept, is_free}
+use Rattle.jade_parser.specs.Kinds.{is_small_run, has_needless_zero, is_counted, plain_token, sign_or}
+use Rattle.jade_parser.specs.Kinds.{token_of_bytes}
 use Rattle.jade_parser.proofs.Digits.{run_is}
 
 bytes_like : IsBytesEq same_name
@@ -264,7 +172,7 @@ is_the_decimal x h =
 
 -- what a token is, its bytes being these
 abbrev pub Known : List ℕ → Token → Type 0
-Known x Odd = Unit {0}
+Known x Unknown = Unit {0}
 Known x (Fixed s) = (is_valid (Fixed s) ≡ true) × (token_bytes (Fixed s) ≡ x)
 Known x (Called n) = (is_valid (Called n) ≡ true) × (token_bytes (Called n) ≡ x)
 Known x (Counted v) = (is_valid (Counted v) ≡ true) × (token_bytes (Counted v) ≡ x)
@@ -349,18 +257,18 @@ free_name x e h = named (nat_le (length x) 64) (is_word x) (is_kept x) (is_reser
 plain_known : (x : List ℕ) → sign_in all_signs x ≡ None → Known x (plain_token x)
 plain_known x e = by_free (is_free x) refl
   where
-    number_known : (b : Bool) → is_counted x ≡ b → Known x (if b then Counted (ℤ.pos (value_after 0 x)) else Odd)
+    number_known : (b : Bool) → is_counted x ≡ b → Known x (if b then Counted (ℤ.pos (value_after 0 x)) else Unknown)
     number_known true h =
         let p = both_true (is_small_run x) (not (has_needless_zero x)) h in
         let q = both_true (is_run x) (nat_le (value_after 0 x) 9223372036854775807) p.0 in
         (q.1, is_the_decimal x h)
     number_known false h = tt
 
-    by_free : (b : Bool) → is_free x ≡ b → Known x (if b then Called x else (if is_counted x then Counted (ℤ.pos (value_after 0 x)) else Odd))
+    by_free : (b : Bool) → is_free x ≡ b → Known x (if b then Called x else (if is_counted x then Counted (ℤ.pos (value_after 0 x)) else Unknown))
     by_free true h = (free_name x e h, refl)
     by_free false h = number_known (is_counted x) refl
 
--- what is not odd is a token that a program may have, and has these bytes
+-- what is not unknown is a token that a program may have, and has these bytes
 pub known : (x : List ℕ) → Known x (token_of_bytes x)
 known x = here (sign_in all_signs x) refl
   where
@@ -426,4 +334,4 @@ back (Fixed s) h = sign_back s
 back (Called n) h = called_back n h
 back (Counted (ℤ.pos n)) h = number_back n h
 back (Counted (ℤ.negsuc n)) h = absurd (cc)
-back Odd h = absurd (cc)
+back Unknown h = absurd (cc)

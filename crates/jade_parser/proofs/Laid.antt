@@ -1,29 +1,6 @@
 -- Each kind of statement runs.
-use Rattle.std.proofs.Common.{
-  ◌≡◌,
-  ℕ,
-  suc,
-  ◌+◌,
-  Bool,
-  true,
-  false,
-  ◌&&◌,
-  List,
-  [],
-  ◌∷◌,
-  ◌++◌,
-  Option,
-  Some,
-  None,
-  refl,
-  ap,
-  length,
-  map,
-  arith,
-  append_assoc,
-  append-nil,
-  length-append,
-}
+use Rattle.std.proofs.Common.{◌≡◌, ℕ, suc, ◌+◌, Bool, true, false, ◌&&◌, List, [], ◌∷◌, ◌++◌, Option, Some}
+use Rattle.std.proofs.Common.{None, refl, ap, length, map, arith, append_assoc, append-nil, length-append}
 use Rattle.std.proofs.lemmas.List.{map-append}
 use Rattle.jade_base.specs.declared.place.Pos.{Pos}
 use Rattle.jade_syntax.specs.declared.tree.Expr.{Expr}
@@ -41,18 +18,8 @@ use Rattle.jade_parser.specs.steps.Machine.{Must, Body, Else, Second, NameIs, Na
 use Rattle.jade_syntax.specs.declared.shapes.place.BlockKind.{BlockKind}
 use Rattle.jade_syntax.specs.declared.shapes.place.BlockKind.TheVariants.{Main, Section, Amends}
 use Rattle.jade_syntax.specs.Shapes.{all_placed, other_placed, at_place, is_main, declares, is_placed}
-use Rattle.jade_parser.specs.declared.Sign.TheVariants.{
-  LeftBrace,
-  ElseWord,
-  Semicolon,
-  Becomes,
-  DotDot,
-  RightBracket,
-  LeftParen,
-  RightParen,
-  DoWord,
-  ContWord,
-}
+use Rattle.jade_parser.specs.declared.Sign.TheVariants.{LeftBrace, ElseWord, Semicolon, Becomes, DotDot}
+use Rattle.jade_parser.specs.declared.Sign.TheVariants.{RightBracket, LeftParen, RightParen, DoWord, ContWord}
 use Rattle.jade_parser.specs.Statements.{braced, else_parts, at_statement, statement_parts, outer_index, name_parts, more_names, declare_word}
 use Rattle.jade_parser.proofs.Running.{Runs}
 use Rattle.jade_parser.proofs.Trees.{expr_runs}

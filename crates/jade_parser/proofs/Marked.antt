@@ -21,37 +21,11 @@ use Rattle.jade_syntax.specs.declared.tree.Product.{Product, fold-roll-Product}
 use Rattle.jade_syntax.specs.declared.tree.Sum.{Sum, fold-roll-Sum}
 use Rattle.jade_syntax.specs.declared.tree.Unary.{Unary}
 use Rattle.jade_parser.specs.declared.Sign.TheVariants.{OrSign, AndSign, LeftParen, RightParen, LeftBracket, RightBracket}
-use Rattle.jade_parser.specs.Spelled.{
-  Part,
-  Parts,
-  marked,
-  fixed,
-  Fixed,
-  Called,
-  number_part,
-  bracketed,
-  relation_sign,
-  sum_sign,
-  product_sign,
-  unary_sign,
-  truth_word,
-  expr_parts,
-  and_parts,
-  compare_parts,
-  sum_parts,
-  product_parts,
-  unary_parts,
-  atom_parts,
-  cell_parts,
-  at_atom,
-  at_and,
-  at_cell,
-  at_compare,
-  at_expr,
-  at_product,
-  at_sum,
-  at_unary,
-}
+use Rattle.jade_parser.specs.Spelled.{Part, Parts, marked, fixed, Fixed, Called, number_part, bracketed}
+use Rattle.jade_parser.specs.Spelled.{relation_sign, sum_sign, product_sign, unary_sign, truth_word}
+use Rattle.jade_parser.specs.Spelled.{expr_parts, and_parts, compare_parts, sum_parts, product_parts}
+use Rattle.jade_parser.specs.Spelled.{unary_parts, atom_parts, cell_parts, at_atom, at_and, at_cell}
+use Rattle.jade_parser.specs.Spelled.{at_compare, at_expr, at_product, at_sum, at_unary}
 use Rattle.jade_parser.proofs.Spelling.{unary_opens}
 use Rattle.jade_parser.proofs.Marking.{Inner, Quiet, role, opens, indexes, inner_none, inner_on, inner_all, inner_quiet, inner_bracketed}
 

@@ -12,41 +12,14 @@ use Rattle.jade_syntax.specs.declared.tree.DeclareWord.{DeclareWord}
 use Rattle.jade_syntax.specs.declared.tree.DeclareWord.TheVariants.{Rd, Wr, RdWr, DfRd, DfWr, DfRdWr, NoRd, NoWr, NoRdWr}
 use Rattle.jade_syntax.specs.declared.tree.Statement.{Statement, map-Statement, fold-roll-Statement, ind-Statement}
 use Rattle.jade_syntax.specs.declared.tree.Statement.TheOpen.{Statement-F}
-use Rattle.jade_parser.specs.declared.Sign.TheVariants.{
-  LeftBracket,
-  RightBracket,
-  LeftParen,
-  RightParen,
-  LeftBrace,
-  RightBrace,
-  Becomes,
-  Semicolon,
-  Comma,
-  DotDot,
-  IfWord,
-  ElseWord,
-  ForWord,
-  InWord,
-  WithonlyWord,
-  WithWord,
-  DoWord,
-  ContWord,
-  MainWord,
-}
+use Rattle.jade_parser.specs.declared.Sign.TheVariants.{LeftBracket, RightBracket, LeftParen, RightParen}
+use Rattle.jade_parser.specs.declared.Sign.TheVariants.{LeftBrace, RightBrace, Becomes, Semicolon, Comma}
+use Rattle.jade_parser.specs.declared.Sign.TheVariants.{DotDot, IfWord, ElseWord, ForWord, InWord}
+use Rattle.jade_parser.specs.declared.Sign.TheVariants.{WithonlyWord, WithWord, DoWord, ContWord, MainWord}
 use Rattle.jade_parser.specs.Spelled.{Parts, Fixed, Called, plain, fixed, marked, bracketed, outer, expr_parts}
-use Rattle.jade_parser.specs.Statements.{
-  kind_word,
-  declare_word,
-  outer_index,
-  object_parts,
-  target_parts,
-  braced,
-  name_parts,
-  else_parts,
-  at_statement,
-  statement_parts,
-  block_parts,
-}
+use Rattle.jade_parser.specs.Statements.{kind_word, declare_word, outer_index, object_parts, target_parts}
+use Rattle.jade_parser.specs.Statements.{braced, name_parts, else_parts, at_statement, statement_parts}
+use Rattle.jade_parser.specs.Statements.{block_parts}
 use Rattle.jade_syntax.specs.declared.tree.Item.{Item}
 use Rattle.jade_syntax.specs.declared.tree.Item.TheVariants.{Input, Single, Family}
 use Rattle.jade_syntax.specs.declared.tree.Program.{Program}

@@ -3,20 +3,10 @@ use Rattle.std.proofs.Common.{◌≡◌, ℕ, zero, suc, ◌+◌, List, [], ◌�
 use Rattle.std.specs.List.{flat_map}
 use Rattle.std.proofs.lemmas.List.{map-append}
 use Rattle.jade_parser.specs.declared.Sign.{Sign}
-use Rattle.jade_parser.specs.declared.Sign.TheVariants.{
-  LeftParen,
-  RightParen,
-  LeftBracket,
-  RightBracket,
-  Semicolon,
-  LeftBrace,
-  DotDot,
-  Becomes,
-  IfWord,
-  InWord,
-  MainWord,
-}
-use Rattle.jade_parser.specs.Spelled.{Token, Tokens, Fixed, Called, Counted, Odd, Part, Parts, tokens_of, numbered}
+use Rattle.jade_parser.specs.declared.Sign.TheVariants.{LeftParen, RightParen, LeftBracket, RightBracket}
+use Rattle.jade_parser.specs.declared.Sign.TheVariants.{Semicolon, LeftBrace, DotDot, Becomes, IfWord, InWord}
+use Rattle.jade_parser.specs.declared.Sign.TheVariants.{MainWord}
+use Rattle.jade_parser.specs.Spelled.{Token, Tokens, Fixed, Called, Counted, Unknown, Part, Parts, tokens_of, numbered}
 
 -- where a reader of tokens stands: before `main`, outside all expressions, or in an outermost one with so many brackets open and tokens counted
 pub data Standing : Type 0 where
@@ -53,7 +43,7 @@ abbrev pub role : Token → Role
 role (Fixed s) = sign_role s
 role (Called n) = Quiet
 role (Counted v) = Quiet
-role Odd = Quiet
+role Unknown = Quiet
 
 abbrev pub after_before : Role → Standing
 after_before Starts = Outside

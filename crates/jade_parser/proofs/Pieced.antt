@@ -1,34 +1,12 @@
 -- The steps of the parsers of pieces.
-use Rattle.std.proofs.Common.{
-  ◌≡◌,
-  ℕ,
-  ◌+◌,
-  ◌<◌,
-  ◌≤◌,
-  List,
-  [],
-  ◌∷◌,
-  ◌++◌,
-  Option,
-  Some,
-  None,
-  refl,
-  ap,
-  sym,
-  ◌∙◌,
-  length,
-  drop,
-  arith,
-  append_assoc,
-  append-nil,
-  length-append,
-}
+use Rattle.std.proofs.Common.{◌≡◌, ℕ, ◌+◌, ◌<◌, ◌≤◌, List, [], ◌∷◌, ◌++◌, Option, Some, None, refl, ap, sym}
+use Rattle.std.proofs.Common.{◌∙◌, length, drop, arith, append_assoc, append-nil, length-append}
 use Rattle.std.proofs.lemmas.List.Concat.{flat_map-append}
 use Rattle.jade_base.specs.declared.place.Pos.{Pos}
 use Rattle.jade_syntax.specs.declared.tree.Expr.{Expr}
 use Rattle.jade_syntax.specs.declared.tree.Named.{Named}
 use Rattle.jade_syntax.specs.declared.tree.ObjectRef.{ObjectRef}
-use Rattle.jade_parser.specs.Spelled.{Tokens, Fixed, Called, Counted, Odd, Part, Parts, fixed, marked, outer}
+use Rattle.jade_parser.specs.Spelled.{Tokens, Fixed, Called, Counted, Unknown, Part, Parts, fixed, marked, outer}
 use Rattle.jade_parser.specs.steps.Machine.{Stack, goes, Must, NameIs, Names, MoreNames, Second, expr_in}
 use Rattle.jade_parser.specs.Statements.{object_parts, name_parts}
 use Rattle.jade_parser.specs.declared.Sign.{Sign}
@@ -40,21 +18,8 @@ use Rattle.jade_parser.specs.steps.Parts.{Any, RefusalIn, LongIn, OuterIn}
 use Rattle.jade_parser.specs.steps.Forms.{Came, NoHead, ended, indexes, declared, named_list}
 use Rattle.jade_parser.proofs.Standing.{takes_sign}
 use Rattle.jade_parser.proofs.Going.{stop_here}
-use Rattle.jade_parser.proofs.Coming.{
-  any,
-  came_none,
-  came_on,
-  came_under,
-  came_past,
-  came_fixed,
-  came_marked,
-  after,
-  other,
-  other_as,
-  not_sign,
-  nowhere,
-  some_name,
-}
+use Rattle.jade_parser.proofs.Coming.{any, came_none, came_on, came_under, came_past, came_fixed, came_marked}
+use Rattle.jade_parser.proofs.Coming.{after, other, other_as, not_sign, nowhere, some_name}
 
 -- ---- an expression and the sign that ends it
 
@@ -230,7 +195,7 @@ no_first [] st n e = refl
 no_first (Fixed s ∷ ts) st n e = rw (not_sign RightParen (Fixed s) ts n) refl
 no_first (Called m ∷ ts) st n e = absurd (omega arith)
 no_first (Counted v ∷ ts) st n e = refl
-no_first (Odd ∷ ts) st n e = refl
+no_first (Unknown ∷ ts) st n e = refl
 
 pub names_refused : (all : List Seen) (start : ℕ) (e : Stop) → start ≤ length all → NoHead RightParen all start → OnOther e all start (NameIs ∷ [])
     → OnStop e (RefusalIn Any named_list all start (Names ∷ [])) (LongIn Any named_list all start)

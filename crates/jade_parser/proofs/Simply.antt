@@ -1,31 +1,6 @@
 -- The steps of the parsers of statements that hold no others.
-use Rattle.std.proofs.Common.{
-  ◌≡◌,
-  ℕ,
-  ◌+◌,
-  ◌<◌,
-  ◌≤◌,
-  Bool,
-  true,
-  false,
-  ◌&&◌,
-  List,
-  [],
-  ◌∷◌,
-  ◌++◌,
-  Option,
-  Some,
-  None,
-  refl,
-  ap,
-  sym,
-  ◌∙◌,
-  length,
-  drop,
-  arith,
-  append_assoc,
-  append-nil,
-}
+use Rattle.std.proofs.Common.{◌≡◌, ℕ, ◌+◌, ◌<◌, ◌≤◌, Bool, true, false, ◌&&◌, List, [], ◌∷◌, ◌++◌, Option}
+use Rattle.std.proofs.Common.{Some, None, refl, ap, sym, ◌∙◌, length, drop, arith, append_assoc, append-nil}
 use Rattle.jade_base.specs.declared.place.Pos.{Pos}
 use Rattle.jade_syntax.specs.declared.tree.Expr.{Expr}
 use Rattle.jade_syntax.specs.declared.tree.CellRef.{CellRef, roll-CellRef, out-roll-CellRef}
@@ -36,7 +11,7 @@ use Rattle.jade_syntax.specs.declared.tree.Statement.{fold_out-Statement}
 use Rattle.jade_syntax.specs.declared.tree.Statement.TheVariants.{Local, Assign, Store, Declare, outs-Local, outs-Assign, outs-Store, outs-Declare}
 use Rattle.jade_syntax.specs.Shapes.{declares, is_main}
 use Rattle.jade_syntax.proofs.Placing.{placed_opens}
-use Rattle.jade_parser.specs.Spelled.{Token, Tokens, Fixed, Called, Counted, Odd, Part, Parts, AllValid, plain, fixed, marked, outer}
+use Rattle.jade_parser.specs.Spelled.{Token, Tokens, Fixed, Called, Counted, Unknown, Part, Parts, AllValid, plain, fixed, marked, outer}
 use Rattle.jade_parser.specs.steps.Machine.{Stack, goes, Must, NameIs, Named, Body, Second, expr_in, is_sign}
 use Rattle.jade_parser.specs.Statements.{statement_parts, at_statement, kind_word, declare_word, target_parts}
 use Rattle.jade_syntax.specs.declared.shapes.place.BlockKind.{BlockKind}
@@ -51,20 +26,8 @@ use Rattle.jade_parser.proofs.Reading.{all_valid}
 use Rattle.jade_parser.proofs.Standing.{takes_sign}
 use Rattle.jade_parser.proofs.Steps.{some_expr}
 use Rattle.jade_parser.proofs.Going.{stop_here}
-use Rattle.jade_parser.proofs.Coming.{
-  came_none,
-  came_on,
-  came_under,
-  came_fixed,
-  came_marked,
-  after,
-  other,
-  other_as,
-  not_sign,
-  nowhere,
-  some_name,
-  some_valid,
-}
+use Rattle.jade_parser.proofs.Coming.{came_none, came_on, came_under, came_fixed, came_marked, after, other}
+use Rattle.jade_parser.proofs.Coming.{other_as, not_sign, nowhere, some_name, some_valid}
 
 pub came_plain : {all : List Seen} {a b : ℕ} {xs ys : Stack} {t : Token} → Whole all a xs b ys (plain t ∷ []) → Came all a xs b ys (plain t ∷ [])
 came_plain p = record { whole = p; short = record { is = refl } }
@@ -303,7 +266,7 @@ no_name c [] st h e = refl
 no_name c (Fixed s ∷ ts) st h e = absurd (cc)
 no_name c (Called n ∷ ts) st h e = absurd (omega arith)
 no_name c (Counted v ∷ ts) st h e = refl
-no_name c (Odd ∷ ts) st h e = refl
+no_name c (Unknown ∷ ts) st h e = refl
 
 pub unnamed : (all : List Seen) (start : ℕ) (c : BlockKind) (e : Stop) → start ≤ length all → None ≡ head_sign (drop start (kinds all))
     → OnOther e all start (NameIs ∷ [])

@@ -12,35 +12,10 @@ use Rattle.jade_syntax.specs.declared.tree.Expr.{Expr, out-Expr, fold_out-Expr}
 use Rattle.jade_syntax.specs.declared.tree.Product.{Product, out-Product, fold_out-Product}
 use Rattle.jade_syntax.specs.declared.tree.Sum.{Sum, out-Sum, fold_out-Sum}
 use Rattle.jade_syntax.specs.declared.tree.Unary.{Unary, fold_out-Unary}
-use Rattle.jade_parser.specs.Spelled.{
-  Parts,
-  Called,
-  Fixed,
-  marked,
-  fixed,
-  expr_parts,
-  and_parts,
-  cell_parts,
-  sum_parts,
-  product_parts,
-  unary_parts,
-  atom_parts,
-  compare_parts,
-  or_part,
-  and_part,
-  sum_part,
-  product_part,
-  sign_part,
-  at_atom,
-  at_and,
-  at_cell,
-  at_compare,
-  at_expr,
-  at_product,
-  at_sum,
-  at_unary,
-  bracketed,
-}
+use Rattle.jade_parser.specs.Spelled.{Parts, Called, Fixed, marked, fixed, expr_parts, and_parts, cell_parts}
+use Rattle.jade_parser.specs.Spelled.{sum_parts, product_parts, unary_parts, atom_parts, compare_parts}
+use Rattle.jade_parser.specs.Spelled.{or_part, and_part, sum_part, product_part, sign_part, at_atom, at_and}
+use Rattle.jade_parser.specs.Spelled.{at_cell, at_compare, at_expr, at_product, at_sum, at_unary, bracketed}
 use Rattle.jade_syntax.specs.declared.tree.Atom.{fold_out-Atom}
 use Rattle.jade_syntax.specs.declared.tree.Atom.TheOpen.{Expr-F, AndExpr-F, Sum-F, Product-F}
 use Rattle.jade_syntax.specs.declared.tree.Atom.TheVariants.{Group, outs-Group}

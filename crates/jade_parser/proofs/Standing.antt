@@ -1,37 +1,7 @@
 -- What stands at a place.
-use Rattle.std.proofs.Common.{
-  ◌≡◌,
-  ℕ,
-  zero,
-  suc,
-  ◌+◌,
-  ◌<◌,
-  ◌≤◌,
-  List,
-  [],
-  ◌∷◌,
-  ◌++◌,
-  Option,
-  Some,
-  None,
-  refl,
-  ap,
-  sym,
-  ◌∙◌,
-  drop,
-  get_or,
-  length,
-  arith,
-  add-one,
-  drop-cons,
-  ℤ,
-  MatchOption,
-  Bool,
-  true,
-  false,
-  ◌&&◌,
-  IsTrue,
-}
+use Rattle.std.proofs.Common.{◌≡◌, ℕ, zero, suc, ◌+◌, ◌<◌, ◌≤◌, List, [], ◌∷◌, ◌++◌, Option, Some, None, refl}
+use Rattle.std.proofs.Common.{ap, sym, ◌∙◌, drop, get_or, length, arith, add-one, drop-cons, ℤ, MatchOption}
+use Rattle.std.proofs.Common.{Bool, true, false, ◌&&◌, IsTrue}
 use Rattle.std.specs.List.{list_all}
 use Rattle.std.proofs.lemmas.List.{get_or-map, length-map, drop_all}
 use Rattle.jade_base.specs.declared.place.Pos.{Pos}
@@ -39,69 +9,28 @@ use Rattle.jade_syntax.specs.declared.name.NameError.{NameError}
 use Rattle.jade_syntax.specs.declared.name.NameError.TheVariants.{Shape, Memory as NoMemory}
 use Rattle.jade_syntax.specs.Names.{is_name}
 use Rattle.jade_syntax.specs.Refusals.{IsNameRefusal}
-use Rattle.jade_parser.specs.Spelled.{Token, Tokens, Fixed, Called, Counted, Odd, marked, fixed, sum_sign, product_sign, relation_sign, unary_sign}
+use Rattle.jade_parser.specs.Spelled.{Token, Tokens, Fixed, Called, Counted, Unknown, marked, fixed, sum_sign, product_sign, relation_sign, unary_sign}
 use Rattle.jade_parser.specs.steps.Machine.{Need, Rest, First, Must, Stack, goes, sum_in, product_in, same_sign}
 use Rattle.jade_parser.specs.steps.Reads.{kinds, place_at, is_known, Known, token_of, head_sign, Reads, Passes, Whole, Stops, NoUnary}
 use Rattle.jade_parser.specs.Spelled.{KeptAt}
 use Rattle.jade_parser.specs.steps.Ops.{sum_of, product_of, relation_of, unary_of}
 use Rattle.jade_parser.specs.declared.Seen.{Seen}
 use Rattle.jade_parser.specs.declared.Kind.{Kind}
-use Rattle.jade_parser.specs.declared.Kind.TheVariants.{Fixed as KFixed, Called as KCalled, Counted as KCounted, Odd as KOdd}
+use Rattle.jade_parser.specs.declared.Kind.TheVariants.{Fixed as KFixed, Called as KCalled, Counted as KCounted, Unknown as KUnknown}
 use denote.Enum.Bare.{same_true}
 use Rattle.jade_parser.specs.contracts.Sign.{the_type}
 use Rattle.jade_parser.specs.declared.Sign.{Sign}
-use Rattle.jade_parser.specs.declared.Sign.TheVariants.{
-  TrueWord,
-  FalseWord,
-  LeftParen,
-  RightParen,
-  LeftBracket,
-  RightBracket,
-  OrSign,
-  AndSign,
-  EqualSign,
-  UnequalSign,
-  LessSign,
-  LessEqualSign,
-  GreaterSign,
-  GreaterEqualSign,
-  PlusSign,
-  MinusSign,
-  TimesSign,
-  OverSign,
-  PercentSign,
-  NotSign,
-  Semicolon,
-  Becomes,
-  LeftBrace,
-  RightBrace,
-  IfWord,
-  ElseWord,
-  ForWord,
-  InWord,
-  DotDot,
-  IntWord,
-  BoolWord,
-  WithonlyWord,
-  WithWord,
-  DoWord,
-  ContWord,
-  Comma,
-  RdWord,
-  WrWord,
-  RdWrWord,
-  DfRdWord,
-  DfWrWord,
-  DfRdWrWord,
-  NoRdWord,
-  NoWrWord,
-  NoRdWrWord,
-  InputWord,
-  ObjectWord,
-  ObjectsWord,
-  MainWord,
-  Colon,
-}
+use Rattle.jade_parser.specs.declared.Sign.TheVariants.{TrueWord, FalseWord, LeftParen, RightParen}
+use Rattle.jade_parser.specs.declared.Sign.TheVariants.{LeftBracket, RightBracket, OrSign, AndSign, EqualSign}
+use Rattle.jade_parser.specs.declared.Sign.TheVariants.{UnequalSign, LessSign, LessEqualSign, GreaterSign}
+use Rattle.jade_parser.specs.declared.Sign.TheVariants.{GreaterEqualSign, PlusSign, MinusSign, TimesSign}
+use Rattle.jade_parser.specs.declared.Sign.TheVariants.{OverSign, PercentSign, NotSign, Semicolon, Becomes}
+use Rattle.jade_parser.specs.declared.Sign.TheVariants.{LeftBrace, RightBrace, IfWord, ElseWord, ForWord}
+use Rattle.jade_parser.specs.declared.Sign.TheVariants.{InWord, DotDot, IntWord, BoolWord, WithonlyWord}
+use Rattle.jade_parser.specs.declared.Sign.TheVariants.{WithWord, DoWord, ContWord, Comma, RdWord, WrWord}
+use Rattle.jade_parser.specs.declared.Sign.TheVariants.{RdWrWord, DfRdWord, DfWrWord, DfRdWrWord, NoRdWord}
+use Rattle.jade_parser.specs.declared.Sign.TheVariants.{NoWrWord, NoRdWrWord, InputWord, ObjectWord}
+use Rattle.jade_parser.specs.declared.Sign.TheVariants.{ObjectsWord, MainWord, Colon}
 
 pub here : (xs : List Seen) (at : ℕ) (d : Seen) → at < length xs → drop at (kinds xs) ≡ token_of (get_or xs at d).kind ∷ drop (at + 1) (kinds xs)
 here xs at d lt =
@@ -120,7 +49,7 @@ pub head_counted : (xs : List Seen) (at : ℕ) (d : Seen) (v : ℤ) → at < len
     ≡ head_sign (drop at (kinds xs))
 head_counted xs at d v lt e = rw (here xs at d lt, e) refl
 
-pub head_odd : (xs : List Seen) (at : ℕ) (d : Seen) → at < length xs → (get_or xs at d).kind ≡ KOdd → None ≡ head_sign (drop at (kinds xs))
+pub head_odd : (xs : List Seen) (at : ℕ) (d : Seen) → at < length xs → (get_or xs at d).kind ≡ KUnknown → None ≡ head_sign (drop at (kinds xs))
 head_odd xs at d lt e = rw (here xs at d lt, e) refl
 
 pub pos_here : (xs : List Seen) (at : ℕ) (d : Seen) → at < length xs → (get_or xs at d).pos ≡ place_at xs at
@@ -153,7 +82,7 @@ split [] (suc at) s e = absurd (cc)
 split (Fixed u ∷ ts) zero s e = let k : u ≡ s = cc in (ap (λ x. Fixed x ∷ ts) k, omega arith)
 split (Called n ∷ ts) zero s e = absurd (cc)
 split (Counted v ∷ ts) zero s e = absurd (cc)
-split (Odd ∷ ts) zero s e = absurd (cc)
+split (Unknown ∷ ts) zero s e = absurd (cc)
 split (t ∷ ts) (suc at) s e =
     let r = split ts at s e in
     let w : suc at + 1 ≡ suc (at + 1) = omega arith in
@@ -581,7 +510,8 @@ no_atom ObjectsWord a b c d rest st = refl
 no_atom MainWord a b c d rest st = refl
 no_atom Colon a b c d rest st = refl
 
-pub odd_here : (xs : List Seen) (at : ℕ) (d : Seen) → at < length xs → (get_or xs at d).kind ≡ KOdd → (st : Stack) → goes (drop at (kinds xs)) (Need ∷ st)
+pub odd_here : (xs : List Seen) (at : ℕ) (d : Seen) → at < length xs → (get_or xs at d).kind ≡ KUnknown → (st : Stack)
+    → goes (drop at (kinds xs)) (Need ∷ st)
     ≡ 0
 odd_here xs at d lt e st = rw (here xs at d lt, e) refl
 

@@ -1,33 +1,7 @@
 -- The steps of the parser that are no chains.
-use Rattle.std.proofs.Common.{
-  ◌≡◌,
-  ℕ,
-  ◌+◌,
-  ◌≤◌,
-  List,
-  [],
-  ◌∷◌,
-  ◌++◌,
-  refl,
-  ◌∙◌,
-  length,
-  drop,
-  codes,
-  arith,
-  append_assoc,
-  append-nil,
-  Some,
-  None,
-  Result,
-  Ok,
-  Err,
-  MatchResult,
-  IsErrAnd,
-  Global,
-  Bool,
-  true,
-  false,
-}
+use Rattle.std.proofs.Common.{◌≡◌, ℕ, ◌+◌, ◌≤◌, List, [], ◌∷◌, ◌++◌, refl, ◌∙◌, length, drop, codes, arith}
+use Rattle.std.proofs.Common.{append_assoc, append-nil, Some, None, Result, Ok, Err, MatchResult, IsErrAnd}
+use Rattle.std.proofs.Common.{Global, Bool, true, false}
 use denote.RawPtr.{null_ptr}
 use Rattle.std.specs.List.{flat_map}
 use Rattle.std.specs.declared.boxed.Box.{Box}
@@ -43,33 +17,10 @@ use Rattle.jade_syntax.specs.declared.tree.Expr.{Expr, roll-Expr}
 use Rattle.jade_syntax.specs.declared.tree.Product.{roll-Product}
 use Rattle.jade_syntax.specs.declared.tree.Sum.{Sum, roll-Sum}
 use Rattle.jade_syntax.specs.declared.tree.Number.{Number}
-use Rattle.jade_parser.specs.Spelled.{
-  Fixed,
-  Called,
-  Counted,
-  Parts,
-  marked,
-  fixed,
-  AllValid,
-  expr_parts,
-  compare_parts,
-  sum_parts,
-  unary_parts,
-  atom_parts,
-  cell_parts,
-  relation_sign,
-  truth_word,
-  sign_part,
-  bracketed,
-  at_atom,
-  at_and,
-  at_cell,
-  at_compare,
-  at_expr,
-  at_product,
-  at_sum,
-  at_unary,
-}
+use Rattle.jade_parser.specs.Spelled.{Fixed, Called, Counted, Parts, marked, fixed, AllValid, expr_parts}
+use Rattle.jade_parser.specs.Spelled.{compare_parts, sum_parts, unary_parts, atom_parts, cell_parts}
+use Rattle.jade_parser.specs.Spelled.{relation_sign, truth_word, sign_part, bracketed, at_atom, at_and}
+use Rattle.jade_parser.specs.Spelled.{at_cell, at_compare, at_expr, at_product, at_sum, at_unary}
 use Rattle.jade_parser.specs.declared.Sign.{Sign}
 use Rattle.jade_parser.specs.declared.Sign.TheVariants.{TrueWord, FalseWord, LeftParen, RightParen, LeftBracket, RightBracket}
 use Rattle.jade_parser.specs.steps.Machine.{Stack, Need, Rest, Second, Must, unary_in, sum_in, compare_in, expr_in, goes}

@@ -18,45 +18,15 @@ use Rattle.jade_syntax.specs.declared.tree.Expr.{Expr, fold-roll-Expr, ind-Expr}
 use Rattle.jade_syntax.specs.declared.tree.Product.{Product, fold-roll-Product}
 use Rattle.jade_syntax.specs.declared.tree.Sum.{Sum, fold-roll-Sum}
 use Rattle.jade_syntax.specs.declared.tree.Unary.{Unary}
-use Rattle.jade_parser.specs.Spelled.{
-  Parts,
-  marked,
-  Fixed,
-  expr_parts,
-  and_parts,
-  compare_parts,
-  sum_parts,
-  product_parts,
-  unary_parts,
-  atom_parts,
-  cell_parts,
-  sum_sign,
-  product_sign,
-  unary_sign,
-  at_atom,
-  at_and,
-  at_cell,
-  at_compare,
-  at_expr,
-  at_product,
-  at_sum,
-  at_unary,
-}
+use Rattle.jade_parser.specs.Spelled.{Parts, marked, Fixed, expr_parts, and_parts, compare_parts, sum_parts}
+use Rattle.jade_parser.specs.Spelled.{product_parts, unary_parts, atom_parts, cell_parts, sum_sign}
+use Rattle.jade_parser.specs.Spelled.{product_sign, unary_sign, at_atom, at_and, at_cell, at_compare, at_expr}
+use Rattle.jade_parser.specs.Spelled.{at_product, at_sum, at_unary}
 use Rattle.jade_parser.specs.declared.Sign.TheVariants.{OrSign, AndSign}
 use Rattle.jade_parser.specs.steps.Machine.{Rest, rank, asks, unary_in, product_in, sum_in, compare_in, and_in, expr_in}
 use Rattle.jade_parser.proofs.Running.{Runs, chain_runs}
-use Rattle.jade_parser.proofs.Layers.{
-  counted_runs,
-  true_runs,
-  false_runs,
-  called_runs,
-  group_runs,
-  single_runs,
-  member_runs,
-  signs_run,
-  compare_alone,
-  compare_pair,
-}
+use Rattle.jade_parser.proofs.Layers.{counted_runs, true_runs, false_runs, called_runs, group_runs}
+use Rattle.jade_parser.proofs.Layers.{single_runs, member_runs, signs_run, compare_alone, compare_pair}
 use Rattle.jade_parser.proofs.Spelling.{unary_opens}
 
 at_one : (o : ProductOp) → rank (product_sign o) ≡ 1

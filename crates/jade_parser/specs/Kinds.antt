@@ -1,87 +1,24 @@
 -- What the bytes of a token say that it is.
-use Rattle.std.specs.Prelude.{
-  ◌≡◌,
-  ℕ,
-  ◌≤◌,
-  Bool,
-  true,
-  false,
-  not,
-  ◌&&◌,
-  ◌||◌,
-  ◌==◌,
-  nat_le,
-  if◌then◌else◌,
-  List,
-  [],
-  ◌∷◌,
-  length,
-  codes,
-  map,
-  Option,
-  Some,
-  None,
-  ℤ,
-}
+use Rattle.std.specs.Prelude.{◌≡◌, ℕ, ◌≤◌, Bool, true, false, not, ◌&&◌, ◌||◌, ◌==◌, nat_le, if◌then◌else◌, List, [], ◌∷◌, length, codes, Option, Some,
+    None, ℤ}
 use Rattle.std.specs.Fmt.{signed_decimal}
 use Rattle.jade_lexer.specs.Alphabet.{is_run, value_after}
 use Rattle.jade_alphabet.specs.declared.TheConstants.{WORD_LIMIT, GREATEST_NUMBER}
 use Rattle.jade_alphabet.specs.Letters.{is_word}
 use Rattle.jade_syntax.specs.Numbering.{same_name}
 use Rattle.jade_parser.specs.declared.Sign.{Sign}
-use Rattle.jade_parser.specs.declared.Sign.TheVariants.{
-  InputWord,
-  ObjectWord,
-  ObjectsWord,
-  MainWord,
-  IntWord,
-  BoolWord,
-  TrueWord,
-  FalseWord,
-  IfWord,
-  ElseWord,
-  ForWord,
-  InWord,
-  WithonlyWord,
-  DoWord,
-  WithWord,
-  ContWord,
-  RdWord,
-  WrWord,
-  RdWrWord,
-  DfRdWord,
-  DfWrWord,
-  DfRdWrWord,
-  NoRdWord,
-  NoWrWord,
-  NoRdWrWord,
-  LeftParen,
-  RightParen,
-  LeftBracket,
-  RightBracket,
-  LeftBrace,
-  RightBrace,
-  Semicolon,
-  Colon,
-  Comma,
-  DotDot,
-  Becomes,
-  EqualSign,
-  UnequalSign,
-  LessSign,
-  LessEqualSign,
-  GreaterSign,
-  GreaterEqualSign,
-  PlusSign,
-  MinusSign,
-  TimesSign,
-  OverSign,
-  PercentSign,
-  NotSign,
-  OrSign,
-  AndSign,
-}
-use Rattle.jade_parser.specs.Spelled.{Token, Fixed, Called, Counted, Odd}
+use Rattle.jade_parser.specs.declared.Sign.TheVariants.{InputWord, ObjectWord, ObjectsWord, MainWord, IntWord}
+use Rattle.jade_parser.specs.declared.Sign.TheVariants.{BoolWord, TrueWord, FalseWord, IfWord, ElseWord}
+use Rattle.jade_parser.specs.declared.Sign.TheVariants.{ForWord, InWord, WithonlyWord, DoWord, WithWord}
+use Rattle.jade_parser.specs.declared.Sign.TheVariants.{ContWord, RdWord, WrWord, RdWrWord, DfRdWord}
+use Rattle.jade_parser.specs.declared.Sign.TheVariants.{DfWrWord, DfRdWrWord, NoRdWord, NoWrWord, NoRdWrWord}
+use Rattle.jade_parser.specs.declared.Sign.TheVariants.{LeftParen, RightParen, LeftBracket, RightBracket}
+use Rattle.jade_parser.specs.declared.Sign.TheVariants.{LeftBrace, RightBrace, Semicolon, Colon, Comma}
+use Rattle.jade_parser.specs.declared.Sign.TheVariants.{DotDot, Becomes, EqualSign, UnequalSign, LessSign}
+use Rattle.jade_parser.specs.declared.Sign.TheVariants.{LessEqualSign, GreaterSign, GreaterEqualSign}
+use Rattle.jade_parser.specs.declared.Sign.TheVariants.{PlusSign, MinusSign, TimesSign, OverSign, PercentSign}
+use Rattle.jade_parser.specs.declared.Sign.TheVariants.{NotSign, OrSign, AndSign}
+use Rattle.jade_parser.specs.Spelled.{Token, Fixed, Called, Counted, Unknown}
 
 -- the bytes of a sign
 abbrev pub sign_bytes : Sign → List ℕ
@@ -141,7 +78,7 @@ abbrev pub token_bytes : Token → List ℕ
 token_bytes (Fixed s) = sign_bytes s
 token_bytes (Called n) = n
 token_bytes (Counted v) = signed_decimal v
-token_bytes Odd = []
+token_bytes Unknown = []
 
 -- the words of items and of values
 abbrev pub item_signs : List Sign
@@ -229,7 +166,7 @@ pub record IsNumber (bytes : List ℕ) (v : ℤ) : Type 0 where
 
 -- what some bytes are that are no sign
 abbrev pub plain_token : List ℕ → Token
-plain_token bytes = if is_free bytes then Called bytes else (if is_counted bytes then Counted (ℤ.pos (value_after 0 bytes)) else Odd)
+plain_token bytes = if is_free bytes then Called bytes else (if is_counted bytes then Counted (ℤ.pos (value_after 0 bytes)) else Unknown)
 
 -- the sign, where there is one, and else what is plain
 abbrev pub sign_or : Option Sign → Token → Token

@@ -1,29 +1,12 @@
 -- The parts of a tree: its tokens in order, each with the place that the tree keeps of it.
-use Rattle.std.specs.Prelude.{◌≡◌, ℕ, ◌+◌, Bool, true, false, List, [], ◌∷◌, ◌++◌, map, Option, Some, None, ℤ, nat_le}
+use Rattle.std.specs.Prelude.{◌≡◌, ℕ, zero, suc, ◌+◌, Bool, true, false, List, [], ◌∷◌, ◌++◌, map, Option, Some, None, ℤ, nat_le}
 use Rattle.std.specs.List.{flat_map, list_all}
 use Rattle.jade_parser.specs.declared.Sign.{Sign}
-use Rattle.jade_parser.specs.declared.Sign.TheVariants.{
-  EqualSign,
-  UnequalSign,
-  LessSign,
-  LessEqualSign,
-  GreaterSign,
-  GreaterEqualSign,
-  PlusSign,
-  MinusSign,
-  TimesSign,
-  OverSign,
-  PercentSign,
-  NotSign,
-  TrueWord,
-  FalseWord,
-  LeftBracket,
-  RightBracket,
-  LeftParen,
-  RightParen,
-  AndSign,
-  OrSign,
-}
+use Rattle.jade_parser.specs.declared.Sign.TheVariants.{EqualSign, UnequalSign, LessSign, LessEqualSign}
+use Rattle.jade_parser.specs.declared.Sign.TheVariants.{GreaterSign, GreaterEqualSign, PlusSign, MinusSign}
+use Rattle.jade_parser.specs.declared.Sign.TheVariants.{TimesSign, OverSign, PercentSign, NotSign, TrueWord}
+use Rattle.jade_parser.specs.declared.Sign.TheVariants.{FalseWord, LeftBracket, RightBracket, LeftParen}
+use Rattle.jade_parser.specs.declared.Sign.TheVariants.{RightParen, AndSign, OrSign}
 use Rattle.jade_base.specs.declared.place.Pos.{Pos}
 use Rattle.jade_alphabet.specs.declared.TheConstants.{EXPRESSION_LIMIT}
 use Rattle.jade_syntax.specs.Names.{is_name}
@@ -52,7 +35,7 @@ pub data Token : Type 0 where
   Fixed : Sign → Token
   Called : List ℕ → Token
   Counted : ℤ → Token
-  Odd : Token
+  Unknown : Token
 
 -- tokens in text order
 abbrev pub Tokens : Type 0
@@ -96,7 +79,7 @@ abbrev pub is_valid : Token → Bool
 is_valid (Fixed s) = true
 is_valid (Called n) = is_name n
 is_valid (Counted v) = is_natural v
-is_valid Odd = false
+is_valid Unknown = false
 
 -- each name is a name, and each number is one that may be written
 pub record AllValid (ps : Parts) : Type 0 where

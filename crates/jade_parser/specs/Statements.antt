@@ -8,35 +8,11 @@ use Rattle.jade_syntax.specs.declared.tree.DeclareWord.TheVariants.{Rd, Wr, RdWr
 use Rattle.jade_syntax.specs.declared.tree.ObjectRef.{ObjectRef}
 use Rattle.jade_syntax.specs.declared.tree.Statement.{Statement, fold-Statement}
 use Rattle.jade_syntax.specs.declared.tree.Statement.TheOpen.{Statement-F}
-use Rattle.jade_parser.specs.declared.Sign.TheVariants.{
-  LeftParen,
-  RightParen,
-  LeftBrace,
-  RightBrace,
-  Becomes,
-  Semicolon,
-  Comma,
-  DotDot,
-  IfWord,
-  ElseWord,
-  ForWord,
-  InWord,
-  IntWord,
-  BoolWord,
-  WithonlyWord,
-  WithWord,
-  DoWord,
-  ContWord,
-  RdWord,
-  WrWord,
-  RdWrWord,
-  DfRdWord,
-  DfWrWord,
-  DfRdWrWord,
-  NoRdWord,
-  NoWrWord,
-  NoRdWrWord,
-}
+use Rattle.jade_parser.specs.declared.Sign.TheVariants.{LeftParen, RightParen, LeftBrace, RightBrace, Becomes}
+use Rattle.jade_parser.specs.declared.Sign.TheVariants.{Semicolon, Comma, DotDot, IfWord, ElseWord, ForWord}
+use Rattle.jade_parser.specs.declared.Sign.TheVariants.{InWord, IntWord, BoolWord, WithonlyWord, WithWord}
+use Rattle.jade_parser.specs.declared.Sign.TheVariants.{DoWord, ContWord, RdWord, WrWord, RdWrWord, DfRdWord}
+use Rattle.jade_parser.specs.declared.Sign.TheVariants.{DfWrWord, DfRdWrWord, NoRdWord, NoWrWord, NoRdWrWord}
 use Rattle.jade_syntax.specs.declared.tree.CellRef.{CellRef, out-CellRef}
 use Rattle.jade_syntax.specs.declared.tree.Expr.{Expr}
 use Rattle.jade_syntax.specs.declared.tree.Named.{Named}

@@ -173,7 +173,7 @@ fn parse_atom(alloc: Global, tokens: &[Seen<'_>], start: usize) -> Result<(Atom,
             Kind::Counted(value) => Ok((Atom::Whole(Number { value, pos }), start + 1)),
             Kind::Called(text) => parse_named(alloc, tokens, start, text),
             Kind::Fixed(sign) => parse_fixed(alloc, tokens, start, sign),
-            Kind::Odd => Err(Stop::Token(start)),
+            Kind::Unknown => Err(Stop::Token(start)),
         }
     } else {
         Err(Stop::Token(start))

@@ -82,7 +82,7 @@ pub fn kind_of(text: &[u8]) -> Kind<'_>
     }
     match number_of(text) {
         Some(value) => Kind::Counted(value),
-        None => Kind::Odd,
+        None => Kind::Unknown,
     }
 }
 

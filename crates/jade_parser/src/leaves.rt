@@ -29,7 +29,7 @@ pub fn sign_at(tokens: &[Seen<'_>], at: usize) -> Option<Sign>
             Kind::Fixed(sign) => Some(sign),
             Kind::Called(_) => None,
             Kind::Counted(_) => None,
-            Kind::Odd => None,
+            Kind::Unknown => None,
         }
     } else {
         None

@@ -21,35 +21,11 @@ use Rattle.jade_syntax.specs.declared.tree.Expr.{Expr, fold-roll-Expr, ind-Expr}
 use Rattle.jade_syntax.specs.declared.tree.Product.{Product, fold-roll-Product}
 use Rattle.jade_syntax.specs.declared.tree.Sum.{Sum, fold-roll-Sum}
 use Rattle.jade_syntax.specs.declared.tree.Unary.{Unary, fold_out-Unary}
-use Rattle.jade_parser.specs.Spelled.{
-  Part,
-  Parts,
-  marked,
-  fixed,
-  Fixed,
-  Called,
-  bracketed,
-  expr_parts,
-  and_parts,
-  compare_parts,
-  sum_parts,
-  product_parts,
-  unary_parts,
-  atom_parts,
-  cell_parts,
-  sum_sign,
-  product_sign,
-  unary_sign,
-  relation_sign,
-  at_atom,
-  at_and,
-  at_cell,
-  at_compare,
-  at_expr,
-  at_product,
-  at_sum,
-  at_unary,
-}
+use Rattle.jade_parser.specs.Spelled.{Part, Parts, marked, fixed, Fixed, Called, bracketed, expr_parts}
+use Rattle.jade_parser.specs.Spelled.{and_parts, compare_parts, sum_parts, product_parts, unary_parts}
+use Rattle.jade_parser.specs.Spelled.{atom_parts, cell_parts, sum_sign, product_sign, unary_sign}
+use Rattle.jade_parser.specs.Spelled.{relation_sign, at_atom, at_and, at_cell, at_compare, at_expr}
+use Rattle.jade_parser.specs.Spelled.{at_product, at_sum, at_unary}
 use Rattle.jade_parser.specs.declared.Sign.TheVariants.{OrSign, AndSign, LeftBracket, RightBracket, LeftParen, RightParen}
 use Rattle.jade_parser.specs.Kinds.{token_bytes}
 use Rattle.jade_parser.specs.Grammar.{bytes_of}

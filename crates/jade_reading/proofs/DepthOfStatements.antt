@@ -17,66 +17,21 @@ use Rattle.jade_syntax.specs.declared.tree.Item.TheVariants.{Input, Single, Fami
 use Rattle.jade_syntax.specs.declared.tree.Statement.{Statement, map-Statement, fold-roll-Statement, ind-Statement}
 use Rattle.jade_syntax.specs.declared.tree.Statement.TheOpen.{Statement-F}
 use Rattle.jade_syntax.specs.declared.tree.Program.{Program}
-use Rattle.jade_syntax.specs.Shapes.{
-  expr_extent,
-  ◌⊕◌,
-  all_of,
-  in_brackets,
-  name_extent,
-  limited,
-  outermost,
-  outer_index,
-  target_extent,
-  object_extent,
-  names_extent,
-  braced as braced_extent,
-  at_statement as e_statement,
-  statement_extent,
-  item_extent,
-  program_extent,
-}
-use Rattle.jade_layout.specs.Spelling.{
-  Tokens,
-  kind_word,
-  declare_word,
-  expr_tokens,
-  cell_tokens,
-  object_index,
-  object_tokens,
-  braced,
-  name_tokens,
-  at_statement,
-  statement_tokens,
-  item_tokens,
-  spelling,
-}
+use Rattle.jade_syntax.specs.Shapes.{expr_extent, ◌⊕◌, all_of, in_brackets, name_extent, limited, outermost}
+use Rattle.jade_syntax.specs.Shapes.{outer_index, target_extent, object_extent, names_extent}
+use Rattle.jade_syntax.specs.Shapes.{braced as braced_extent, at_statement as e_statement, statement_extent}
+use Rattle.jade_syntax.specs.Shapes.{item_extent, program_extent}
+use Rattle.jade_layout.specs.Spelling.{Tokens, kind_word, declare_word, expr_tokens, cell_tokens}
+use Rattle.jade_layout.specs.Spelling.{object_index, object_tokens, braced, name_tokens, at_statement}
+use Rattle.jade_layout.specs.Spelling.{statement_tokens, item_tokens, spelling}
 use Rattle.jade_layout.proofs.Opened.{cell_opens}
 use Rattle.jade_reading.proofs.DepthOfTokens.{join, sign, curly}
-use Rattle.jade_reading.proofs.DepthOfParts.{
-  Nested,
-  nested_join,
-  nested_nothing,
-  nested_regroup,
-  nested_all,
-  IsSign,
-  nested_sign,
-  nested_mark,
-  nested_lead,
-  nested_trail,
-  nested_number,
-  nested_name,
-  nested_group,
-  nested_bracketed,
-  nested_chain,
-  nested_signs,
-  nested_truth,
-  nested_single,
-  nested_member,
-  nested_alone,
-  nested_pair,
-  sum_is_sign,
-  product_is_sign,
-}
+use Rattle.jade_reading.proofs.DepthOfParts.{Nested, nested_join, nested_nothing, nested_regroup, nested_all}
+use Rattle.jade_reading.proofs.DepthOfParts.{IsSign, nested_sign, nested_mark, nested_lead, nested_trail}
+use Rattle.jade_reading.proofs.DepthOfParts.{nested_number, nested_name, nested_group, nested_bracketed}
+use Rattle.jade_reading.proofs.DepthOfParts.{nested_chain, nested_signs, nested_truth, nested_single}
+use Rattle.jade_reading.proofs.DepthOfParts.{nested_member, nested_alone, nested_pair, sum_is_sign}
+use Rattle.jade_reading.proofs.DepthOfParts.{product_is_sign}
 use Rattle.jade_layout.proofs.Trees.{expr_holds}
 
 nested_limited : {x : Extent} {ts : Tokens} → Nested x ts → Nested (limited x) ts

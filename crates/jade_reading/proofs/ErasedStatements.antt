@@ -8,7 +8,7 @@ use Rattle.jade_syntax.specs.declared.tree.Statement.{Statement, map-Statement, 
 use Rattle.jade_syntax.specs.declared.tree.Statement.TheOpen.{Statement-F}
 use Rattle.jade_syntax.specs.declared.tree.Program.{Program}
 use Rattle.jade_syntax.specs.Abstract as abstract
-use Rattle.jade_syntax.specs.Abstract.{Action, Actions, Place}
+use Rattle.jade_syntax.specs.Abstract.{Action}
 use Rattle.jade_syntax.specs.Placed.{Phrase}
 use Rattle.jade_syntax.specs.Forms as general
 use Rattle.jade_syntax.specs.PlacedImage as placed

@@ -22,17 +22,9 @@ use Rattle.jade_syntax.specs.Forms as general
 use Rattle.jade_syntax.specs.PlacedImage as placed
 use Rattle.jade_syntax.specs.PlacedImage.{Reference, Linked, term, and_term, reference, compare_term, product_term, sum_term, unary_term, atom_term}
 use Rattle.jade_syntax.specs.Image as image
-use Rattle.jade_syntax.specs.Image.{
-  Reference as Plain,
-  Linked as PlainLink,
-  expression,
-  and_expression,
-  compare_expression,
-  product_expression,
-  sum_expression,
-  unary_expression,
-  atom_expression,
-}
+use Rattle.jade_syntax.specs.Image.{Reference as Plain, Linked as PlainLink, expression, and_expression}
+use Rattle.jade_syntax.specs.Image.{compare_expression, product_expression, sum_expression, unary_expression}
+use Rattle.jade_syntax.specs.Image.{atom_expression}
 use Rattle.jade_syntax.proofs.Opened as opened
 use Rattle.jade_syntax.specs.Erased.{erased, erased_links, erased_object}
 

@@ -16,19 +16,8 @@ use Rattle.jade_syntax.specs.declared.tree.Sum.{Sum, out-Sum}
 use Rattle.jade_syntax.specs.declared.tree.Unary.{Unary}
 use Rattle.jade_syntax.specs.Abstract.{Or, And, Relates, Adds, Multiplies}
 use Rattle.jade_syntax.specs.PlacedImage.{chained, term, and_term, compare_term, product_term, sum_term, unary_term}
-use Rattle.jade_parser.specs.Spelled.{
-  Fixed,
-  marked,
-  relation_sign,
-  sum_sign,
-  product_sign,
-  expr_parts,
-  and_parts,
-  sum_parts,
-  product_parts,
-  unary_parts,
-  compare_parts,
-}
+use Rattle.jade_parser.specs.Spelled.{Fixed, marked, relation_sign, sum_sign, product_sign, expr_parts}
+use Rattle.jade_parser.specs.Spelled.{and_parts, sum_parts, product_parts, unary_parts, compare_parts}
 use Rattle.jade_parser.specs.declared.Sign.TheVariants.{OrSign, AndSign}
 use Rattle.jade_parser.specs.steps.Machine.{rank}
 use Rattle.jade_parser.proofs.Spelling.{expr_opens, and_opens, sum_opens, product_opens}

@@ -16,52 +16,18 @@ use Rattle.jade_syntax.specs.Placed as syntax
 use Rattle.jade_syntax.specs.Placed.{Term, Mention, Phrase, Phrases}
 use Rattle.jade_syntax.specs.Forms as general
 use Rattle.jade_syntax.specs.PlacedImage as placed
-use Rattle.jade_syntax.specs.PlacedImage.{term, reference, member, object, mentioned, phrase, phrases}
+use Rattle.jade_syntax.specs.PlacedImage.{term, member, object, mentioned, phrase, phrases}
 use Rattle.jade_parser.specs.declared.Sign.{Sign}
-use Rattle.jade_parser.specs.declared.Sign.TheVariants.{
-  LeftBracket,
-  RightBracket,
-  LeftParen,
-  RightParen,
-  RightBrace,
-  Becomes,
-  Semicolon,
-  Comma,
-  DotDot,
-  IfWord,
-  ElseWord,
-  ForWord,
-  IntWord,
-  BoolWord,
-  WithonlyWord,
-  WithWord,
-  DoWord,
-  ContWord,
-  RdWord,
-  WrWord,
-  RdWrWord,
-  DfRdWord,
-  DfWrWord,
-  DfRdWrWord,
-  NoRdWord,
-  NoWrWord,
-  NoRdWrWord,
-}
-use Rattle.jade_parser.specs.Spelled.{Token, Fixed, Called, Counted, Odd, Parts, fixed, bracketed, outer}
-use Rattle.jade_parser.specs.Statements.{
-  kind_word,
-  declare_word,
-  outer_index,
-  object_parts,
-  target_parts,
-  braced,
-  name_parts,
-  more_names,
-  else_parts,
-  at_statement,
-  statement_parts,
-  block_parts,
-}
+use Rattle.jade_parser.specs.declared.Sign.TheVariants.{LeftBracket, RightBracket, LeftParen, RightParen}
+use Rattle.jade_parser.specs.declared.Sign.TheVariants.{RightBrace, Becomes, Semicolon, Comma, DotDot, IfWord}
+use Rattle.jade_parser.specs.declared.Sign.TheVariants.{ElseWord, ForWord, IntWord, BoolWord, WithonlyWord}
+use Rattle.jade_parser.specs.declared.Sign.TheVariants.{WithWord, DoWord, ContWord, RdWord, WrWord, RdWrWord}
+use Rattle.jade_parser.specs.declared.Sign.TheVariants.{DfRdWord, DfWrWord, DfRdWrWord, NoRdWord, NoWrWord}
+use Rattle.jade_parser.specs.declared.Sign.TheVariants.{NoRdWrWord}
+use Rattle.jade_parser.specs.Spelled.{Token, Fixed, Called, Counted, Unknown, Parts, fixed, bracketed, outer}
+use Rattle.jade_parser.specs.Statements.{kind_word, declare_word, outer_index, object_parts, target_parts}
+use Rattle.jade_parser.specs.Statements.{braced, name_parts, more_names, else_parts, at_statement}
+use Rattle.jade_parser.specs.Statements.{statement_parts, block_parts}
 use Rattle.jade_parser.specs.steps.Machine.{sign_rank}
 use Rattle.jade_reading.specs.Unplaced.{moved, moved_object, moved_mention, moved_phrase, moved_phrases}
 use Rattle.jade_reading.proofs.Likeness.{Like, Same, regroup, regroup_left, regroup_right, like_sym}
@@ -89,7 +55,7 @@ begins (Fixed RightBrace) = 8
 begins (Fixed ElseWord) = 9
 begins (Fixed s) = 7
 begins (Counted v) = 7
-begins Odd = 7
+begins Unknown = 7
 
 abbrev pub beginning : Parts → ℕ
 beginning [] = 7

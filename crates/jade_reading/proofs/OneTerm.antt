@@ -1,29 +1,6 @@
 -- The parts of an atom, of a cell and of an expression have one image.
-use Rattle.std.proofs.Common.{
-  ◌≡◌,
-  ℕ,
-  ◌<◌,
-  ◌≤◌,
-  List,
-  [],
-  ◌∷◌,
-  ◌++◌,
-  Option,
-  Some,
-  None,
-  refl,
-  ap,
-  sym,
-  ◌∙◌,
-  subst,
-  arith,
-  append-nil,
-  Bool,
-  true,
-  false,
-  eqb,
-  ℤ,
-}
+use Rattle.std.proofs.Common.{◌≡◌, ℕ, ◌<◌, ◌≤◌, List, [], ◌∷◌, ◌++◌, Option, Some, None, refl, ap, sym, ◌∙◌}
+use Rattle.std.proofs.Common.{subst, arith, append-nil, Bool, true, false, eqb, ℤ}
 use Rattle.std.specs.List.{flat_map}
 use Rattle.std.proofs.lemmas.Bool.Decides.{nat_tests}
 use Rattle.std.proofs.lemmas.List.Folds.{flat_map-map}
@@ -49,56 +26,18 @@ use Rattle.jade_syntax.specs.PlacedImage as placed
 use Rattle.jade_syntax.specs.PlacedImage.{Reference, signed, term, and_term, reference, compare_term, product_term, sum_term, unary_term, atom_term}
 use Rattle.jade_parser.specs.declared.Sign.{Sign}
 use Rattle.jade_parser.specs.declared.Sign.TheVariants.{LeftParen, RightParen, LeftBracket, RightBracket, TrueWord, FalseWord}
-use Rattle.jade_parser.specs.Spelled.{
-  Token,
-  Fixed,
-  Called,
-  Counted,
-  Odd,
-  Parts,
-  marked,
-  fixed,
-  bracketed,
-  truth_word,
-  unary_sign,
-  sign_part,
-  outer,
-  expr_parts,
-  and_parts,
-  cell_parts,
-  compare_parts,
-  sum_parts,
-  product_parts,
-  unary_parts,
-  atom_parts,
-  at_atom,
-  at_and,
-  at_cell,
-  at_compare,
-  at_expr,
-  at_product,
-  at_sum,
-  at_unary,
-}
+use Rattle.jade_parser.specs.Spelled.{Token, Fixed, Called, Counted, Unknown, Parts, marked, fixed, bracketed}
+use Rattle.jade_parser.specs.Spelled.{truth_word, unary_sign, sign_part, outer, expr_parts, and_parts}
+use Rattle.jade_parser.specs.Spelled.{cell_parts, compare_parts, sum_parts, product_parts, unary_parts}
+use Rattle.jade_parser.specs.Spelled.{atom_parts, at_atom, at_and, at_cell, at_compare, at_expr, at_product}
+use Rattle.jade_parser.specs.Spelled.{at_sum, at_unary}
 use Rattle.jade_parser.specs.Statements.{outer_index, target_parts}
 use Rattle.jade_parser.specs.steps.Machine.{rank, sign_rank}
 use Rattle.jade_parser.proofs.Spelling.{unary_opens, cell_opens, index_of}
 use Rattle.jade_reading.specs.Unplaced.{moved, moved_object}
-use Rattle.jade_reading.proofs.Likeness.{
-  Like,
-  Same,
-  Follows,
-  One,
-  like_sym,
-  regroup,
-  regroup_right,
-  regroup_left,
-  unnumbered,
-  bare,
-  bare_append,
-  bare_numbered,
-  like_bare,
-}
+use Rattle.jade_reading.proofs.Likeness.{Like, Same, Follows, One, like_sym, regroup, regroup_right}
+use Rattle.jade_reading.proofs.Likeness.{regroup_left, unnumbered, bare, bare_append, bare_numbered}
+use Rattle.jade_reading.proofs.Likeness.{like_bare}
 use Rattle.jade_reading.proofs.OneLevel.{and_layer, expr_layer, product_layer, sum_layer, compare_layer}
 use Rattle.jade_reading.proofs.Shown.{cell_shows, cell_image}
 
@@ -110,7 +49,7 @@ lead (Fixed LeftParen) = 2
 lead (Fixed TrueWord) = 3
 lead (Fixed FalseWord) = 3
 lead (Fixed s) = 4
-lead Odd = 4
+lead Unknown = 4
 
 abbrev head : Parts → ℕ
 head [] = 5

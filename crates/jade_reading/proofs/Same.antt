@@ -23,41 +23,15 @@ use Rattle.jade_syntax.specs.declared.tree.Item.TheVariants.{Input, Single, Fami
 use Rattle.jade_syntax.specs.declared.tree.Program.{Program}
 use Rattle.jade_parser.specs.Spelled.{Parts, outer, plain, fixed, marked, Fixed, Called, expr_parts}
 use Rattle.jade_parser.specs.declared.Sign.{Sign}
-use Rattle.jade_parser.specs.declared.Sign.TheVariants.{
-  LeftBrace,
-  RightBrace,
-  LeftParen,
-  RightParen,
-  Semicolon,
-  Becomes,
-  Comma,
-  DotDot,
-  IfWord,
-  ElseWord,
-  ForWord,
-  InWord,
-  WithonlyWord,
-  DoWord,
-  WithWord,
-  ContWord,
-  MainWord,
-}
+use Rattle.jade_parser.specs.declared.Sign.TheVariants.{LeftBrace, RightBrace, LeftParen, RightParen}
+use Rattle.jade_parser.specs.declared.Sign.TheVariants.{Semicolon, Becomes, Comma, DotDot, IfWord, ElseWord}
+use Rattle.jade_parser.specs.declared.Sign.TheVariants.{ForWord, InWord, WithonlyWord, DoWord, WithWord}
+use Rattle.jade_parser.specs.declared.Sign.TheVariants.{ContWord, MainWord}
 use Rattle.jade_parser.specs.Kinds.{token_bytes, sign_bytes}
 use Rattle.jade_parser.specs.Grammar.{bytes_of}
-use Rattle.jade_parser.specs.Statements.{
-  kind_word,
-  declare_word,
-  outer_index,
-  object_parts,
-  target_parts,
-  braced,
-  more_names,
-  name_parts,
-  else_parts,
-  at_statement,
-  statement_parts,
-  block_parts,
-}
+use Rattle.jade_parser.specs.Statements.{kind_word, declare_word, outer_index, object_parts, target_parts}
+use Rattle.jade_parser.specs.Statements.{braced, more_names, name_parts, else_parts, at_statement}
+use Rattle.jade_parser.specs.Statements.{statement_parts, block_parts}
 use Rattle.jade_parser.specs.Programs.{item_parts, program_parts}
 use Rattle.jade_parser.proofs.Cutting.{numbered_tokens}
 use Rattle.jade_reading.proofs.Alike.{Alike, none, one, joined, flat, index_alike, expr_alike}

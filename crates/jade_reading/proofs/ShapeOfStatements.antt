@@ -15,56 +15,16 @@ use Rattle.jade_syntax.specs.declared.tree.DeclareWord.TheVariants.{Rd, Wr, RdWr
 use Rattle.jade_syntax.specs.declared.tree.Statement.{Statement, map-Statement, fold-roll-Statement, ind-Statement}
 use Rattle.jade_syntax.specs.declared.tree.Statement.TheOpen.{Statement-F}
 use Rattle.jade_syntax.specs.Shapes as shapes
-use Rattle.jade_syntax.specs.Shapes.{
-  nothing,
-  signs,
-  name_extent,
-  ◌⊕◌,
-  all_of,
-  in_brackets,
-  outermost,
-  target_extent,
-  object_extent,
-  names_extent,
-  statement_extent,
-  block_extent,
-}
+use Rattle.jade_syntax.specs.Shapes.{signs, name_extent, ◌⊕◌, all_of, in_brackets, outermost, target_extent, object_extent, names_extent, statement_extent, block_extent}
 use Rattle.jade_parser.specs.declared.Sign.{Sign}
-use Rattle.jade_parser.specs.declared.Sign.TheVariants.{
-  LeftBracket,
-  RightBracket,
-  LeftParen,
-  RightParen,
-  LeftBrace,
-  RightBrace,
-  Becomes,
-  Semicolon,
-  Comma,
-  DotDot,
-  IfWord,
-  ElseWord,
-  ForWord,
-  InWord,
-  WithonlyWord,
-  WithWord,
-  DoWord,
-  ContWord,
-}
+use Rattle.jade_parser.specs.declared.Sign.TheVariants.{LeftBracket, RightBracket, LeftParen, RightParen}
+use Rattle.jade_parser.specs.declared.Sign.TheVariants.{LeftBrace, RightBrace, Becomes, Semicolon, Comma}
+use Rattle.jade_parser.specs.declared.Sign.TheVariants.{DotDot, IfWord, ElseWord, ForWord, InWord}
+use Rattle.jade_parser.specs.declared.Sign.TheVariants.{WithonlyWord, WithWord, DoWord, ContWord}
 use Rattle.jade_parser.specs.Spelled.{Parts, Fixed, plain, fixed, marked, bracketed, outer}
-use Rattle.jade_parser.specs.Statements.{
-  kind_word,
-  declare_word,
-  outer_index,
-  object_parts,
-  target_parts,
-  braced,
-  more_names,
-  name_parts,
-  else_parts,
-  at_statement,
-  statement_parts,
-  block_parts,
-}
+use Rattle.jade_parser.specs.Statements.{kind_word, declare_word, outer_index, object_parts, target_parts}
+use Rattle.jade_parser.specs.Statements.{braced, more_names, name_parts, else_parts, at_statement}
+use Rattle.jade_parser.specs.Statements.{statement_parts, block_parts}
 use Rattle.jade_reading.proofs.ShapeOfParts.{good, Tells, tells_none, tells_sign, tells_on, tells_brackets, tells_all, tells_same, good_name}
 use Rattle.jade_reading.proofs.ShapeOfTerms.{outer_tells}
 

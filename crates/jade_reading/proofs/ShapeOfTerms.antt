@@ -23,70 +23,19 @@ use Rattle.jade_syntax.specs.declared.tree.Product.{Product, fold-roll-Product}
 use Rattle.jade_syntax.specs.declared.tree.Sum.{Sum, fold-roll-Sum}
 use Rattle.jade_syntax.specs.declared.tree.Unary.{Unary}
 use Rattle.jade_syntax.specs.Shapes as shapes
-use Rattle.jade_syntax.specs.Shapes.{
-  signs,
-  ◌⊕◌,
-  all_of,
-  expr_extent,
-  and_extent,
-  compare_extent,
-  sum_extent,
-  product_extent,
-  unary_extent,
-  atom_extent,
-  cell_extent,
-  outermost,
-}
+use Rattle.jade_syntax.specs.Shapes.{signs, ◌⊕◌, all_of, expr_extent, and_extent, compare_extent, sum_extent}
+use Rattle.jade_syntax.specs.Shapes.{product_extent, unary_extent, atom_extent, cell_extent, outermost}
 use Rattle.jade_syntax.proofs.Extents as extents
 use Rattle.jade_parser.specs.declared.Sign.TheVariants.{OrSign, AndSign, LeftParen, RightParen, LeftBracket, RightBracket}
-use Rattle.jade_parser.specs.Spelled.{
-  Part,
-  Parts,
-  Fixed,
-  marked,
-  fixed,
-  bracketed,
-  relation_sign,
-  sum_sign,
-  product_sign,
-  unary_sign,
-  truth_word,
-  is_valid,
-  outer,
-  expr_parts,
-  and_parts,
-  compare_parts,
-  sum_parts,
-  product_parts,
-  unary_parts,
-  atom_parts,
-  cell_parts,
-  at_atom,
-  at_and,
-  at_cell,
-  at_compare,
-  at_expr,
-  at_product,
-  at_sum,
-  at_unary,
-}
+use Rattle.jade_parser.specs.Spelled.{Part, Parts, Fixed, marked, fixed, bracketed, relation_sign, sum_sign}
+use Rattle.jade_parser.specs.Spelled.{product_sign, unary_sign, truth_word, is_valid, outer, expr_parts}
+use Rattle.jade_parser.specs.Spelled.{and_parts, compare_parts, sum_parts, product_parts, unary_parts}
+use Rattle.jade_parser.specs.Spelled.{atom_parts, cell_parts, at_atom, at_and, at_cell, at_compare, at_expr}
+use Rattle.jade_parser.specs.Spelled.{at_product, at_sum, at_unary}
 use Rattle.jade_parser.proofs.Spelling.{unary_opens}
-use Rattle.jade_reading.proofs.ShapeOfParts.{
-  valid,
-  good,
-  Tells,
-  both_same,
-  tells_none,
-  tells_sign,
-  tells_on,
-  tells_first,
-  tells_brackets,
-  tells_all,
-  valid_name,
-  valid_number,
-  length_numbered,
-  good_outer,
-}
+use Rattle.jade_reading.proofs.ShapeOfParts.{valid, good, Tells, both_same, tells_none, tells_sign, tells_on}
+use Rattle.jade_reading.proofs.ShapeOfParts.{tells_first, tells_brackets, tells_all, valid_name, valid_number}
+use Rattle.jade_reading.proofs.ShapeOfParts.{length_numbered, good_outer}
 
 relation_valid : (o : Relation) → is_valid (relation_sign o) ≡ true
 relation_valid Equal = refl

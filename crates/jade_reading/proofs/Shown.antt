@@ -17,19 +17,8 @@ use Rattle.jade_syntax.specs.Forms as general
 use Rattle.jade_syntax.proofs.Opened as opened
 use Rattle.jade_syntax.specs.PlacedImage.{Reference, Linked, forms, chained, compared, named_object, member, term, reference, compare_term, sum_term}
 use Rattle.jade_parser.specs.Spelled as spelled
-use Rattle.jade_parser.specs.Spelled.{
-  Parts,
-  marked,
-  relation_sign,
-  expr_parts,
-  and_parts,
-  cell_parts,
-  sum_parts,
-  product_parts,
-  unary_parts,
-  atom_parts,
-  compare_parts,
-}
+use Rattle.jade_parser.specs.Spelled.{Parts, marked, relation_sign, expr_parts, and_parts, cell_parts}
+use Rattle.jade_parser.specs.Spelled.{sum_parts, product_parts, unary_parts, atom_parts, compare_parts}
 
 -- a comparison's second operand, as a link
 abbrev pub compare_link : Relation × Pos × Sum → Linked

@@ -1,29 +1,6 @@
 -- Statements that are gone through, one after another.
-use Rattle.std.proofs.Common.{
-  ◌≡◌,
-  ℕ,
-  ◌+◌,
-  ◌-◌,
-  ◌≤◌,
-  List,
-  [],
-  ◌∷◌,
-  ◌++◌,
-  map,
-  drop,
-  length,
-  length-append,
-  Option,
-  Some,
-  None,
-  is_some,
-  refl,
-  ap,
-  sym,
-  ◌∙◌,
-  subst,
-  arith,
-}
+use Rattle.std.proofs.Common.{◌≡◌, ℕ, ◌+◌, ◌-◌, ◌≤◌, List, [], ◌∷◌, ◌++◌, map, drop, length, length-append}
+use Rattle.std.proofs.Common.{Option, Some, None, is_some, refl, ap, sym, ◌∙◌, subst, arith}
 use Rattle.std.specs.List.{slice_get}
 use Rattle.std.specs.Option.{option_map}
 use Rattle.std.proofs.lemmas.List.{drop_all}
@@ -36,26 +13,9 @@ use Rattle.jade_base.specs.declared.place.Pos.{Pos}
 use Rattle.jade_syntax.specs.Abstract.{Name}
 use Rattle.jade_syntax.specs.Placed.{Term, Phrase, Phrases, Local, Assign, Store, If, IfElse, For, Withonly, With, Declare}
 use Rattle.jade_syntax.specs.PlacedImage.{phrase, phrases, mentioned}
-use Rattle.jade_syntax.specs.StaticFaults.{
-  Uses,
-  Handed,
-  Declares,
-  Meaning,
-  Holds,
-  Turns,
-  Names,
-  known,
-  found,
-  is_known,
-  kind_of_name,
-  parameter,
-  parameters,
-  mention_sites,
-  names_after,
-  needed,
-  sites,
-  block_sites,
-}
+use Rattle.jade_syntax.specs.StaticFaults.{Uses, Handed, Declares, Meaning, Holds, Turns, Names, known, found}
+use Rattle.jade_syntax.specs.StaticFaults.{is_known, kind_of_name, parameter, parameters, mention_sites}
+use Rattle.jade_syntax.specs.StaticFaults.{names_after, needed, sites, block_sites}
 use Rattle.jade_syntax.proofs.Limits.{drop_item}
 use Rattle.jade_types.specs.declared.faults.names.Meaning.{Meaning as MeaningOf}
 use Rattle.jade_types.specs.declared.faults.notes.Notes.{Notes}

@@ -1,32 +1,7 @@
 -- Items that are counted, one after another.
-use Rattle.std.proofs.Common.{
-  ◌≡◌,
-  ℕ,
-  ◌+◌,
-  ◌*◌,
-  ◌≤◌,
-  Bool,
-  List,
-  [],
-  ◌∷◌,
-  ◌++◌,
-  sum,
-  length,
-  take,
-  drop,
-  replicate,
-  Option,
-  Some,
-  refl,
-  ap,
-  sym,
-  ◌∙◌,
-  subst,
-  arith,
-  append_assoc,
-  append-nil,
-  length-append,
-}
+use Rattle.std.proofs.Common.{◌≡◌, ℕ, ◌+◌, ◌*◌, ◌≤◌, Bool, List, [], ◌∷◌, ◌++◌, sum, length, take, drop}
+use Rattle.std.proofs.Common.{replicate, Option, Some, refl, ap, sym, ◌∙◌, subst, arith, append_assoc}
+use Rattle.std.proofs.Common.{append-nil, length-append}
 use Rattle.std.specs.List.{slice_get}
 use Rattle.std.proofs.lemmas.List.{take_all, take_more, drop_all, map-append, length-replicate}
 use Rattle.std.proofs.lemmas.List.Folds.{sum_by-replicate}
@@ -40,24 +15,7 @@ use Rattle.jade_syntax.specs.declared.static_fault.StaticKind.TheVariants as fau
 use Rattle.jade_syntax.specs.Abstract.{Name}
 use Rattle.jade_syntax.specs.Objects.{amount, input_names, sizes}
 use Rattle.jade_syntax.specs.StaticFaults as spec
-use Rattle.jade_syntax.specs.StaticFaults.{
-  Site,
-  Names,
-  Declares,
-  Counts,
-  item_known,
-  item_place,
-  item_names,
-  item_sites,
-  amount_sites,
-  counted,
-  exceeds,
-  found,
-  is_known,
-  when,
-  site_place,
-  fault_kind,
-}
+use Rattle.jade_syntax.specs.StaticFaults.{Site, Declares, Counts, item_known, item_place, item_names, item_sites, amount_sites, counted, exceeds, found, is_known, when, site_place, fault_kind}
 use Rattle.jade_syntax.proofs.Limits.{inputs_first, sizes_first, drop_item}
 use Rattle.jade_types.specs.declared.faults.items.Room.{Room}
 use Rattle.jade_types.specs.declared.faults.names.Meaning.{Meaning}

@@ -1,33 +1,5 @@
 -- Places of names, found by the names.
-use Rattle.std.proofs.Common.{
-  ◌≡◌,
-  ℕ,
-  List,
-  [],
-  ◌∷◌,
-  ◌++◌,
-  Bool,
-  true,
-  false,
-  cond,
-  ◌&&◌,
-  Bor,
-  length,
-  map,
-  get_or,
-  Option,
-  Some,
-  None,
-  is_some,
-  nat_eq,
-  refl,
-  ap,
-  sym,
-  ◌∙◌,
-  subst,
-  arith,
-  length-append,
-}
+use Rattle.std.proofs.Common.{◌≡◌, ℕ, List, [], ◌∷◌, ◌++◌, Bool, true, false, cond, Bor, length, map, get_or, Option, Some, None, is_some, nat_eq, refl, ap, sym, ◌∙◌, subst, arith, length-append}
 use Rattle.std.specs.Option.{option_or}
 use Rattle.std.specs.Prelude.{MatchOption}
 use Rattle.std.specs.Cmp.Lexicographic.{pointwise}
@@ -35,7 +7,6 @@ use Rattle.std.specs.Map.{lookup}
 use Rattle.std.proofs.Math.Seq.{get_or-append_seam}
 use Rattle.std.proofs.lemmas.List.{get_or_append_left}
 use Rattle.std.proofs.lemmas.Option.{slice_get-get_or, get_or_from_slice_get}
-use Rattle.jade_syntax.specs.Abstract.{Name}
 use Rattle.jade_syntax.specs.Numbering.{same_name}
 use Rattle.name_scope.proofs.Kept.{same_from, same_turned}
 use Rattle.jade_types.specs.steps.ItemMap.{named, StandsAt, IsIndexed}

@@ -1,29 +1,5 @@
 -- The variables of a body in scope, kept with the newest last, and the names behind them.
-use Rattle.std.proofs.Common.{
-  ◌≡◌,
-  ℕ,
-  suc,
-  ◌+◌,
-  ◌≤◌,
-  List,
-  [],
-  ◌∷◌,
-  ◌++◌,
-  Some,
-  None,
-  ◌-◌,
-  drop,
-  refl,
-  ap,
-  sym,
-  ◌∙◌,
-  take,
-  length,
-  arith,
-  cond,
-  true,
-  false,
-}
+use Rattle.std.proofs.Common.{◌≡◌, ℕ, suc, ◌+◌, List, [], ◌∷◌, ◌++◌, Some, None, ◌-◌, drop, refl, ap, sym, ◌∙◌, take, length, arith, cond, true, false}
 use Rattle.std.specs.Prelude.{map, if◌then◌else◌, unwrap_or, Bool}
 use Rattle.std.specs.List.{slice_get}
 use Rattle.std.specs.Map.{lookup}

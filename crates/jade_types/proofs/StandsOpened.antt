@@ -15,21 +15,9 @@ use Rattle.jade_syntax.specs.declared.tree.Unary.{Unary}
 use Rattle.jade_syntax.specs.declared.tree.UnaryOp.{UnaryOp}
 use Rattle.jade_syntax.specs.Abstract.{Name, Expression}
 use Rattle.jade_syntax.specs.Forms.{or_link, and_link, sum_link, product_link}
-use Rattle.jade_syntax.specs.Image.{
-  forms,
-  Linked,
-  chained,
-  links,
-  signed,
-  placed,
-  expression,
-  and_expression,
-  compare_expression,
-  sum_expression,
-  product_expression,
-  unary_expression,
-  atom_expression,
-}
+use Rattle.jade_syntax.specs.Image.{forms, Linked, chained, links, signed, placed, expression, and_expression}
+use Rattle.jade_syntax.specs.Image.{compare_expression, sum_expression, product_expression, unary_expression}
+use Rattle.jade_syntax.specs.Image.{atom_expression}
 use Rattle.jade_syntax.specs.Numbering.{Scope, stand_of, expression_stands, link_stands, place_stands}
 use Rattle.jade_syntax.proofs.Opened as opened
 use Rattle.jade_types.specs.steps.Bodies.{member_stands}

@@ -1,38 +1,5 @@
 -- The newest entries of names, as entries come and end.
-use Rattle.std.proofs.Common.{
-  ◌≡◌,
-  ℕ,
-  suc,
-  ◌+◌,
-  ◌-◌,
-  ◌<◌,
-  ◌≤◌,
-  List,
-  [],
-  ◌∷◌,
-  ◌++◌,
-  Bool,
-  true,
-  false,
-  cond,
-  ◌&&◌,
-  Bor,
-  length,
-  get_or,
-  map,
-  drop,
-  Option,
-  Some,
-  None,
-  nat_eq,
-  refl,
-  ap,
-  sym,
-  ◌∙◌,
-  subst,
-  arith,
-  length-append,
-}
+use Rattle.std.proofs.Common.{◌≡◌, ℕ, suc, ◌+◌, ◌-◌, ◌<◌, ◌≤◌, List, [], ◌∷◌, ◌++◌, Bool, true, false, cond, ◌&&◌, Bor, length, get_or, map, drop, Option, Some, None, nat_eq, refl, ap, sym, ◌∙◌, arith}
 use Rattle.std.specs.Prelude.{reverse, slice_get, if◌then◌else◌}
 use Rattle.std.specs.Cmp.Lexicographic.{pointwise, bytes_decides}
 use Rattle.std.specs.Map.{lookup}
@@ -43,7 +10,7 @@ use Rattle.jade_syntax.specs.Abstract.{Name}
 use Rattle.jade_syntax.specs.Numbering.{same_name}
 use Rattle.jade_syntax.proofs.Limits.{get_front, get_back}
 use Rattle.name_scope.specs.declared.scope.Entry.{Entry}
-use Rattle.name_scope.specs.Entries.{named, newest_place, AllHide, joined, IsKept}
+use Rattle.name_scope.specs.Entries.{named, newest_place, joined, IsKept}
 
 pub same_bytes : (x y : Name) → same_name x y ≡ pointwise nat_eq x y
 same_bytes [] [] = refl

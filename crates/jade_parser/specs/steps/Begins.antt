@@ -6,24 +6,9 @@ use Rattle.jade_syntax.specs.Shapes.{declares}
 use Rattle.jade_syntax.specs.declared.shapes.place.BlockKind.{BlockKind}
 use Rattle.jade_syntax.specs.declared.shapes.place.BlockKind.TheVariants.{Main, Section, Amends}
 use Rattle.jade_parser.specs.declared.Sign.{Sign}
-use Rattle.jade_parser.specs.declared.Sign.TheVariants.{
-  RightBrace,
-  LeftBrace,
-  LeftParen,
-  RightParen,
-  Becomes,
-  Semicolon,
-  InWord,
-  DotDot,
-  DoWord,
-  ContWord,
-  IntWord,
-  BoolWord,
-  IfWord,
-  ForWord,
-  WithonlyWord,
-  WithWord,
-}
+use Rattle.jade_parser.specs.declared.Sign.TheVariants.{RightBrace, LeftBrace, LeftParen, RightParen, Becomes}
+use Rattle.jade_parser.specs.declared.Sign.TheVariants.{Semicolon, InWord, DotDot, DoWord, ContWord, IntWord}
+use Rattle.jade_parser.specs.declared.Sign.TheVariants.{BoolWord, IfWord, ForWord, WithonlyWord, WithWord}
 use Rattle.jade_parser.specs.declared.begins.Begin.{Begin}
 use Rattle.jade_parser.specs.declared.begins.Begin.TheVariants.{Local, If, For, Withonly, With, Declare, Closing, Nothing}
 use Rattle.jade_parser.specs.steps.Ops.{declare_of}

@@ -8,22 +8,9 @@ use Rattle.jade_parser.specs.declared.Seen.{Seen}
 use Rattle.jade_parser.specs.declared.Stop.{Stop}
 use Rattle.jade_parser.specs.declared.begins.Begin.{Begin}
 use Rattle.jade_parser.specs.declared.begins.Begin.TheVariants.{Local, If, For, Withonly, With, Declare, Closing, Nothing}
-use Rattle.jade_parser.specs.declared.Sign.TheVariants.{
-  LeftBrace,
-  RightBrace,
-  LeftParen,
-  RightParen,
-  InWord,
-  DotDot,
-  DoWord,
-  ContWord,
-  Semicolon,
-  Becomes,
-  IfWord,
-  ForWord,
-  WithonlyWord,
-  WithWord,
-}
+use Rattle.jade_parser.specs.declared.Sign.TheVariants.{LeftBrace, RightBrace, LeftParen, RightParen, InWord}
+use Rattle.jade_parser.specs.declared.Sign.TheVariants.{DotDot, DoWord, ContWord, Semicolon, Becomes, IfWord}
+use Rattle.jade_parser.specs.declared.Sign.TheVariants.{ForWord, WithonlyWord, WithWord}
 use Rattle.jade_parser.specs.Spelled.{Fixed, plain, fixed, marked}
 use Rattle.jade_parser.specs.steps.Machine.{Stack, Must, NameIs, Names, Second, Body, Else, expr_in}
 use Rattle.jade_parser.specs.Statements.{statement_parts, kind_word, declare_word}

@@ -1,5 +1,5 @@
 -- What may still come.
-use Rattle.std.specs.Prelude.{ℕ, ◌+◌, ◌==◌, Bool, true, false, ◌&&◌, cond, List, [], ◌∷◌, ◌++◌, Option, Some, None}
+use Rattle.std.specs.Prelude.{ℕ, ◌+◌, ◌==◌, Bool, false, ◌&&◌, cond, List, [], ◌∷◌, ◌++◌, Option, Some, None}
 use Rattle.jade_syntax.specs.declared.shapes.place.BlockKind.{BlockKind}
 use Rattle.jade_syntax.specs.declared.shapes.place.BlockKind.TheVariants.{Main, Section, Amends}
 use Rattle.jade_syntax.specs.declared.tree.DeclareWord.{DeclareWord}
@@ -7,51 +7,17 @@ use Rattle.jade_syntax.specs.Shapes.{declares, is_main}
 use denote.Enum.Bare.{sameb}
 use Rattle.jade_parser.specs.contracts.Sign.{the_type}
 use Rattle.jade_parser.specs.declared.Sign.{Sign}
-use Rattle.jade_parser.specs.declared.Sign.TheVariants.{
-  EqualSign,
-  UnequalSign,
-  LessSign,
-  LessEqualSign,
-  GreaterSign,
-  GreaterEqualSign,
-  PlusSign,
-  MinusSign,
-  TimesSign,
-  OverSign,
-  PercentSign,
-  NotSign,
-  TrueWord,
-  FalseWord,
-  LeftBracket,
-  RightBracket,
-  LeftParen,
-  RightParen,
-  AndSign,
-  OrSign,
-  Semicolon,
-  Becomes,
-  LeftBrace,
-  RightBrace,
-  IfWord,
-  ElseWord,
-  ForWord,
-  InWord,
-  DotDot,
-  IntWord,
-  BoolWord,
-  WithonlyWord,
-  WithWord,
-  DoWord,
-  ContWord,
-  Comma,
-  InputWord,
-  ObjectWord,
-  ObjectsWord,
-  MainWord,
-  Colon,
-}
+use Rattle.jade_parser.specs.declared.Sign.TheVariants.{EqualSign, UnequalSign, LessSign, LessEqualSign}
+use Rattle.jade_parser.specs.declared.Sign.TheVariants.{GreaterSign, GreaterEqualSign, PlusSign, MinusSign}
+use Rattle.jade_parser.specs.declared.Sign.TheVariants.{TimesSign, OverSign, PercentSign, NotSign, TrueWord}
+use Rattle.jade_parser.specs.declared.Sign.TheVariants.{FalseWord, LeftBracket, RightBracket, LeftParen}
+use Rattle.jade_parser.specs.declared.Sign.TheVariants.{RightParen, AndSign, OrSign, Semicolon, Becomes}
+use Rattle.jade_parser.specs.declared.Sign.TheVariants.{LeftBrace, RightBrace, IfWord, ElseWord, ForWord}
+use Rattle.jade_parser.specs.declared.Sign.TheVariants.{InWord, DotDot, IntWord, BoolWord, WithonlyWord}
+use Rattle.jade_parser.specs.declared.Sign.TheVariants.{WithWord, DoWord, ContWord, Comma, InputWord}
+use Rattle.jade_parser.specs.declared.Sign.TheVariants.{ObjectWord, ObjectsWord, MainWord, Colon}
 use Rattle.jade_parser.specs.steps.Ops.{declare_of}
-use Rattle.jade_parser.specs.Spelled.{Token, Tokens, Fixed, Called, Counted, Odd}
+use Rattle.jade_parser.specs.Spelled.{Token, Tokens, Fixed, Called, Counted, Unknown}
 
 -- What is asked for: an operand (`Need`); what goes on with a chain of a level (`Rest`), a first or a second index or an `else`, each of which may
 -- fail to come; a sign; a name; the statements of a block up to its brace; what follows the name that begins a statement; the names of a `do` list,
@@ -98,7 +64,7 @@ abbrev pub rank : Token → ℕ
 rank (Fixed s) = sign_rank s
 rank (Called n) = 6
 rank (Counted v) = 6
-rank Odd = 6
+rank Unknown = 6
 
 -- an operand with its signs
 abbrev pub unary_in : Stack
@@ -145,7 +111,7 @@ need (Fixed MinusSign) st = Some (Need ∷ st)
 need (Fixed NotSign) st = Some (Need ∷ st)
 need (Fixed LeftParen) st = Some (expr_in ++ Must RightParen ∷ st)
 need (Fixed s) st = None
-need Odd st = None
+need Unknown st = None
 
 -- two signs are one
 abbrev pub same_sign : Sign → Sign → Bool
@@ -156,7 +122,7 @@ abbrev pub is_sign : Sign → Token → Bool
 is_sign s (Fixed t) = same_sign s t
 is_sign s (Called n) = false
 is_sign s (Counted v) = false
-is_sign s Odd = false
+is_sign s Unknown = false
 
 -- a declaration may stand there, where this is its word
 abbrev pub declares_with : BlockKind → Option DeclareWord → Bool
@@ -181,21 +147,21 @@ abbrev pub statement : BlockKind → Token → Stack → Option Stack
 statement c (Fixed s) st = statement_sign c s st
 statement c (Called n) st = Some (Named c ∷ Body c ∷ st)
 statement c (Counted v) st = None
-statement c Odd st = None
+statement c Unknown st = None
 
 -- a name and nothing else
 abbrev pub name_only : Token → Stack → Option Stack
 name_only (Called n) st = Some st
 name_only (Fixed s) st = None
 name_only (Counted v) st = None
-name_only Odd st = None
+name_only Unknown st = None
 
 -- a number and nothing else
 abbrev pub number_only : Token → Stack → Option Stack
 number_only (Counted v) st = Some st
 number_only (Fixed s) st = None
 number_only (Called n) st = None
-number_only Odd st = None
+number_only Unknown st = None
 
 -- what is asked for after a token that stands where an item or `main` may
 abbrev pub item : Token → Stack → Option Stack

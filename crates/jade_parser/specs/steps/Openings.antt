@@ -5,17 +5,9 @@ use Rattle.jade_syntax.specs.declared.tree.Item.{Item}
 use Rattle.jade_parser.specs.declared.Seen.{Seen}
 use Rattle.jade_parser.specs.declared.Stop.{Stop}
 use Rattle.jade_parser.specs.declared.Sign.{Sign}
-use Rattle.jade_parser.specs.declared.Sign.TheVariants.{
-  InputWord,
-  ObjectWord,
-  ObjectsWord,
-  MainWord,
-  LeftBracket,
-  RightBracket,
-  LeftBrace,
-  Colon,
-  Semicolon,
-}
+use Rattle.jade_parser.specs.declared.Sign.TheVariants.{InputWord, ObjectWord, ObjectsWord, MainWord}
+use Rattle.jade_parser.specs.declared.Sign.TheVariants.{LeftBracket, RightBracket, LeftBrace, Colon}
+use Rattle.jade_parser.specs.declared.Sign.TheVariants.{Semicolon}
 use Rattle.jade_parser.specs.declared.items.Opening.{Opening}
 use Rattle.jade_parser.specs.declared.items.Opening.TheVariants as opening
 use Rattle.jade_parser.specs.Spelled.{fixed}

@@ -1,29 +1,11 @@
 -- What the signs of operators and of declarations are in a tree.
 use Rattle.std.specs.Prelude.{Option, Some, None}
 use Rattle.jade_parser.specs.declared.Sign.{Sign}
-use Rattle.jade_parser.specs.declared.Sign.TheVariants.{
-  EqualSign,
-  UnequalSign,
-  LessSign,
-  LessEqualSign,
-  GreaterSign,
-  GreaterEqualSign,
-  PlusSign,
-  MinusSign,
-  TimesSign,
-  OverSign,
-  PercentSign,
-  NotSign,
-  RdWord,
-  WrWord,
-  RdWrWord,
-  DfRdWord,
-  DfWrWord,
-  DfRdWrWord,
-  NoRdWord,
-  NoWrWord,
-  NoRdWrWord,
-}
+use Rattle.jade_parser.specs.declared.Sign.TheVariants.{EqualSign, UnequalSign, LessSign, LessEqualSign}
+use Rattle.jade_parser.specs.declared.Sign.TheVariants.{GreaterSign, GreaterEqualSign, PlusSign, MinusSign}
+use Rattle.jade_parser.specs.declared.Sign.TheVariants.{TimesSign, OverSign, PercentSign, NotSign, RdWord}
+use Rattle.jade_parser.specs.declared.Sign.TheVariants.{WrWord, RdWrWord, DfRdWord, DfWrWord, DfRdWrWord}
+use Rattle.jade_parser.specs.declared.Sign.TheVariants.{NoRdWord, NoWrWord, NoRdWrWord}
 use Rattle.jade_syntax.specs.declared.tree.Relation.{Relation}
 use Rattle.jade_syntax.specs.declared.tree.Relation.TheVariants.{Equal, Unequal, Less, LessEqual, Greater, GreaterEqual}
 use Rattle.jade_syntax.specs.declared.tree.SumOp.{SumOp}

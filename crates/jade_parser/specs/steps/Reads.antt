@@ -1,16 +1,17 @@
 -- What a parser has read, and where it stops.
-use Rattle.std.specs.Prelude.{◌≡◌, ℕ, zero, suc, ◌+◌, ◌≤◌, Bool, true, List, [], ◌∷◌, ◌++◌, drop, length, map, Option, Some, None, ⊤, Result, MatchResult}
+use Rattle.std.specs.Prelude.{◌≡◌, ℕ, ◌+◌, ◌≤◌, Bool, true, List, [], ◌∷◌, ◌++◌, drop, length, map, Option, Some, None, ⊤, Result, MatchResult}
 use Rattle.std.specs.List.{list_all}
 use Rattle.jade_base.specs.declared.place.Pos.{Pos}
 use Rattle.jade_syntax.specs.declared.tree.Expr.{Expr}
-use Rattle.jade_parser.specs.Spelled.{pos_in, Agrees, Token, Tokens, Fixed, Called, Counted, Odd, Parts, tokens_of, fixed, is_valid, AllValid, expr_parts}
+use Rattle.jade_parser.specs.Spelled.{pos_in, Agrees, Token, Tokens, Fixed, Called, Counted, Unknown, Parts, tokens_of, fixed, is_valid, AllValid,
+    expr_parts}
 use Rattle.jade_lexer.specs.Lexemes.{TokenAt}
 use Rattle.jade_parser.specs.Kinds.{token_of_bytes}
 use Rattle.jade_parser.specs.steps.Ops.{unary_of}
 use Rattle.jade_parser.specs.steps.Machine.{Stack, goes}
 use Rattle.jade_parser.specs.declared.Seen.{Seen}
 use Rattle.jade_parser.specs.declared.Kind.{Kind}
-use Rattle.jade_parser.specs.declared.Kind.TheVariants.{Fixed as KFixed, Called as KCalled, Counted as KCounted, Odd as KOdd}
+use Rattle.jade_parser.specs.declared.Kind.TheVariants.{Fixed as KFixed, Called as KCalled, Counted as KCounted, Unknown as KUnknown}
 use Rattle.jade_parser.specs.declared.Sign.{Sign}
 use Rattle.jade_parser.specs.declared.Stop.{Stop}
 use Rattle.jade_parser.specs.declared.Stop.TheVariants.{Token as AtToken, Long, Memory}
@@ -20,7 +21,7 @@ abbrev pub token_of : Kind → Token
 token_of (KFixed s) = Fixed s
 token_of (KCalled n) = Called n.now
 token_of (KCounted v) = Counted v
-token_of KOdd = Odd
+token_of KUnknown = Unknown
 
 -- the tokens that were seen
 abbrev pub kinds : List Seen → Tokens
@@ -30,12 +31,12 @@ kinds xs = map (λ x. token_of x.kind) xs
 abbrev pub places : List Seen → List Pos
 places xs = map (λ x. x.pos) xs
 
--- each token is one that may stand in a program, or odd
+-- each token is one that may stand in a program, or is unknown
 abbrev pub is_known : Token → Bool
 is_known (Fixed s) = true
 is_known (Called n) = is_valid (Called n)
 is_known (Counted v) = is_valid (Counted v)
-is_known Odd = true
+is_known Unknown = true
 
 -- no token that was seen is a name that is none, or a number that is none
 pub record Known (all : List Seen) : Type 0 where
@@ -47,7 +48,7 @@ head_sign [] = None
 head_sign (Fixed s ∷ ts) = Some s
 head_sign (Called n ∷ ts) = None
 head_sign (Counted v ∷ ts) = None
-head_sign (Odd ∷ ts) = None
+head_sign (Unknown ∷ ts) = None
 
 -- the place of a token that was seen
 abbrev pub place_at : List Seen → ℕ → Pos

@@ -4,21 +4,9 @@ use Rattle.jade_syntax.specs.declared.tree.Expr.{out-Expr}
 use Rattle.jade_syntax.specs.declared.tree.AndExpr.{out-AndExpr}
 use Rattle.jade_syntax.specs.declared.tree.Sum.{out-Sum}
 use Rattle.jade_syntax.specs.declared.tree.Product.{out-Product}
-use Rattle.jade_layout.proofs.Opened.{
-  or_part,
-  and_part,
-  sum_part,
-  product_part,
-  sign_part,
-  expr_opens,
-  and_opens,
-  sum_opens,
-  product_opens,
-  unary_opens,
-  cell_opens,
-  compare_opens,
-  group_opens,
-}
+use Rattle.jade_layout.proofs.Opened.{or_part, and_part, sum_part, product_part, sign_part, expr_opens}
+use Rattle.jade_layout.proofs.Opened.{and_opens, sum_opens, product_opens, unary_opens, cell_opens}
+use Rattle.jade_layout.proofs.Opened.{compare_opens, group_opens}
 use Rattle.jade_layout.proofs.Adding.{after, more, all}
 use Rattle.jade_layout.proofs.expressions.+expr.Goals as goal
 

@@ -1,33 +1,10 @@
 use Rattle.jade_parser.proofs.Steps.{residual}
-use Rattle.jade_parser.proofs.Compounds.{
-  block_unopened,
-  block_opened,
-  block_refused,
-  block_kept,
-  block_read,
-  nothing_begins,
-  test_refused,
-  then_refused,
-  if_alone,
-  other_refused,
-  if_else,
-  for_unnamed,
-  for_not_in,
-  low_refused,
-  high_refused,
-  body_refused,
-  for_read,
-  section_refused,
-  do_refused,
-  paren_refused,
-  names_refused,
-  task_refused,
-  withonly_read,
-  amends_refused,
-  cont_refused,
-  with_open,
-  with_read,
-}
+use Rattle.jade_parser.proofs.Compounds.{block_unopened, block_opened, block_refused, block_kept, block_read}
+use Rattle.jade_parser.proofs.Compounds.{nothing_begins, test_refused, then_refused, if_alone, other_refused}
+use Rattle.jade_parser.proofs.Compounds.{if_else, for_unnamed, for_not_in, low_refused, high_refused}
+use Rattle.jade_parser.proofs.Compounds.{body_refused, for_read, section_refused, do_refused, paren_refused}
+use Rattle.jade_parser.proofs.Compounds.{names_refused, task_refused, withonly_read, amends_refused}
+use Rattle.jade_parser.proofs.Compounds.{cont_refused, with_open, with_read}
 use Rattle.jade_parser.proofs.compound.+statement.Goals as goal
 
 pub parse_block-returns-in-Err : goal.parse_block-returns-in-Err

@@ -3,55 +3,21 @@ use Rattle.jade_syntax.specs.declared.tree.AndExpr.{roll-AndExpr}
 use Rattle.jade_syntax.specs.declared.tree.Expr.{roll-Expr}
 use Rattle.jade_syntax.specs.declared.tree.Product.{roll-Product}
 use Rattle.jade_syntax.specs.declared.tree.Sum.{roll-Sum}
-use Rattle.jade_parser.specs.Spelled.{
-  expr_parts,
-  and_parts,
-  compare_parts,
-  sum_parts,
-  product_parts,
-  unary_parts,
-  or_part,
-  and_part,
-  sum_part,
-  product_part,
-}
+use Rattle.jade_parser.specs.Spelled.{expr_parts, and_parts, compare_parts, sum_parts, product_parts}
+use Rattle.jade_parser.specs.Spelled.{unary_parts, or_part, and_part, sum_part, product_part}
 use Rattle.jade_parser.specs.steps.Machine.{Must, unary_in, product_in, compare_in, and_in}
 use Rattle.jade_parser.proofs.Spelling.{unary_opens, expr_made, and_made, sum_made, product_made}
 use Rattle.jade_parser.proofs.Reading.{whole_on, whole_under}
 use mir.Val.{SFits}
 use mir.Syntax.{w64}
 use Rattle.std.proofs.lemmas.Int.{to_z-of_z}
-use Rattle.jade_parser.proofs.Standing.{
-  called_here,
-  called_known,
-  never_shape,
-  counted_here,
-  head_fixed,
-  nothing_here,
-  odd_here,
-  no_sign_here,
-  within_here,
-}
+use Rattle.jade_parser.proofs.Standing.{called_here, called_known, never_shape, counted_here, head_fixed}
+use Rattle.jade_parser.proofs.Standing.{nothing_here, odd_here, no_sign_here, within_here}
 use Rattle.jade_parser.proofs.Chains.{chain_first, chain_more, chain_kept, chain_done}
-use Rattle.jade_parser.proofs.Steps.{
-  residual,
-  compare_first,
-  compare_second,
-  compare_both,
-  unary_refused,
-  closed_first,
-  closed_second,
-  atom_refused,
-  whole_made,
-  cell_first,
-  cell_second,
-  cell_both,
-  cell_alone,
-  truth_here,
-  group_refused,
-  group_read,
-  named_refused,
-}
+use Rattle.jade_parser.proofs.Steps.{residual, compare_first, compare_second, compare_both, unary_refused}
+use Rattle.jade_parser.proofs.Steps.{closed_first, closed_second, atom_refused, whole_made, cell_first}
+use Rattle.jade_parser.proofs.Steps.{cell_second, cell_both, cell_alone, truth_here, group_refused}
+use Rattle.jade_parser.proofs.Steps.{group_read, named_refused}
 use Rattle.jade_parser.proofs.expressions.+expr.Goals as goal
 
 pub parse_and-returns-in_err-first : goal.parse_and-returns-in_err-first
@@ -212,8 +178,8 @@ parse_unary-returns-in_err-atom t c =
 pub parse_unary-returns : goal.parse_unary-returns
 parse_unary-returns t c = rw unary_opens (whole_on c.in_ok-signs.ensures.0 c.in_ok-atom.ensures)
 
-pub parse_atom-returns-in-Odd : goal.parse_atom-returns-in-Odd
-parse_atom-returns-in-Odd t c = atom_refused _ _ c.requires.within (odd_here _ _ _ c.if-start-tokens.true c.in-Odd.is)
+pub parse_atom-returns-in-Unknown : goal.parse_atom-returns-in-Unknown
+parse_atom-returns-in-Unknown t c = atom_refused _ _ c.requires.within (odd_here _ _ _ c.if-start-tokens.true c.in-Unknown.is)
 
 pub parse_closed-returns : goal.parse_closed-returns
 parse_closed-returns t c = whole_on (whole_under (Must c.args.closer ∷ []) c.in_ok-inner.ensures) c.in_ok-at.ensures

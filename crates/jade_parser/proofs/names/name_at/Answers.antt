@@ -12,8 +12,8 @@ returns-in-Fixed c = stops_kind _ _ _ _ _ c.if-at-tokens.false c.in-Fixed.is (λ
 pub returns-in-Counted : goal.returns-in-Counted
 returns-in-Counted c = stops_kind _ _ _ _ _ c.if-at-tokens.false c.in-Counted.is (λ rest st. refl)
 
-pub returns-in-Odd : goal.returns-in-Odd
-returns-in-Odd c = stops_kind _ _ _ _ _ c.if-at-tokens.false c.in-Odd.is (λ rest st. refl)
+pub returns-in-Unknown : goal.returns-in-Unknown
+returns-in-Unknown c = stops_kind _ _ _ _ _ c.if-at-tokens.false c.in-Unknown.is (λ rest st. refl)
 
 pub unreachable-requires : goal.unreachable-requires
 unreachable-requires c = never_shape c.in-Called.text.now _

@@ -1,6 +1,5 @@
-use Rattle.std.proofs.Common.{◌≡◌, List, ◌∷◌, ap, ◌∙◌, subst}
+use Rattle.std.proofs.Common.{◌≡◌, ◌∷◌, ap, ◌∙◌}
 use Rattle.std.specs.Prelude.{reverse}
-use Rattle.name_scope.specs.Entries.{IsKept}
 use Rattle.name_scope.proofs.Kept.{last_first, kept_less, newest_kept}
 use Rattle.name_scope.proofs.scope.NameScope.end_newest.Goals as goal
 
