@@ -1,33 +1,6 @@
 -- The first object whose rights a working copy changes.
-use Rattle.std.proofs.Common.{
-  ◌≡◌,
-  ℕ,
-  ◌+◌,
-  ◌<◌,
-  ◌≤◌,
-  Bool,
-  true,
-  false,
-  cond,
-  not,
-  ◌&&◌,
-  eqb,
-  leb,
-  List,
-  [],
-  ◌∷◌,
-  length,
-  drop,
-  Option,
-  Some,
-  None,
-  MatchOption,
-  refl,
-  sym,
-  subst,
-  ◌∙◌,
-  arith,
-}
+use Rattle.std.proofs.Common.{◌≡◌, ℕ, ◌+◌, ◌<◌, ◌≤◌, Bool, true, false, cond, not, ◌&&◌, eqb, leb, List, [], ◌∷◌, length, drop, Option, Some, None}
+use Rattle.std.proofs.Common.{MatchOption, refl, sym, subst, ◌∙◌, arith}
 use Rattle.std.specs.Prelude.{slice_get, IfSome, IfNone}
 use Rattle.std.proofs.lemmas.Bool.{leb-true, le-leb, eq-eqb, ne_eqb, eqb-true}
 use Rattle.jade_base.specs.declared.place.ObjectId.{ObjectId}

@@ -1,27 +1,6 @@
 -- The order of two lists, from a place on that they have in common.
-use Rattle.std.proofs.Common.{
-  ◌≡◌,
-  ℕ,
-  ◌+◌,
-  ◌<◌,
-  ◌≤◌,
-  true,
-  false,
-  ltb,
-  min,
-  List,
-  [],
-  ◌∷◌,
-  length,
-  length-drop,
-  get_or,
-  drop,
-  refl,
-  ◌∙◌,
-  add-one,
-  drop-cons,
-  arith,
-}
+use Rattle.std.proofs.Common.{◌≡◌, ℕ, ◌+◌, ◌<◌, ◌≤◌, true, false, ltb, min, List, [], ◌∷◌, length, length-drop, get_or, drop, refl, ◌∙◌, add-one, drop-cons}
+use Rattle.std.proofs.Common.{arith}
 use Rattle.std.specs.Ordering.{nat_cmp, ordering_then}
 use Rattle.std.proofs.lemmas.Bool.{ltb-true, ltb-false}
 use Rattle.std.proofs.lemmas.List.{nil_from_length}

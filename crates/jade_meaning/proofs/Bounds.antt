@@ -1,30 +1,6 @@
 -- Each task keeps to its specification: one induction over the statements.
-use Rattle.std.proofs.Common.{
-  ◌≡◌,
-  ◌≢◌,
-  ℕ,
-  zero,
-  suc,
-  ◌<◌,
-  Bool,
-  true,
-  false,
-  List,
-  [],
-  ◌∷◌,
-  refl,
-  sym,
-  ap,
-  ◌∙◌,
-  subst,
-  Option,
-  Some,
-  None,
-  arith,
-  length,
-  get_or-set_same,
-  get_or-set_other,
-}
+use Rattle.std.proofs.Common.{◌≡◌, ◌≢◌, ℕ, zero, suc, ◌<◌, Bool, true, false, List, [], ◌∷◌, refl, sym, ap, ◌∙◌, subst, Option, Some, None, arith, length}
+use Rattle.std.proofs.Common.{get_or-set_same, get_or-set_other}
 use Rattle.std.proofs.Common.{◌⊎◌, inl, inr, ◌≤◌}
 use Rattle.std.proofs.lemmas.Bool.{ltb-true, ltb-false}
 use Rattle.std.proofs.lemmas.Bool.Decides.{eqb_tells}
@@ -38,37 +14,8 @@ use Rattle.jade_base.specs.Rights.{no_rights, both_rights, is_immediate, is_ther
 use Rattle.jade_syntax.specs.declared.tree.DeclareWord.{DeclareWord}
 use Rattle.jade_syntax.specs.declared.tree.DeclareWord.TheVariants.{Rd, Wr, RdWr, DfRd, DfWr, DfRdWr, NoRd, NoWr, NoRdWr}
 use Rattle.jade_syntax.specs.Objects.{sizes}
-use Rattle.jade_syntax.specs.Abstract.{
-  Name,
-  Expression,
-  Whole,
-  Truth,
-  Variable,
-  Group,
-  Signed,
-  Chain,
-  Cell,
-  Links,
-  Last,
-  Link,
-  Place,
-  Alone,
-  Member,
-  Action,
-  Local,
-  Assign,
-  Store,
-  If,
-  IfElse,
-  For,
-  Withonly,
-  With,
-  Declare,
-  Actions,
-  Done,
-  Then,
-  AbstractProgram,
-}
+use Rattle.jade_syntax.specs.Abstract.{Name, Expression, Whole, Truth, Variable, Group, Signed, Chain, Cell, Links, Last, Link, Place, Alone, Member}
+use Rattle.jade_syntax.specs.Abstract.{Action, Local, Assign, Store, If, IfElse, For, Withonly, With, Declare, Actions, Done, Then, AbstractProgram}
 use Rattle.jade_meaning.specs.declared.values.Value.{Value}
 use Rattle.jade_meaning.specs.declared.values.Value.TheVariants.{IntOf}
 use Rattle.jade_meaning.specs.declared.resolve.Range.{Range}
@@ -76,46 +23,9 @@ use Rattle.jade_meaning.specs.declared.resolve.ResolvedObject.{ResolvedObject}
 use Rattle.jade_meaning.specs.Values.{Given, Gives, Fails, operated, decides, signed, whole, holds, is_index, magnitude, turn_count}
 use Rattle.jade_meaning.specs.Specification.{Specification, rights_on, covers, fitted}
 use Rattle.jade_meaning.specs.Changes.{amended, declared}
-use Rattle.jade_meaning.specs.Course.{
-  Course,
-  root_spec,
-  root_course,
-  Mine,
-  On,
-  Draft,
-  NoDraft,
-  Building,
-  Amending,
-  drafted,
-  Setting,
-  finish,
-  choose,
-  step,
-  given,
-  place_of,
-  member,
-  reach,
-  read_cell,
-  write_cell,
-  bind,
-  leave,
-  scoped,
-  turns,
-  amend,
-  declare,
-  create,
-  working,
-  change,
-  child_start,
-  eval,
-  eval_links,
-  find,
-  run,
-  run_all,
-  range_from,
-  assigned,
-  inputs,
-}
+use Rattle.jade_meaning.specs.Course.{Course, root_spec, root_course, Mine, On, Draft, NoDraft, Building, Amending, drafted, Setting, finish, choose, step}
+use Rattle.jade_meaning.specs.Course.{given, place_of, member, reach, read_cell, write_cell, bind, leave, scoped, turns, amend, declare, create, working}
+use Rattle.jade_meaning.specs.Course.{change, child_start, eval, eval_links, find, run, run_all, range_from, assigned, inputs}
 use Rattle.jade_meaning.specs.Proper.{NoMore, Uncommuting, Proper, proper_read, proper_write, proper_step, proper_create, proper_change, proper_end}
 
 -- one right of some rights

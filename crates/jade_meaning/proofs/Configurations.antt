@@ -21,29 +21,8 @@ use Rattle.jade_meaning.specs.steps.Perform.{mine_of}
 use Rattle.jade_syntax.specs.declared.tree.Statement.{Statement}
 use Rattle.jade_syntax.specs.Image.{block}
 use Rattle.jade_meaning.specs.declared.frames.Frame.{Frame}
-use Rattle.jade_meaning.specs.Talk.{
-  Task,
-  Event,
-  talk,
-  start_takes,
-  start_holds,
-  TouchWrite,
-  Enroll,
-  Resign,
-  Holds,
-  first_take,
-  touched,
-  creation_gives,
-  enters,
-  kept,
-  change_gives,
-  shifts,
-  change_takes,
-  changed,
-  end_gives,
-  end_leaves,
-  events,
-}
+use Rattle.jade_meaning.specs.Talk.{Task, Event, talk, start_takes, start_holds, TouchWrite, Enroll, Resign, Holds, first_take, touched, creation_gives}
+use Rattle.jade_meaning.specs.Talk.{enters, kept, change_gives, shifts, change_takes, changed, end_gives, end_leaves, events}
 use Rattle.jade_meaning.specs.steps.Frames.{fed, transition_on, course_of, frame_on, frames_on}
 use Rattle.jade_meaning.specs.steps.Holding.{event_of, all_listed}
 use Rattle.jade_meaning.specs.steps.Configuration.{newborn_task, later, pending_of, ahead, ready, over, taken_first, task_from, Resumes, TellsTransition}

@@ -12,28 +12,8 @@ use Rattle.jade_syntax.specs.declared.tree.ValueKind.TheVariants.{Int}
 use Rattle.jade_syntax.specs.declared.tree.DeclareWord.TheVariants.{Rd, Wr, RdWr, DfWr, NoWr}
 use Rattle.jade_syntax.specs.declared.tree.SumOp.TheVariants.{Plus, Minus}
 use Rattle.jade_syntax.specs.declared.tree.ProductOp.TheVariants.{Times, Over, Remainder}
-use Rattle.jade_syntax.specs.Abstract.{
-  Adds,
-  Multiplies,
-  Whole,
-  Variable,
-  Chain,
-  Cell,
-  Last,
-  Link,
-  Alone,
-  Member,
-  Local,
-  Assign,
-  Store,
-  For,
-  Withonly,
-  With,
-  Declare,
-  Done,
-  Then,
-  AbstractProgram,
-}
+use Rattle.jade_syntax.specs.Abstract.{Adds, Multiplies, Whole, Variable, Chain, Cell, Last, Link, Alone, Member, Local, Assign, Store, For, Withonly, With}
+use Rattle.jade_syntax.specs.Abstract.{Declare, Done, Then, AbstractProgram}
 use Rattle.jade_meaning.specs.Values.{Gives, Fails, multiplied}
 use Rattle.jade_meaning.specs.declared.values.Value.TheVariants.{IntOf}
 use Rattle.jade_meaning.specs.Course.{limit_blame}

@@ -1,31 +1,6 @@
 -- Frames that are done one after another are the course of a task.
-use Rattle.std.proofs.Common.{
-  ◌≡◌,
-  ℕ,
-  suc,
-  ◌+◌,
-  ◌-◌,
-  ◌<◌,
-  ◌≤◌,
-  true,
-  false,
-  List,
-  [],
-  ◌∷◌,
-  ◌++◌,
-  length,
-  refl,
-  ap,
-  sym,
-  ◌∙◌,
-  subst,
-  drop,
-  Option,
-  Some,
-  None,
-  Ok,
-  Err,
-}
+use Rattle.std.proofs.Common.{◌≡◌, ℕ, suc, ◌+◌, ◌-◌, ◌<◌, ◌≤◌, true, false, List, [], ◌∷◌, ◌++◌, length, refl, ap, sym, ◌∙◌, subst, drop, Option, Some}
+use Rattle.std.proofs.Common.{None, Ok, Err}
 use Rattle.std.proofs.lemmas.Bool.{le-ltb, lt-ltb}
 use Rattle.std.proofs.lemmas.List.{drop_all}
 use Rattle.std.specs.Prelude.{ℤ, pos, ◌+ℤ◌, ◌<ℤ◌, ◌≤ℤ◌, slice_get, slice_set}
@@ -51,60 +26,14 @@ use Rattle.jade_meaning.specs.Values.{holds, turn_count}
 use Rattle.jade_meaning.specs.Changes.{amended, declared}
 use Rattle.jade_base.specs.Rights.{join}
 use Rattle.jade_meaning.specs.Specification.{Specification, rights_on, covers, fitted}
-use Rattle.jade_meaning.specs.Course.{
-  Course,
-  Environment,
-  Reads,
-  Writes,
-  Steps,
-  Creates,
-  Changes,
-  Ends,
-  Setting,
-  Mine,
-  On,
-  Draft,
-  NoDraft,
-  Building,
-  Amending,
-  fault,
-  choose,
-  finish,
-  bind,
-  scoped,
-  turns,
-  amend,
-  declare,
-  assigned,
-  run,
-  run_all,
-  limit_blame,
-  step,
-  create,
-  change,
-  child_start,
-  copied,
-  drafted,
-}
+use Rattle.jade_meaning.specs.Course.{Course, Environment, Reads, Writes, Steps, Creates, Changes, Ends, Setting, Mine, On, Draft, NoDraft, Building}
+use Rattle.jade_meaning.specs.Course.{Amending, fault, choose, finish, bind, scoped, turns, amend, declare, assigned, run, run_all, limit_blame, step}
+use Rattle.jade_meaning.specs.Course.{create, change, child_start, copied, drafted}
 use Rattle.jade_meaning.specs.steps.Perform.{mine_of, changed}
 use Rattle.jade_meaning.specs.steps.Direct.{blame_at, drafted_with, amended_with}
 use Rattle.jade_meaning.specs.steps.Evaluation.{Evaluation, Got, Answers, stopped, evaluate, evaluate_object}
-use Rattle.jade_meaning.specs.steps.Frames.{
-  fed,
-  Tells,
-  frame_on,
-  frames_from,
-  frames_on,
-  begun_with,
-  course_of,
-  Did,
-  from_action,
-  paused_as,
-  opened_with,
-  chosen,
-  evaluate_store,
-  evaluate_bounds,
-}
+use Rattle.jade_meaning.specs.steps.Frames.{fed, Tells, frame_on, frames_from, frames_on, begun_with, course_of, Did, from_action, paused_as, opened_with}
+use Rattle.jade_meaning.specs.steps.Frames.{chosen, evaluate_store, evaluate_bounds}
 use Rattle.jade_meaning.proofs.Cells.{drop_at}
 use Rattle.jade_meaning.proofs.Following.{turn_less, no_turn}
 use Rattle.jade_meaning.proofs.Evaluating.{fed_ends, fed_steps, fed_writes, fed_creates, fed_changes, eval_tells, find_tells, store_tells, bounds_tell}

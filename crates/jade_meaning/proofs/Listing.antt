@@ -1,28 +1,6 @@
 -- What is told object by object, gone through from the first.
-use Rattle.std.proofs.Common.{
-  ◌≡◌,
-  ℕ,
-  zero,
-  suc,
-  ◌+◌,
-  List,
-  [],
-  ◌∷◌,
-  ◌++◌,
-  map,
-  length,
-  refl,
-  ap,
-  sym,
-  ◌∙◌,
-  append_assoc,
-  Option,
-  Some,
-  None,
-  arith,
-  add-one,
-  add-zero,
-}
+use Rattle.std.proofs.Common.{◌≡◌, ℕ, zero, suc, ◌+◌, List, [], ◌∷◌, ◌++◌, map, length, refl, ap, sym, ◌∙◌, append_assoc, Option, Some, None, arith}
+use Rattle.std.proofs.Common.{add-one, add-zero}
 use Rattle.std.specs.List.{flat_map}
 use Rattle.std.proofs.lemmas.List.{map-append}
 use Rattle.jade_base.specs.declared.rights.Mode.{Mode}

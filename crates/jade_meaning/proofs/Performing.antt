@@ -8,36 +8,8 @@ use Rattle.jade_base.specs.declared.report.Blame.{Blame}
 use Rattle.jade_base.specs.declared.rights.Rights.{Rights}
 use Rattle.jade_base.specs.Rights.{is_immediate}
 use Rattle.jade_syntax.specs.declared.tree.DeclareWord.{DeclareWord}
-use Rattle.jade_syntax.specs.Abstract.{
-  Name,
-  Expression,
-  Whole,
-  Truth,
-  Variable,
-  Group,
-  Signed,
-  Chain,
-  Cell,
-  Links,
-  Last,
-  Link,
-  Place,
-  Alone,
-  Member,
-  Action,
-  Local,
-  Assign,
-  Store,
-  If,
-  IfElse,
-  For,
-  Withonly,
-  With,
-  Declare,
-  Actions,
-  Done as NoMore,
-  Then,
-}
+use Rattle.jade_syntax.specs.Abstract.{Name, Expression, Whole, Truth, Variable, Group, Signed, Chain, Cell, Links, Last, Link, Place, Alone, Member}
+use Rattle.jade_syntax.specs.Abstract.{Action, Local, Assign, Store, If, IfElse, For, Withonly, With, Declare, Actions, Done as NoMore, Then}
 use Rattle.jade_meaning.specs.declared.run_state.RunState.{RunState}
 use Rattle.jade_meaning.specs.declared.setting.Task.{Task}
 use Rattle.jade_meaning.specs.declared.values.Value.{Value}
@@ -47,78 +19,15 @@ use Rattle.jade_meaning.specs.declared.resolve.ResolvedObject.{ResolvedObject}
 use Rattle.jade_meaning.specs.Values.{Given, Gives, Fails, operated, decides, signed, whole, holds, is_index, magnitude, turn_count}
 use Rattle.jade_meaning.specs.Changes.{amended}
 use Rattle.jade_meaning.specs.Specification.{Specification, rights_on, covers, fitted}
-use Rattle.jade_meaning.specs.Course.{
-  Course,
-  Reads,
-  Writes,
-  Steps,
-  Creates,
-  Ends,
-  Setting,
-  Mine,
-  On,
-  Draft,
-  NoDraft,
-  Building,
-  Amending,
-  drafted,
-  finish,
-  fault,
-  choose,
-  step,
-  given,
-  place_of,
-  member,
-  reach,
-  read_cell,
-  write_cell,
-  bind,
-  leave,
-  scoped,
-  turns,
-  amend,
-  declare,
-  create,
-  change,
-  child_start,
-  copied,
-  assigned,
-  eval,
-  eval_links,
-  find,
-  run,
-  run_all,
-  range_from,
-  limit_blame,
-  none_of,
-}
+use Rattle.jade_meaning.specs.Course.{Course, Reads, Writes, Steps, Creates, Ends, Setting, Mine, On, Draft, NoDraft, Building, Amending, drafted, finish}
+use Rattle.jade_meaning.specs.Course.{fault, choose, step, given, place_of, member, reach, read_cell, write_cell, bind, leave, scoped, turns, amend}
+use Rattle.jade_meaning.specs.Course.{declare, create, change, child_start, copied, assigned, eval, eval_links, find, run, run_all, range_from, limit_blame}
+use Rattle.jade_meaning.specs.Course.{none_of}
 use Rattle.jade_meaning.specs.Serial.{Path, cell}
 use Rattle.jade_meaning.specs.steps.Carry.{carried, noted, put}
 use Rattle.jade_meaning.specs.steps.Direct.{◌>>=◌, blamed, blame_at, indexed, index_in, member_of, read_of, worth, linked, located, drafted_with, amended_with}
-use Rattle.jade_meaning.specs.steps.Perform.{
-  Outcome,
-  Goes,
-  Stops,
-  mine_of,
-  then_on,
-  valued,
-  with_variable,
-  begun,
-  within,
-  written,
-  turned_once,
-  turned,
-  ended,
-  child_task,
-  next_path,
-  created,
-  changed,
-  value_at,
-  object_at,
-  stored_in,
-  perform,
-  perform_all,
-}
+use Rattle.jade_meaning.specs.steps.Perform.{Outcome, Goes, Stops, mine_of, then_on, valued, with_variable, begun, within, written, turned_once, turned}
+use Rattle.jade_meaning.specs.steps.Perform.{ended, child_task, next_path, created, changed, value_at, object_at, stored_in, perform, perform_all}
 
 -- what is done with a value, or the end with a fault
 abbrev pub resumes : {A : Type 0} → Result A Blame → (A → Course) → Course

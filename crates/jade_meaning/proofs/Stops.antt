@@ -1,35 +1,6 @@
 -- A run that stops where the answer is known has the answer of the serial run.
-use Rattle.std.proofs.Common.{
-  ◌≡◌,
-  ℕ,
-  zero,
-  suc,
-  ◌+◌,
-  ◌-◌,
-  ◌<◌,
-  ◌≤◌,
-  Bool,
-  true,
-  false,
-  ◌&&◌,
-  List,
-  [],
-  ◌∷◌,
-  ◌++◌,
-  map,
-  refl,
-  sym,
-  ap,
-  ◌∙◌,
-  subst,
-  Option,
-  Some,
-  None,
-  arith,
-  append-nil,
-  append_assoc,
-  add-zero,
-}
+use Rattle.std.proofs.Common.{◌≡◌, ℕ, zero, suc, ◌+◌, ◌-◌, ◌<◌, ◌≤◌, Bool, true, false, ◌&&◌, List, [], ◌∷◌, ◌++◌, map, refl, sym, ap, ◌∙◌, subst, Option}
+use Rattle.std.proofs.Common.{Some, None, arith, append-nil, append_assoc, add-zero}
 use Rattle.std.specs.Prelude.{ℤ, nat_eq, nat_lt, if◌then◌else◌}
 use Rattle.std.specs.declared.cmp.Ordering.{Ordering}
 use Rattle.std.specs.declared.cmp.Ordering.TheVariants.{Less, Equal, Greater}
@@ -45,56 +16,13 @@ use Rattle.jade_syntax.specs.Abstract.{AbstractProgram}
 use Rattle.jade_syntax.specs.Objects.{sizes}
 use Rattle.jade_meaning.specs.Course.{Course, Reads, Writes, Steps, Creates, Changes, Ends, root_course, limit_blame}
 use Rattle.jade_meaning.specs.Talk.{Task}
-use Rattle.jade_meaning.specs.Serial.{
-  Mark,
-  Path,
-  Store,
-  Deed,
-  DidRead,
-  DidWrite,
-  DidCreate,
-  DidEnd,
-  serial,
-  own,
-  under,
-  after,
-  cell,
-  with_cell,
-  done_to,
-  zeros,
-  Part,
-  parts,
-  part_of_deed,
-  serial_run,
-}
+use Rattle.jade_meaning.specs.Serial.{Mark, Path, Store, Deed, DidRead, DidWrite, DidCreate, DidEnd, serial, own, under, after, cell, with_cell, done_to}
+use Rattle.jade_meaning.specs.Serial.{zeros, Part, parts, part_of_deed, serial_run}
 use Rattle.jade_meaning.specs.Laws.{Every, child_path}
 use Rattle.jade_base.specs.Places.{is_before, path_order}
-use Rattle.jade_meaning.specs.Answer.{
-  Answer,
-  Faulted,
-  Cells,
-  key,
-  first_fault,
-  limit_place,
-  blame_of,
-  decided,
-  Run,
-  Stopped,
-  Through,
-  noted,
-  noted_all,
-  then_on,
-  stopping,
-  run_answer,
-  run_marks,
-  accesses,
-  access_deed,
-  filed,
-  by_key,
-  parts_by_key,
-  PartsStandByKey,
-  StoppingAgrees,
-}
+use Rattle.jade_meaning.specs.Answer.{Answer, Faulted, Cells, key, first_fault, limit_place, blame_of, decided, Run, Stopped, Through, noted, noted_all}
+use Rattle.jade_meaning.specs.Answer.{then_on, stopping, run_answer, run_marks, accesses, access_deed, filed, by_key, parts_by_key, PartsStandByKey}
+use Rattle.jade_meaning.specs.Answer.{StoppingAgrees}
 
 -- going through the parts: what is left of the limit, or where it ends
 data Scan : Type 0 where

@@ -1,30 +1,6 @@
 -- Each task of the serial run says by itself what it does there.
-use Rattle.std.proofs.Common.{
-  ◌≡◌,
-  ℕ,
-  suc,
-  ◌<◌,
-  ◌≤◌,
-  Bool,
-  true,
-  false,
-  ◌&&◌,
-  List,
-  [],
-  ◌∷◌,
-  ◌++◌,
-  map,
-  refl,
-  sym,
-  ap,
-  ◌∙◌,
-  subst,
-  Option,
-  Some,
-  None,
-  arith,
-  append-nil,
-}
+use Rattle.std.proofs.Common.{◌≡◌, ℕ, suc, ◌<◌, ◌≤◌, Bool, true, false, ◌&&◌, List, [], ◌∷◌, ◌++◌, map, refl, sym, ap, ◌∙◌, subst, Option, Some, None}
+use Rattle.std.proofs.Common.{arith, append-nil}
 use Rattle.std.specs.Prelude.{slice_get, zero, ℤ, nat_eq, is_none, if◌then◌else◌}
 use Rattle.std.specs.List.{filter_map, cons_option, flat_map}
 use Rattle.std.proofs.lemmas.List.Elements.{filter_map-append}
@@ -36,74 +12,13 @@ use Rattle.jade_meaning.specs.Specification.{Specification, rights_on, objects}
 use Rattle.jade_syntax.specs.Abstract.{AbstractProgram}
 use Rattle.jade_syntax.specs.Objects.{sizes}
 use Rattle.jade_meaning.specs.Course.{Course, Reads, Writes, Steps, Creates, Changes, Ends, root_course}
-use Rattle.jade_meaning.specs.Talk.{
-  Task,
-  Event,
-  Enter,
-  Enroll,
-  TouchRead,
-  TouchWrite,
-  Wants,
-  Give,
-  Leave,
-  talk,
-  events,
-  Holds,
-  held,
-  when,
-  take_in,
-  first_take,
-  touched,
-  start_holds,
-  start_takes,
-  creation_gives,
-  enters,
-  kept,
-  change_gives,
-  shift,
-  shifts,
-  taken_anew,
-  change_takes,
-  changed,
-  end_gives,
-  end_leaves,
-}
-use Rattle.jade_meaning.specs.Serial.{
-  Mark,
-  Path,
-  Store,
-  Deed,
-  DidRead,
-  DidWrite,
-  DidCreate,
-  DidEnd,
-  serial,
-  own,
-  under,
-  after,
-  cell,
-  with_cell,
-  deeds_at,
-  read_of,
-  same_path,
-  zeros,
-}
-use Rattle.jade_meaning.specs.Laws.{
-  deed_of,
-  deeds,
-  ends_with_resign,
-  IsOver,
-  DoesIts,
-  Every,
-  ChildDoesIts,
-  child_path,
-  root_task,
-  TalkFollowsSerial,
-  Extends,
-  same_events,
-  answered,
-  one_more,
-}
+use Rattle.jade_meaning.specs.Talk.{Task, Event, Enter, Enroll, TouchRead, TouchWrite, Wants, Give, Leave, talk, events, Holds, held, when, take_in}
+use Rattle.jade_meaning.specs.Talk.{first_take, touched, start_holds, start_takes, creation_gives, enters, kept, change_gives, shift, shifts, taken_anew}
+use Rattle.jade_meaning.specs.Talk.{change_takes, changed, end_gives, end_leaves}
+use Rattle.jade_meaning.specs.Serial.{Mark, Path, Store, Deed, DidRead, DidWrite, DidCreate, DidEnd, serial, own, under, after, cell, with_cell, deeds_at}
+use Rattle.jade_meaning.specs.Serial.{read_of, same_path, zeros}
+use Rattle.jade_meaning.specs.Laws.{deed_of, deeds, ends_with_resign, IsOver, DoesIts, Every, ChildDoesIts, child_path, root_task, TalkFollowsSerial}
+use Rattle.jade_meaning.specs.Laws.{Extends, same_events, answered, one_more}
 
 -- events of which no deed tells
 abbrev IsQuiet : List Event → Type 0

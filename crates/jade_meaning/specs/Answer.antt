@@ -6,25 +6,8 @@ use Rattle.jade_base.specs.declared.report.Blame.{Blame}
 use Rattle.jade_syntax.specs.Abstract.{AbstractProgram}
 use Rattle.jade_syntax.specs.Objects.{sizes}
 use Rattle.jade_meaning.specs.Course.{Course, Reads, Writes, Steps, Creates, Changes, Ends, root_course, limit_blame}
-use Rattle.jade_meaning.specs.Serial.{
-  Path,
-  Store,
-  Mark,
-  Deed,
-  DidRead,
-  DidWrite,
-  DidCreate,
-  DidEnd,
-  own,
-  under,
-  after,
-  cell,
-  with_cell,
-  zeros,
-  Part,
-  parts,
-  serial_run,
-}
+use Rattle.jade_meaning.specs.Serial.{Path, Store, Mark, Deed, DidRead, DidWrite, DidCreate, DidEnd, own, under, after, cell, with_cell, zeros, Part, parts}
+use Rattle.jade_meaning.specs.Serial.{serial_run}
 
 -- what a program answers: the task that faults first and why, or the cells of its objects
 pub data Answer : Type 0 where

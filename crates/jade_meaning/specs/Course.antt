@@ -1,30 +1,6 @@
 -- What a task goes on to do, as a tree: each read has a branch for each value that may be read.
-use Rattle.std.specs.Prelude.{
-  ℕ,
-  zero,
-  suc,
-  ◌+◌,
-  ◌-◌,
-  Bool,
-  true,
-  false,
-  List,
-  [],
-  ◌∷◌,
-  ◌++◌,
-  length,
-  drop,
-  Option,
-  Some,
-  None,
-  ℤ,
-  pos,
-  ◌+ℤ◌,
-  nat_lt,
-  slice_set,
-  replicate,
-  if◌then◌else◌,
-}
+use Rattle.std.specs.Prelude.{ℕ, zero, suc, ◌+◌, ◌-◌, Bool, true, false, List, [], ◌∷◌, ◌++◌, length, drop, Option, Some, None, ℤ, pos, ◌+ℤ◌, nat_lt}
+use Rattle.std.specs.Prelude.{slice_set, replicate, if◌then◌else◌}
 use Rattle.jade_base.specs.declared.place.Pos.{Pos}
 use Rattle.jade_base.specs.declared.report.FaultKind.{FaultKind}
 use Rattle.jade_base.specs.declared.report.FaultKind.TheVariants.{Index, Object, Right as RightFault, Cover, Change, Limit}
@@ -34,37 +10,8 @@ use Rattle.jade_base.specs.Rights.{no_rights, both_rights, is_immediate, join}
 use Rattle.jade_syntax.specs.declared.tree.Item.{Item}
 use Rattle.jade_syntax.specs.declared.tree.Item.TheVariants.{Input, Single, Family}
 use Rattle.jade_syntax.specs.declared.tree.DeclareWord.{DeclareWord}
-use Rattle.jade_syntax.specs.Abstract.{
-  Name,
-  Expression,
-  Whole,
-  Truth,
-  Variable,
-  Group,
-  Signed,
-  Chain,
-  Cell,
-  Links,
-  Last,
-  Link,
-  Place,
-  Alone,
-  Member,
-  Action,
-  Local,
-  Assign,
-  Store,
-  If,
-  IfElse,
-  For,
-  Withonly,
-  With,
-  Declare,
-  Actions,
-  Done,
-  Then,
-  AbstractProgram,
-}
+use Rattle.jade_syntax.specs.Abstract.{Name, Expression, Whole, Truth, Variable, Group, Signed, Chain, Cell, Links, Last, Link, Place, Alone, Member}
+use Rattle.jade_syntax.specs.Abstract.{Action, Local, Assign, Store, If, IfElse, For, Withonly, With, Declare, Actions, Done, Then, AbstractProgram}
 use Rattle.jade_syntax.specs.Numbering.{same_name}
 use Rattle.jade_syntax.specs.Objects.{amount, sizes}
 use Rattle.jade_meaning.specs.declared.values.Value.{Value}

@@ -237,6 +237,7 @@ impl<'c> Walker<'c> {
         ensures unchanged { OnErr result (self.new ≡ self.old) }
     {
         let done = counted(self.done)?;
+        // Never so: an answer is used only where there is one.
         if self.configuration.run.used > self.answers.len() {
             return Err(Memory);
         }

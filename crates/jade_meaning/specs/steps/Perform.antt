@@ -5,24 +5,8 @@ use Rattle.jade_base.specs.declared.report.FaultKind.TheVariants.{Index, Right a
 use Rattle.jade_base.specs.declared.report.Blame.{Blame}
 use Rattle.jade_base.specs.Rights.{is_immediate}
 use Rattle.jade_syntax.specs.declared.tree.DeclareWord.{DeclareWord}
-use Rattle.jade_syntax.specs.Abstract.{
-  Name,
-  Expression,
-  Place,
-  Action,
-  Local,
-  Assign,
-  Store,
-  If,
-  IfElse,
-  For,
-  Withonly,
-  With,
-  Declare,
-  Actions,
-  Done as NoMore,
-  Then,
-}
+use Rattle.jade_syntax.specs.Abstract.{Name, Expression, Place, Action, Local, Assign, Store, If, IfElse, For, Withonly, With, Declare, Actions}
+use Rattle.jade_syntax.specs.Abstract.{Done as NoMore, Then}
 use Rattle.jade_meaning.specs.declared.run_state.RunState.{RunState}
 use Rattle.jade_meaning.specs.declared.setting.Setting.{Setting as SettingOf}
 use Rattle.jade_meaning.specs.declared.setting.Task.{Task}
@@ -33,21 +17,8 @@ use Rattle.jade_meaning.specs.declared.values.Value.TheVariants.{IntOf}
 use Rattle.jade_meaning.specs.declared.resolve.ResolvedObject.{ResolvedObject}
 use Rattle.jade_meaning.specs.Values.{whole, holds, turn_count}
 use Rattle.jade_meaning.specs.Specification.{Specification, rights_on, covers, fitted}
-use Rattle.jade_meaning.specs.Course.{
-  Environment,
-  Setting,
-  Mine,
-  NoDraft,
-  Building,
-  Amending,
-  assigned,
-  copied,
-  drafted,
-  working,
-  limit_blame,
-  none_of,
-  place_of,
-}
+use Rattle.jade_meaning.specs.Course.{Environment, Setting, Mine, NoDraft, Building, Amending, assigned, copied, drafted, working, limit_blame, none_of}
+use Rattle.jade_meaning.specs.Course.{place_of}
 use Rattle.jade_meaning.specs.Serial.{Path}
 use Rattle.jade_meaning.specs.steps.Carry.{noted, put}
 use Rattle.jade_meaning.specs.steps.Direct.{worth, located, blame_at, indexed, index_in, drafted_with}

@@ -3,33 +3,13 @@ use Rattle.jade_syntax.specs.declared.tree.AndExpr.{out-AndExpr}
 use Rattle.jade_syntax.specs.declared.tree.Expr.{out-Expr}
 use Rattle.jade_syntax.specs.declared.tree.Product.{out-Product}
 use Rattle.jade_syntax.specs.declared.tree.Sum.{out-Sum}
-use Rattle.jade_syntax.specs.Image.{
-  forms,
-  expression,
-  and_expression,
-  compare_expression,
-  sum_expression,
-  product_expression,
-  unary_expression,
-  atom_expression,
-}
+use Rattle.jade_syntax.specs.Image.{forms, expression, and_expression, compare_expression, sum_expression, product_expression, unary_expression}
+use Rattle.jade_syntax.specs.Image.{atom_expression}
 use Rattle.jade_meaning.specs.steps.Direct.{blamed}
 use Rattle.jade_meaning.specs.steps.Evaluation.{source, evaluate}
 use Rattle.jade_syntax.proofs.Opened.{expr_opens, and_opens, sum_opens, product_opens, unary_opens}
-use Rattle.jade_meaning.proofs.Chaining.{
-  begins,
-  decided,
-  more,
-  more_not,
-  more_fails,
-  sign_more,
-  sign_fails,
-  sign_not,
-  adds_on,
-  multiplies_on,
-  or_gives,
-  and_gives,
-}
+use Rattle.jade_meaning.proofs.Chaining.{begins, decided, more, more_not, more_fails, sign_more, sign_fails, sign_not, adds_on, multiplies_on, or_gives}
+use Rattle.jade_meaning.proofs.Chaining.{and_gives}
 use Rattle.jade_meaning.proofs.setting.Setting.+evaluate.Goals as goal
 
 pub evaluate-loop-i-init : goal.evaluate-loop-i-init
