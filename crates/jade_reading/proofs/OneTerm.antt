@@ -297,7 +297,7 @@ module _ (to : Pos → Pos) where
     atom_same (Atom-F.Cell x) (Atom-F.Named m q) r s fr fs k =
         absurd (alone m q (c x.value) s r fs (like_sym to (cell_parts (c x.value) ++ r) (marked (Called m) q ∷ s) k))
     atom_same (Atom-F.Cell x) (Atom-F.Cell y) r s fr fs k = let w = (cells x.value).by y.value r s fr fs k in
-        record { image = λ i. syntax.Cell (w.image i).object (w.image i).cell; rest = w.rest }
+        record { image = λ i. syntax.Cell (w.image i).place (w.image i).cell; rest = w.rest }
 
     atom_layer : (y : Atom-F A B C D E F G H) → One to (moved to) 0 atom_parts atom_term (spelt y) (shown y)
     atom_layer y = record {

@@ -15,7 +15,19 @@ use Rattle.jade_syntax.specs.declared.tree.DeclareWord.TheVariants.{Rd, Wr, RdWr
 use Rattle.jade_syntax.specs.declared.tree.Statement.{Statement, map-Statement, fold-roll-Statement, ind-Statement}
 use Rattle.jade_syntax.specs.declared.tree.Statement.TheOpen.{Statement-F}
 use Rattle.jade_syntax.specs.Shapes as shapes
-use Rattle.jade_syntax.specs.Shapes.{signs, name_extent, ◌⊕◌, all_of, in_brackets, outermost, target_extent, object_extent, names_extent, statement_extent, block_extent}
+use Rattle.jade_syntax.specs.Shapes.{
+  signs,
+  name_extent,
+  ◌⊕◌,
+  all_of,
+  in_brackets,
+  outermost,
+  target_extent,
+  object_extent,
+  names_extent,
+  statement_extent,
+  block_extent,
+}
 use Rattle.jade_parser.specs.declared.Sign.{Sign}
 use Rattle.jade_parser.specs.declared.Sign.TheVariants.{LeftBracket, RightBracket, LeftParen, RightParen}
 use Rattle.jade_parser.specs.declared.Sign.TheVariants.{LeftBrace, RightBrace, Becomes, Semicolon, Comma}
