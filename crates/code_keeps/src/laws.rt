@@ -1,0 +1,14 @@
+//! Which rules the code of every program keeps, also of one with static faults.
+
+ghost use Rattle.jade_syntax.specs.Abstract.{AbstractProgram};
+ghost use Rattle.code_keeps.specs.Keeps.{KeepsSlots, KeepsPlaces};
+
+/// Each slot that the code of a program names is there.
+pub fn keeps_slots()
+    ensures { (p : AbstractProgram) → KeepsSlots p }
+{}
+
+/// Each place to which the code of a program may go is there.
+pub fn keeps_places()
+    ensures { (p : AbstractProgram) → KeepsPlaces p }
+{}
