@@ -30,13 +30,20 @@ room_covers calls least (y ∷ code) (suc place) x h =
     let most = le-max_right (needs calls y) (room calls least code) in
     omega (arith, rest, most)
 
+pub room_least : (calls : Calls) (least : ℕ) (code : List Instruction) → least ≤ room calls least code
+room_least calls least [] = omega arith
+room_least calls least (y ∷ code) =
+    let rest = room_least calls least code in
+    let most = le-max_right (needs calls y) (room calls least code) in
+    omega (arith, rest, most)
+
 first : (a b n : ℕ) → max a b ≤ n → a ≤ n
 first a b n h = let l = le-max_left a b in omega (arith, l, h)
 
 second : (a b n : ℕ) → max a b ≤ n → b ≤ n
 second a b n h = let l = le-max_right a b in omega (arith, l, h)
 
-and_true : (a b : Bool) → a ≡ true → b ≡ true → (a && b) ≡ true
+pub and_true : (a b : Bool) → a ≡ true → b ≡ true → (a && b) ≡ true
 and_true a b h g = ap₂ (λ x y. x && y) h g
 
 there : (n : ℕ) (o : Operand) → reach o ≤ n → is_there n o ≡ true

@@ -1,6 +1,7 @@
 -- The code of a program stays among its instructions.
 use Rattle.std.proofs.Common.{◌≡◌, ℕ, zero, suc, ◌+◌, ◌≤◌, List, [], ◌∷◌, ◌++◌, length, true, Option, Some, None, refl, sym, ap, ◌∙◌, subst, arith, length-append}
-use Rattle.std.specs.Prelude.{slice_get}
+use Rattle.std.specs.Prelude.{◌||◌, slice_get, nat_lt, nat_le, nat_eq}
+use Rattle.std.proofs.lemmas.Bool.{lt-ltb, le-leb, eq-eqb}
 use Rattle.std.proofs.lemmas.Option.{none-some, same_Some}
 use Rattle.jade_base.specs.declared.place.Pos.{Pos}
 use Rattle.jade_syntax.specs.declared.tree.Item.{Item}
@@ -10,11 +11,11 @@ use Rattle.code_meaning.specs.declared.code.Operand.{Operand}
 use Rattle.code_meaning.specs.declared.code.Instruction.{Instruction}
 use Rattle.code_meaning.specs.declared.code.Instruction.TheVariants as i
 use Rattle.code_meaning.specs.Meaning.{Body}
-use Rattle.task_translation.specs.Room.{with_slots, calls_of}
+use Rattle.task_translation.specs.Room.{room, with_slots, calls_of}
 use Rattle.task_translation.specs.Compile.{Scope, entry, slot_of, brought, stored, operand_of, operand_at, unless, range_of, member_read, member_reached, code_of, code_of_links, code_at, code_of_place, store_code, call_of, inputs_in, given_scope, parameters, scope_after, next_after, bodies_in, bodies_in_all, code_for, code_for_all, body_for, bodies_for, bodies_for_all, unsized, compiled}
-use Rattle.task_code.specs.Rules.{places_are_there}
-use Rattle.code_keeps.specs.Keeps.{KeepsPlaces}
-use Rattle.code_keeps.proofs.Rooms.{from_map}
+use Rattle.task_code.specs.Rules.{begins, places_are_there}
+use Rattle.code_keeps.specs.Keeps.{whole_code, KeepsPlaces, KeepsBeginnings}
+use Rattle.code_keeps.proofs.Rooms.{from_map, and_true, room_least}
 use Rattle.code_keeps.proofs.Insides.{Inside, none_inside, both_inside, before_inside, alone_inside, loop_inside, ends_well}
 
 brought_inside : (t : ℕ) (o : Option Operand) → Inside (brought t o)
@@ -118,6 +119,7 @@ module _ (items : List Item) where
 
 -- the places of a body are there
 record Kept (b : Body) : Type 0 where
+  pub some : nat_lt 0 (length b.code) ≡ true
   pub each : (p : ℕ) (x : Instruction) → slice_get b.code p ≡ Some x → places_are_there b.code p x ≡ true
 
 record AllKept (bodies : List Body) : Type 0 where
@@ -139,7 +141,13 @@ both_bodies (x ∷ a) b f g = one_body x (a ++ b) (f.body 0 x refl) (both_bodies
 
 module _ (items : List Item) where
   body_kept : (call : List Operand) (names : List Name) (b : ℕ) (body : Actions) → Kept (body_for items call names b body)
-  body_kept call names b body = record { each = ends_well _ (all_inside items body (parameters items names) (inputs_in items + length names) b) }
+  body_kept call names b body =
+      let code = code_for_all items (parameters items names) (inputs_in items + length names) b body in
+      let long = length-append code (i.Finish ∷ []) in
+      record {
+        some = lt-ltb 0 (length (code ++ (i.Finish ∷ []))) (omega (arith, long));
+        each = ends_well code (all_inside items body (parameters items names) (inputs_in items + length names) b);
+      }
 
   mutual
     for_kept : (a : Action) (scope : Scope) (n b : ℕ) → AllKept (bodies_for items scope n b a)
@@ -168,3 +176,22 @@ keeps_places p own place b x at here =
     let all = one_body _ _ (body_kept p.items [] [] 1 p.main) (all_kept p.items p.main (given_scope p.items) (inputs_in p.items + 0) 1) in
     let P : Body → Type 0 = λ c. slice_get c.code place ≡ Some x → places_are_there c.code place x ≡ true in
     subst P from.2 (λ h. (all.body own from.0 from.1).each place x h) here
+
+-- the first body is given nothing
+first_given : (x : Body) (rest : List Body) (own : ℕ) (c : Body) → length x.call ≡ 0 → slice_get (x ∷ rest) own ≡ Some c → (nat_lt 0 own || nat_eq (length c.call) 0) ≡ true
+first_given x rest zero c e h = subst (λ (d : Body). nat_eq (length d.call) 0 ≡ true) (same_Some x c h) (eq-eqb (length x.call) 0 e)
+first_given x rest (suc own) c e h = ap (λ t. t || nat_eq (length c.call) 0) (lt-ltb 0 (suc own) (omega arith))
+
+pub keeps_beginnings : (p : AbstractProgram) → KeepsBeginnings p
+keeps_beginnings p own b at =
+    let calls = calls_of (unsized p) in
+    let f = with_slots (inputs_in p.items) calls in
+    let from = from_map f (unsized p) own b at in
+    let c = from.0 in
+    let least = inputs_in p.items + length c.call in
+    let all = one_body _ _ (body_kept p.items [] [] 1 p.main) (all_kept p.items p.main (given_scope p.items) (inputs_in p.items + 0) 1) in
+    let P : Body → Type 0 = λ d. begins (whole_code p) own d ≡ true in
+    subst P from.2
+    (and_true _ _
+    (and_true (nat_lt 0 (length c.code)) (nat_le least (room calls least c.code)) (all.body own c from.1).some (le-leb least (room calls least c.code) (room_least calls least c.code)))
+    (first_given _ _ own c refl from.1))
