@@ -1,0 +1,4 @@
+//! Laws: the code of every program keeps the rules on beginnings, on slots and on places.
+#![tactic(auto)]
+
+pub mod laws;
