@@ -19,9 +19,38 @@ use denote.Bor.{Bor}
 use Rattle.jade_run.specs.declared.answer.Answer.{Answer as AnswerOf}
 use Rattle.jade_run.specs.declared.answer.ReadError.{ReadError}
 use Rattle.jade_run.specs.declared.answer.ReadError.TheVariants.{Refused as NotRead, Memory as Unread}
-use Rattle.jade_run.specs.Outcome.{IsOutcome, IsAnswered, IsGood, Shows, IsShown, IsTested, IsCommanded, IsNotRead, OnRefused, RefusedAs, RefusedFor,
-    IsAllowed, IsLimited, usage, too_long, run, serial, check, show, refused, answered, miscounted, good, not_good, shown, not_shown, unread, first_place,
-    answer_status, input_count}
+use Rattle.jade_run.specs.Outcome.{
+  IsOutcome,
+  IsAnswered,
+  IsGood,
+  Shows,
+  IsShown,
+  IsTested,
+  IsCommanded,
+  IsNotRead,
+  OnRefused,
+  RefusedAs,
+  RefusedFor,
+  IsAllowed,
+  IsLimited,
+  usage,
+  too_long,
+  run,
+  serial,
+  check,
+  show,
+  refused,
+  answered,
+  miscounted,
+  good,
+  not_good,
+  shown,
+  not_shown,
+  unread,
+  first_place,
+  answer_status,
+  input_count,
+}
 use Rattle.jade_run.specs.Texts.{usage_text, refused_text, numbers_text, ok_text}
 use Rattle.jade_run.specs.Words.{SpellsExecution, AcceptsWords, RefusesWords, Asks, IsUsage, to_run, to_serial, to_check, to_show}
 use Rattle.jade_meaning.specs.Answer.{Answer, Faulted, Cells, answer}
@@ -116,8 +145,12 @@ commanded words Show bytes text status asked within h = show asked within h
 pub command_answers : (words : List (List ℕ)) (before after : Option (List ℕ)) (c : Command) (bytes read text : List ℕ) (status : Status) → Asks words c →
     WholeText before after bytes → read ≡ bytes → IsCommanded c read text status → Answers words before after text status
 command_answers words before after c bytes read text status asked whole all h = record {
-  comes = record { bytes = bytes; told = whole.whole; outcome =
-      commanded words c bytes text status asked whole.within (let P : List ℕ → Type 0 = λ z. IsCommanded c z text status in subst P all h) };
+  comes = record {
+    bytes = bytes;
+    told = whole.whole;
+    outcome =
+        commanded words c bytes text status asked whole.within (let P : List ℕ → Type 0 = λ z. IsCommanded c z text status in subst P all h);
+  };
   read = λ b e.
       let same : bytes ≡ b = whole.whole b e in
       let within : length b ≤ 1048577 = subst (λ z. length z ≤ 1048577) same (omega (arith, whole.within)) in

@@ -1,6 +1,32 @@
 -- What the first fault and the place of the limit are, in lists that stand by ascending key.
-use Rattle.std.proofs.Common.{◌≡◌, ℕ, zero, suc, ◌+◌, ◌-◌, ◌<◌, ◌≤◌, true, false, List, [], ◌∷◌, map, take, get_or, Option, Some, None, IfSome, refl, ap, sym,
-    ◌∙◌, arith, subst}
+use Rattle.std.proofs.Common.{
+  ◌≡◌,
+  ℕ,
+  zero,
+  suc,
+  ◌+◌,
+  ◌-◌,
+  ◌<◌,
+  ◌≤◌,
+  true,
+  false,
+  List,
+  [],
+  ◌∷◌,
+  map,
+  take,
+  get_or,
+  Option,
+  Some,
+  None,
+  IfSome,
+  refl,
+  ap,
+  sym,
+  ◌∙◌,
+  arith,
+  subst,
+}
 use denote.Bor.{Bor}
 use Rattle.std.specs.Prelude.{IfNone, if◌then◌else◌}
 use Rattle.std.specs.List.{slice_get}

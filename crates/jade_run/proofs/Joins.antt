@@ -23,7 +23,7 @@ join_more c f xs (suc i) x h =
     let lt = slice_get_within xs (suc i) x h in
     let some : 0 < length (map f (take (suc i) xs)) = simp (length-map, length-take-le (suc i) xs (omega arith)) (omega arith) in
     rw (take_more xs (suc i) x lt, get_or_from_slice_get xs (suc i) x x h, map-append f (take (suc i) xs) (x ∷ []))
-        (join_last c (map f (take (suc i) xs)) (f x) some)
+    (join_last c (map f (take (suc i) xs)) (f x) some)
 
 -- a text to which an item was added, after what stands between
 pub text_more : {A : Type 0} (c : ℕ) (f : A → List ℕ) (xs : List A) (i : ℕ) (x : A) (t0 t1 t2 t3 : List ℕ) → slice_get xs i ≡ Some x →

@@ -1,6 +1,33 @@
 -- The lines of objects, one more at a time.
-use Rattle.std.proofs.Common.{◌≡◌, ℕ, ◌+◌, ◌≤◌, ◌⊎◌, inl, inr, List, [], ◌∷◌, ◌++◌, length, take, replicate, Some, refl, ap, sym, ◌∙◌, arith, zero, suc,
-    append_assoc, append-nil, length-append, ℤ, add-one}
+use Rattle.std.proofs.Common.{
+  ◌≡◌,
+  ℕ,
+  ◌+◌,
+  ◌≤◌,
+  ◌⊎◌,
+  inl,
+  inr,
+  List,
+  [],
+  ◌∷◌,
+  ◌++◌,
+  length,
+  take,
+  replicate,
+  Some,
+  refl,
+  ap,
+  sym,
+  ◌∙◌,
+  arith,
+  zero,
+  suc,
+  append_assoc,
+  append-nil,
+  length-append,
+  ℤ,
+  add-one,
+}
 use Rattle.std.specs.List.{slice_get}
 use Rattle.jade_syntax.specs.declared.tree.Item.{Item}
 use Rattle.jade_syntax.specs.declared.tree.Item.TheVariants as item
@@ -39,7 +66,7 @@ lines_more (x ∷ ls) (y ∷ cs) zero l c h k =
     append-nil (object_text x y) ∙ ap (λ z. object_text z y) p ∙ ap (λ z. object_text l z) q
 lines_more (x ∷ ls) (y ∷ cs) (suc i) l c h k =
     rw (add-one (suc i)) (ap (λ t. object_text x y ++ t) (sym (ap (λ n. objects_text (take n ls) (take n cs)) (add-one i)) ∙ lines_more ls cs i l c h k) ∙ sym
-        (append_assoc (object_text x y) (objects_text (take i ls) (take i cs)) (object_text l c)))
+    (append_assoc (object_text x y) (objects_text (take i ls) (take i cs)) (object_text l c)))
 
 less : (a b n : ℕ) → (suc a ≤ suc n) ⊎ (suc b ≤ suc n) → (a ≤ n) ⊎ (b ≤ n)
 less a b n h = elim h [ inl p ↦ inl (omega arith) | inr q ↦ inr (omega arith) ]

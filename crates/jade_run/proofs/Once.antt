@@ -30,14 +30,57 @@ use Rattle.jade_parser.specs.Grammar.{IsReading, IsRefusal, bytes_of}
 use Rattle.jade_parser.specs.Programs.{program_parts}
 use Rattle.jade_parser.specs.OneReading.{SameRefusal, IsMemory}
 use Rattle.jade_reading.specs.Reading.{ReadsAs}
-use Rattle.jade_run.specs.Outcome.{IsOutcome, IsAnswered, IsGood, IsShown, IsTested, RefusedAs, RefusedFor, SameOutcome, usage, too_long, run, serial, check,
-    show, refused, answered, miscounted, good, not_good, shown, not_shown, unread, wrong, byte, number, deep, token, long, first_place, answer_text,
-    answer_status, input_count}
+use Rattle.jade_run.specs.Outcome.{
+  IsOutcome,
+  IsAnswered,
+  IsGood,
+  IsShown,
+  IsTested,
+  RefusedAs,
+  RefusedFor,
+  SameOutcome,
+  usage,
+  too_long,
+  run,
+  serial,
+  check,
+  show,
+  refused,
+  answered,
+  miscounted,
+  good,
+  not_good,
+  shown,
+  not_shown,
+  unread,
+  wrong,
+  byte,
+  number,
+  deep,
+  token,
+  long,
+  first_place,
+  answer_text,
+  answer_status,
+  input_count,
+}
 use Rattle.jade_run.specs.Texts.{refused_text, usage_text, numbers_text, static_word}
 use Rattle.jade_run.proofs.Naming.{firsts, rests, two_names, run_serial, run_check, run_show, serial_check, serial_show, check_show, swapped}
 use Rattle.jade_run.proofs.Signed.{small, and_first, and_second}
-use Rattle.jade_run.specs.Words.{is_number, SpellsExecution, RunWords, SerialWords, CheckWords, ShowWords, AcceptsWords, RefusesWords, to_run, to_serial,
-    to_check, to_show}
+use Rattle.jade_run.specs.Words.{
+  is_number,
+  SpellsExecution,
+  RunWords,
+  SerialWords,
+  CheckWords,
+  ShowWords,
+  AcceptsWords,
+  RefusesWords,
+  to_run,
+  to_serial,
+  to_check,
+  to_show,
+}
 
 -- ---- words ask for one thing
 
@@ -60,7 +103,7 @@ one_execution : (words : List (List ℕ)) (l m : ℕ) (xs ys : List ℤ) → Spe
 one_execution words l m xs ys h k =
     let two : h.first ∷ h.more ≡ k.first ∷ k.more = sym h.two ∙ k.two in
     let limit : l ≡ m = decimal_injective l m (omega (arith, h.steps.within)) (omega (arith, k.steps.within))
-        (sym h.steps.spelled ∙ firsts _ _ _ _ two ∙ k.steps.spelled) in
+    (sym h.steps.spelled ∙ firsts _ _ _ _ two ∙ k.steps.spelled) in
     let numbers : xs ≡ ys = numbers_are xs ys h.given.fit k.given.fit (sym h.given.spelled ∙ rests _ _ _ _ two ∙ k.given.spelled) in
     ap (λ n. Executes n xs) limit ∙ ap (Executes m) numbers
 
@@ -214,7 +257,7 @@ good_or_refused : Parses → (bytes : List ℕ) (x : Program) (p : Pos) (v : Lis
 good_or_refused law bytes x p v g (unread h) = read_and_refused law bytes x p v g.reads h
 good_or_refused law bytes x p v g (wrong h) =
     none_or_some _ (first_fault (static_faults (placed_program h.tree)))
-        (ap (λ q. first_fault (static_faults q)) (sym (same_placed law bytes x h.tree g.reads h.reads)) ∙ ap first_fault g.faultless) h.first
+    (ap (λ q. first_fault (static_faults q)) (sym (same_placed law bytes x h.tree g.reads h.reads)) ∙ ap first_fault g.faultless) h.first
 
 some_is : (f g : StaticFault) → Some f ≡ Some g → f ≡ g
 some_is f g e = cc
@@ -343,7 +386,10 @@ completes one words bytes room Numbers before after told roomy f g h =
     record { reads = λ e. cc; ends = ended (λ b w. one w b) words bytes room Numbers before after told h }
 completes one words bytes room Memory before after told roomy f g h = record { reads = λ e. cc; ends = λ text wanted outcome fits. inr refl }
 completes one words bytes room Writing before after told roomy f g h =
-    record { reads = λ e. cc; ends =
-        λ text wanted outcome fits. absurd (part (λ b w. one w b) words bytes room before after told roomy h text wanted outcome fits) }
+    record {
+      reads = λ e. cc;
+      ends =
+          λ text wanted outcome fits. absurd (part (λ b w. one w b) words bytes room before after told roomy h text wanted outcome fits);
+    }
 completes one words bytes room Reading before after told roomy f g h =
     absurd (elim h.rose [ inl p ↦ omega arith | inr q ↦ omega arith ])

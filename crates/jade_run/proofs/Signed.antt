@@ -1,6 +1,36 @@
 -- Numbers with their signs.
-use Rattle.std.proofs.Common.{◌≡◌, ℕ, zero, suc, ◌<◌, ◌≤◌, ◌^◌, Bool, true, false, ◌&&◌, ℤ, pos, negsuc, List, [], ◌∷◌, map, Result, Ok, Some, refl, ap, sym,
-    ◌∙◌, arith, w64, FitsSigned, to_z, of_z}
+use Rattle.std.proofs.Common.{
+  ◌≡◌,
+  ℕ,
+  zero,
+  suc,
+  ◌<◌,
+  ◌≤◌,
+  ◌^◌,
+  Bool,
+  true,
+  false,
+  ◌&&◌,
+  ℤ,
+  pos,
+  negsuc,
+  List,
+  [],
+  ◌∷◌,
+  map,
+  Result,
+  Ok,
+  Some,
+  refl,
+  ap,
+  sym,
+  ◌∙◌,
+  arith,
+  w64,
+  FitsSigned,
+  to_z,
+  of_z,
+}
 use Rattle.std.proofs.Math.Facts.{to_z-of_z}
 use Rattle.std.specs.Int.Signed.{mag}
 use borrow.Author.Rules.{sfits_of}

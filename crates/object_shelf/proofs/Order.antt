@@ -62,8 +62,8 @@ before-trans (i ∷ p) (j ∷ q) (k ∷ r) h g = head i j k (stands_before p q) 
     head : (i j k : ℕ) (a b c : Bool) → (a ≡ true → b ≡ true → c ≡ true) → nat_lt i j || (nat_eq i j && a) ≡ true → nat_lt j k || (nat_eq j k && b) ≡ true → nat_lt i k || (nat_eq i k && c) ≡ true
     head i j k true true true f h g = grind (arith, nat_tests)
     head i j k true true false f h g = absurd (let x = f refl refl in cc)
-    head i j k true false c f h g = elim c [ | true ↦ grind (arith, nat_tests) | false ↦ grind (arith, nat_tests) ]
-    head i j k false b c f h g = elim b [ | true ↦ elim c [ | true ↦ grind (arith, nat_tests) | false ↦ grind (arith, nat_tests) ] | false ↦ elim c [ | true ↦ grind (arith, nat_tests) | false ↦ grind (arith, nat_tests) ] ]
+    head i j k true false c f h g = elim c [ true ↦ grind (arith, nat_tests) | false ↦ grind (arith, nat_tests) ]
+    head i j k false b c f h g = elim b [ true ↦ elim c [ true ↦ grind (arith, nat_tests) | false ↦ grind (arith, nat_tests) ] | false ↦ elim c [ true ↦ grind (arith, nat_tests) | false ↦ grind (arith, nat_tests) ] ]
 
 -- of two others one stands before the other
 pub before-total : (p q : List ℕ) → stands_before q p ≡ false → same_path p q ≡ false → stands_before p q ≡ true
@@ -75,9 +75,9 @@ before-total (i ∷ p) (j ∷ q) h g = head i j (stands_before q p) (same_path p
     head : (i j : ℕ) (a s b : Bool) → (a ≡ false → s ≡ false → b ≡ true) → nat_lt j i || (nat_eq j i && a) ≡ false → nat_eq i j && s ≡ false → nat_lt i j || (nat_eq i j && b) ≡ true
     head i j false false true f h g = grind (arith, nat_tests)
     head i j false false false f h g = absurd (let x = f refl refl in cc)
-    head i j true s true f h g = elim s [ | true ↦ grind (arith, nat_tests) | false ↦ grind (arith, nat_tests) ]
-    head i j true s false f h g = elim s [ | true ↦ grind (arith, nat_tests) | false ↦ grind (arith, nat_tests) ]
-    head i j false true b f h g = elim b [ | true ↦ grind (arith, nat_tests) | false ↦ grind (arith, nat_tests) ]
+    head i j true s true f h g = elim s [ true ↦ grind (arith, nat_tests) | false ↦ grind (arith, nat_tests) ]
+    head i j true s false f h g = elim s [ true ↦ grind (arith, nat_tests) | false ↦ grind (arith, nat_tests) ]
+    head i j false true b f h g = elim b [ true ↦ grind (arith, nat_tests) | false ↦ grind (arith, nat_tests) ]
 
 -- what stands before the first entry of some stands before them all
 pub further : (p q : List ℕ) (es : List Entry) → stands_before p q ≡ true → before_all q es ≡ true → before_all p es ≡ true
@@ -158,6 +158,7 @@ missed p (x ∷ es) n e o r lt q h = go (missed p es) (stands_before x.path p) r
   where
     all : before_all x.path es ≡ true
     all = and-left (before_all x.path es) (is_ordered es) o
+
     go : ((m : ℕ) (f : Entry) → is_ordered es ≡ true → m ≡ rank p es → m < length es → f ≡ slice_index_or es m f → same_path p f.path ≡ false → length es ≡ place_in p es) → (b : Bool) → stands_before x.path p ≡ b → (n : ℕ) → n ≡ (if b then suc (rank p es) else 0) → n < suc (length es) → e ≡ slice_index_or (x ∷ es) n e → suc (length es) ≡ place_in p (x ∷ es)
     go f true w zero r lt q = absurd (omega arith)
     go f true w (suc n) r lt q =
@@ -235,8 +236,10 @@ entered-ordered p c a (e ∷ es) h g = go (entered-ordered p c a es) (same_path 
   where
     l : before_all e.path es ≡ true
     l = and-left (before_all e.path es) (is_ordered es) h
+
     r : is_ordered es ≡ true
     r = and-right (before_all e.path es) (is_ordered es) h
+
     go : (is_ordered es ≡ true → fits p c es ≡ true → is_ordered (entered_in p c a es) ≡ true) → (b : Bool) → (if b then stands_before c e.path else (stands_before e.path c && fits p c es)) ≡ true → is_ordered (if b then newborn c a e ∷ (e ∷ es) else e ∷ entered_in p c a es) ≡ true
     go f true g = and-both (before_all c (e ∷ es)) (is_ordered (e ∷ es)) (and-both (stands_before c e.path) (before_all c es) g (further c e.path es g l)) h
     go f false g =
@@ -273,6 +276,7 @@ fits-there p c (e ∷ es) h lt = go (fits-there p c es) (same_path p e.path) lt
   where
     r : is_ordered es ≡ true
     r = and-right (before_all e.path es) (is_ordered es) h
+
     go : (is_ordered es ≡ true → place_in p es < length es → fits_at (place_in p es) c es ≡ fits p c es) → (b : Bool) → (if b then 0 else suc (place_in p es)) < suc (length es) → fits_at (if b then 0 else suc (place_in p es)) c (e ∷ es) ≡ (if b then stands_before c e.path else (stands_before e.path c && fits p c es))
     go f true lt = refl
     go f false lt = within c e es (place_in p es) h (omega arith) ∙ ap (λ b. stands_before e.path c && b) (f r (omega arith))

@@ -46,9 +46,11 @@ at-out p f k (x ∷ es) h = go (same_path p x.path) (at-out p f k es) h
     first : (a b c : Bool) → (a ≡ true → b ≡ true) → a || c ≡ true → b || c ≡ true
     first true b c f h = or-left b c (f refl)
     first false b c f h = or-right b c h
+
     rest : (a b c : Bool) → (b ≡ true → c ≡ true) → a || b ≡ true → a || c ≡ true
     rest true b c f h = refl
     rest false b c f h = f h
+
     go : (b : Bool) → (is_out (at p f es) ≡ true → is_out es ≡ true) → is_out (if b then f x ∷ es else x ∷ at p f es) ≡ true → takes_out x.hold || is_out es ≡ true
     go true g h = first (takes_out (f x).hold) (takes_out x.hold) (is_out es) (k x) h
     go false g h = rest (takes_out x.hold) (is_out (at p f es)) (is_out es) g h
@@ -60,6 +62,7 @@ without-out p (x ∷ es) h = go (same_path p x.path) (without-out p es) h
     rest : (a b c : Bool) → (b ≡ true → c ≡ true) → a || b ≡ true → a || c ≡ true
     rest true b c f h = refl
     rest false b c f h = f h
+
     go : (b : Bool) → (is_out (without p es) ≡ true → is_out es ≡ true) → is_out (if b then es else x ∷ without p es) ≡ true → takes_out x.hold || is_out es ≡ true
     go true g h = or-right (takes_out x.hold) (is_out es) h
     go false g h = rest (takes_out x.hold) (is_out (without p es)) (is_out es) g h
@@ -81,6 +84,7 @@ entered-length p c a (x ∷ es) h = go (same_path p x.path) (entered-length p c 
     right : (a b : Bool) → a && b ≡ true → b ≡ true
     right true b h = h
     right false b h = absurd (cc)
+
     go : (b : Bool) → (fits p c es ≡ true → length (entered_in p c a es) ≡ suc (length es)) → (if b then stands_before c x.path else (stands_before x.path c && fits p c es)) ≡ true → length (if b then newborn c a x ∷ (x ∷ es) else x ∷ entered_in p c a es) ≡ suc (suc (length es))
     go true f h = refl
     go false f h = ap suc (f (right (stands_before x.path c) (fits p c es) h))
@@ -100,9 +104,11 @@ entered-left p c a (x ∷ es) h = go (same_path p x.path) (entered-left p c a es
     left : (a b : Bool) → a && b ≡ true → a ≡ true
     left true b h = refl
     left false b h = absurd (cc)
+
     right : (a b : Bool) → a && b ≡ true → b ≡ true
     right true b h = h
     right false b h = absurd (cc)
+
     go : (b : Bool) → (fits p c es ≡ true → without c (entered_in p c a es) ≡ es) → (if b then stands_before c x.path else (stands_before x.path c && fits p c es)) ≡ true → without c (if b then newborn c a x ∷ (x ∷ es) else x ∷ entered_in p c a es) ≡ x ∷ es
     go true f h = subst (λ b. (if b then x ∷ es else newborn c a x ∷ without c (x ∷ es)) ≡ x ∷ es) (sym (same-refl c)) refl
     go false f h =
@@ -153,6 +159,7 @@ taken-out p m es h c d v q w k o = ap (λ n. is_some (in_hand_as n d c)) w ∙ g
   where
     f : Mode → Entry → Entry
     f m = held_with m (kept_of m (hand_of m (find p es) h))
+
     go : (m : Mode) (r : Option Entry) → find p es ≡ r → hand_of m r h ≡ Some d.cells → was_kept v r → is_some (in_hand_as m d c) ≡ is_out (at p (f m) es)
     go m None k q w = absurd w
     go Writing (Some e) k q w = sym (out-there p (f Writing) es e k (λ x. refl))

@@ -53,8 +53,12 @@ impl Case {
             text: Vec::new(alloc),
             has_lines: false,
         };
-        case.words.push(Word::of(alloc, b"run")?).map_err(|_| Stop::Failed)?;
-        case.words.push(Word::of(alloc, b"1")?).map_err(|_| Stop::Failed)?;
+        case.words
+            .push(Word::of(alloc, b"run")?)
+            .map_err(|_| Stop::Failed)?;
+        case.words
+            .push(Word::of(alloc, b"1")?)
+            .map_err(|_| Stop::Failed)?;
         let mut picking = false;
         for word in line.split(' ') {
             if word == ":" {

@@ -3,8 +3,22 @@ use Rattle.std.specs.Prelude.{◌≡◌, ℕ, ◌+◌, ◌≤◌, Bool, true, Li
 use Rattle.std.specs.List.{list_all}
 use Rattle.jade_base.specs.declared.place.Pos.{Pos}
 use Rattle.jade_syntax.specs.declared.tree.Expr.{Expr}
-use Rattle.jade_parser.specs.Spelled.{pos_in, Agrees, Token, Tokens, Fixed, Called, Counted, Unknown, Parts, tokens_of, fixed, is_valid, AllValid,
-    expr_parts}
+use Rattle.jade_parser.specs.Spelled.{
+  pos_in,
+  Agrees,
+  Token,
+  Tokens,
+  Fixed,
+  Called,
+  Counted,
+  Unknown,
+  Parts,
+  tokens_of,
+  fixed,
+  is_valid,
+  AllValid,
+  expr_parts,
+}
 use Rattle.jade_lexer.specs.Lexemes.{TokenAt}
 use Rattle.jade_parser.specs.Kinds.{token_of_bytes}
 use Rattle.jade_parser.specs.steps.Ops.{unary_of}

@@ -20,7 +20,7 @@ pub returns : goal.returns
 returns c =
     let p = program c.args.checked.now.program in
     shown p c.args.numbers.now c.args.limit c.in_ok-report.report _ _ c.in_ok-report.ensures (c.report_tells.ensures p c.args.numbers.now c.args.limit)
-        c.in_ok-answer.ensures
+    c.in_ok-answer.ensures
 
 pub answer_of-requires : goal.answer_of-requires
 answer_of-requires c =

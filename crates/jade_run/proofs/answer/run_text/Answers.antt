@@ -8,9 +8,9 @@ returns-in-Err c = refused_answered c.args.text.now c.args.numbers.now c.args.li
 pub returns-then-got-wanted : goal.returns-then-got-wanted
 returns-then-got-wanted c =
     miscounted_answered c.args.text.now c.args.numbers.now c.args.limit _ _ c.in-Ok.checked.program c.miscounted.result c.miscounted.ensures.text
-        c.miscounted.ensures.status c.in-Ok.ensures.good c.inputs-wanted.ensures c.count_of-got.ensures c.if-got-wanted.true
+    c.miscounted.ensures.status c.in-Ok.ensures.good c.inputs-wanted.ensures c.count_of-got.ensures c.if-got-wanted.true
 
 pub returns : goal.returns
 returns c =
     answered_in c.args.text.now c.args.numbers.now c.args.limit c.in-Ok.checked.program c.run_checked.result c.in-Ok.ensures.good
-        (sym c.count_of-got.ensures ∙ c.if-got-wanted.false ∙ c.inputs-wanted.ensures) c.run_checked.ensures
+    (sym c.count_of-got.ensures ∙ c.if-got-wanted.false ∙ c.inputs-wanted.ensures) c.run_checked.ensures

@@ -15,7 +15,7 @@ returns-in-Ok-of_text-clause-answer g c =
 pub returns-in-Ok-too_long-clause-answer : goal.returns-in-Ok-too_long-clause-answer
 returns-in-Ok-too_long-clause-answer g c =
     too_long_answers _ _ _ _ _ (asks_accepted _ c.in-Ok.command c.in-Ok.ensures) (rw c.in-Err-TooLong.field-0-is at c.in-Err-TooLong.ensures.too_long)
-        c.in-Ok-too_long.ensures.text c.in-Ok-too_long.ensures.status
+    c.in-Ok-too_long.ensures.text c.in-Ok-too_long.ensures.status
 
 pub returns-in-Ok-of_text-clause-unread : goal.returns-in-Ok-of_text-clause-unread
 returns-in-Ok-of_text-clause-unread g c h = absurd (h (asks_accepted _ c.in-Ok.command c.in-Ok.ensures))

@@ -11,5 +11,8 @@ pub returns : goal.returns
 returns c =
     let labelled = length-labels c.args.checked.now.program.items in
     c.loop-i.invariant ∙ lines_all _ _ c.loop-i.i
-    (elim c.loop-i-test.branch [ else-loop-i-test w ↦ inl (omega (arith, c.objects-i-end.ensures)) | then-loop-i-test+then-place-len w ↦
-        inr (omega (arith, w.len.ensures)) ])
+    (elim c.loop-i-test.branch [
+      | else-loop-i-test w ↦ inl (omega (arith, c.objects-i-end.ensures))
+      | then-loop-i-test+then-place-len w ↦
+          inr (omega (arith, w.len.ensures))
+    ])
