@@ -20,16 +20,19 @@ after {o0} {o1} {o2} {a} {b} p q = record { by = rw (q.by, p.by, with_both o0 a 
 pub nothing : (o : Printed) → Adds o o []
 nothing o = record { by = refl }
 
-flat_more : {A B : Type 0} (f : A → List B) (xs : List A) (i : ℕ) (x : A) → slice_get xs i ≡ Some x → flat_map f (take (i + 1) xs) ≡ flat_map f (take i xs) ++ f x
+flat_more : {A B : Type 0} (f : A → List B) (xs : List A) (i : ℕ) (x : A) → slice_get xs i ≡ Some x → flat_map f (take (i + 1) xs) ≡ flat_map f (take i xs)
+    ++ f x
 flat_more f xs i x h =
     let lt = slice_get_within xs i x h in
     rw (take_more xs i x lt, get_or_from_slice_get xs i x x h, flat_map-append f (take i xs) (x ∷ [])) (simp append-nil)
 
 -- one more of several
-pub more : {A : Type 0} (f : A → Tokens) (o0 o1 o2 : Printed) (xs : List A) (i : ℕ) (x : A) → slice_get xs i ≡ Some x → Adds o0 o1 (flat_map f (take i xs)) → Adds o1 o2 (f x) → Adds o0 o2 (flat_map f (take (i + 1) xs))
+pub more : {A : Type 0} (f : A → Tokens) (o0 o1 o2 : Printed) (xs : List A) (i : ℕ) (x : A) → slice_get xs i ≡ Some x → Adds o0 o1 (flat_map f (take i xs))
+    → Adds o1 o2 (f x) → Adds o0 o2 (flat_map f (take (i + 1) xs))
 more f o0 o1 o2 xs i x e p q = rw (flat_more f xs i x e) (after p q)
 
-pub all : {A : Type 0} (f : A → Tokens) (o0 o1 : Printed) (xs : List A) (n : ℕ) → length xs ≤ n → Adds o0 o1 (flat_map f (take n xs)) → Adds o0 o1 (flat_map f xs)
+pub all : {A : Type 0} (f : A → Tokens) (o0 o1 : Printed) (xs : List A) (n : ℕ) → length xs ≤ n → Adds o0 o1 (flat_map f (take n xs))
+    → Adds o0 o1 (flat_map f xs)
 all f o0 o1 xs n le p = record { by = rw (p.by, take_all n xs le) refl }
 
 -- the arm of one kind of statement
@@ -37,23 +40,29 @@ pub arm : (s s' : Statement) (ts : Tokens) (o0 o : Printed) → s ≡ s' → sta
 arm s s' ts o0 o e k h = rw (e, k) h
 
 -- a value that is stored
-pub stored : {o0 o1 o2 : Printed} (target value : Tokens) → Adds o0 o1 target → Adds o1 o2 (codes "=" ∷ [] ++ value ++ codes ";" ∷ []) → Adds o0 o2 (target ++ codes "=" ∷ [] ++ value ++ codes ";" ∷ [])
+pub stored : {o0 o1 o2 : Printed} (target value : Tokens) → Adds o0 o1 target → Adds o1 o2 (codes "=" ∷ [] ++ value ++ codes ";" ∷ [])
+    → Adds o0 o2 (target ++ codes "=" ∷ [] ++ value ++ codes ";" ∷ [])
 stored {o0} {o1} {o2} target value p q =
     let e : target ++ (codes "=" ∷ [] ++ value ++ codes ";" ∷ []) ≡ target ++ codes "=" ∷ [] ++ value ++ codes ";" ∷ [] = simp append_assoc in
     record { by = (after p q).by ∙ ap (with_tokens o0) e }
 
 -- the names of a `do` list after the section
-pub handed : {o0 o1 o2 : Printed} (section names : Tokens) → Adds o0 o1 section → Adds o1 o2 (codes "do" ∷ codes "(" ∷ [] ++ names ++ codes ")" ∷ []) → Adds o0 o2 (section ++ codes "do" ∷ [] ++ codes "(" ∷ [] ++ names ++ codes ")" ∷ [])
+pub handed : {o0 o1 o2 : Printed} (section names : Tokens) → Adds o0 o1 section → Adds o1 o2 (codes "do" ∷ codes "(" ∷ [] ++ names ++ codes ")" ∷ [])
+    → Adds o0 o2 (section ++ codes "do" ∷ [] ++ codes "(" ∷ [] ++ names ++ codes ")" ∷ [])
 handed {o0} {o1} {o2} section names p q =
-    let e : section ++ (codes "do" ∷ codes "(" ∷ [] ++ names ++ codes ")" ∷ []) ≡ section ++ codes "do" ∷ [] ++ codes "(" ∷ [] ++ names ++ codes ")" ∷ [] = simp append_assoc in
+    let e : section ++ (codes "do" ∷ codes "(" ∷ [] ++ names ++ codes ")" ∷ []) ≡ section ++ codes "do" ∷ [] ++ codes "(" ∷ [] ++ names ++ codes ")" ∷ [] =
+    simp append_assoc in
     record { by = (after p q).by ∙ ap (with_tokens o0) e }
 
-names_more : (ns : List Named) (i : ℕ) (n : Named) → 1 ≤ i → slice_get ns i ≡ Some n → name_tokens (take (i + 1) ns) ≡ name_tokens (take i ns) ++ (codes "," ∷ n.name ∷ [])
+names_more : (ns : List Named) (i : ℕ) (n : Named) → 1 ≤ i → slice_get ns i ≡ Some n → name_tokens (take (i + 1) ns) ≡ name_tokens (take i ns)
+    ++ (codes "," ∷ n.name ∷ [])
 names_more [] i n le e = cc
 names_more (m ∷ ns) zero n le e = absurd (omega arith)
-names_more (m ∷ ns) (suc i) n le e = let w : suc i + 1 ≡ suc (i + 1) = omega arith in rw w (ap (λ t. m.name ∷ t) (flat_more (λ (x : Named). codes "," ∷ x.name ∷ []) ns i n e))
+names_more (m ∷ ns) (suc i) n le e = let w : suc i + 1 ≡ suc (i + 1) = omega arith in
+    rw w (ap (λ t. m.name ∷ t) (flat_more (λ (x : Named). codes "," ∷ x.name ∷ []) ns i n e))
 
-pub more_names : (o0 o1 o2 o3 : Printed) (ns : List Named) (i : ℕ) (n : Named) → 1 ≤ i → slice_get ns i ≡ Some n → Adds o0 o1 (name_tokens (take i ns)) → Adds o1 o2 (codes "," ∷ []) → Adds o2 o3 (n.name ∷ []) → Adds o0 o3 (name_tokens (take (i + 1) ns))
+pub more_names : (o0 o1 o2 o3 : Printed) (ns : List Named) (i : ℕ) (n : Named) → 1 ≤ i → slice_get ns i ≡ Some n → Adds o0 o1 (name_tokens (take i ns))
+    → Adds o1 o2 (codes "," ∷ []) → Adds o2 o3 (n.name ∷ []) → Adds o0 o3 (name_tokens (take (i + 1) ns))
 more_names o0 o1 o2 o3 ns i n le e p q r = rw (names_more ns i n le e) (after p (after q r))
 
 -- what is written and what follows are the text before and what follows there
@@ -66,7 +75,8 @@ begins [] b t = goes_on (with_token blank t) b
 begins (s ∷ a) b t = goes_on (with_token blank s) (a ++ t ∷ b)
 
 -- a text of one token at least, ended by a line feed, is their layout
-pub laid_out : (o : Printed) (a b : Tokens) (t : Token) (text : List ℕ) → Adds blank o (a ++ t ∷ [] ++ b) → text ≡ o.text ++ 10 ∷ [] → text ≡ layout (a ++ t ∷ [] ++ b)
+pub laid_out : (o : Printed) (a b : Tokens) (t : Token) (text : List ℕ) → Adds blank o (a ++ t ∷ [] ++ b) → text ≡ o.text ++ 10 ∷ [] → text
+    ≡ layout (a ++ t ∷ [] ++ b)
 laid_out o a b t text p e = rw (e, p.by) (rw (append_assoc a (t ∷ []) b) (begins a b t))
 
 indent_more : (n : ℕ) → indent (n + 1) ≡ indent n ++ codes "    "

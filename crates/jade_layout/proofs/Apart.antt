@@ -1,5 +1,6 @@
 -- Where a token ends.
-use Rattle.std.proofs.Common.{◌≡◌, ℕ, zero, suc, ◌-◌, ◌<◌, Bool, true, false, not, ◌&&◌, ◌||◌, List, [], ◌∷◌, ◌++◌, length, take, get_or, codes, refl, sym, ap, ◌∙◌, ⊎_elim, arith}
+use Rattle.std.proofs.Common.{◌≡◌, ℕ, zero, suc, ◌-◌, ◌<◌, Bool, true, false, not, ◌&&◌, ◌||◌, List, [], ◌∷◌}
+use Rattle.std.proofs.Common.{◌++◌, length, take, get_or, codes, refl, sym, ap, ◌∙◌, ⊎_elim, arith}
 use Rattle.std.proofs.Math.Dec.{eqb}
 use Rattle.std.specs.List.{list_any, list_all}
 use Rattle.std.specs.Char.{is_ascii_digit}
@@ -50,7 +51,8 @@ cutter_pair b c h =
     or_from (eqb c 61 && list_any (λ x. eqb x b) (codes "=!<>")) (eqb c b && list_any (λ x. eqb x b) (codes "&|."))
     (and_left (eqb c 61) (list_any (λ x. eqb x b) (codes "=!<>")) (among_not (λ x. eqb x 61) cutters refl c h))
     (⊎_elim
-    (λ same. and_right (eqb c b) (list_any (λ x. eqb x b) (codes "&|.")) (ap (λ k. list_any (λ x. eqb x k) (codes "&|.")) (sym (eqb-true c b same)) ∙ among_not (λ k. list_any (λ x. eqb x k) (codes "&|.")) cutters refl c h))
+    (λ same. and_right (eqb c b) (list_any (λ x. eqb x b) (codes "&|."))
+    (ap (λ k. list_any (λ x. eqb x k) (codes "&|.")) (sym (eqb-true c b same)) ∙ among_not (λ k. list_any (λ x. eqb x k) (codes "&|.")) cutters refl c h))
     (λ other. and_left (eqb c b) (list_any (λ x. eqb x b) (codes "&|.")) other)
     (cases_Bool (eqb c b)))
 
@@ -69,9 +71,11 @@ token_no_comment (b ∷ d ∷ u) is =
     true≢false (sym is ∙ e ∙ slashes u))
 
 -- a byte that is no letter, no digit and in no symbol begins no token
-no_token_from : (b : ℕ) (u : List ℕ) → is_letter b ≡ false → is_ascii_digit b ≡ false → is_single b ≡ false → list_any (λ x. eqb x b) (codes "=!<>") ≡ false → list_any (λ x. eqb x b) (codes "&|.") ≡ false → is_token (b ∷ u) ≡ false
+no_token_from : (b : ℕ) (u : List ℕ) → is_letter b ≡ false → is_ascii_digit b ≡ false → is_single b ≡ false → list_any (λ x. eqb x b) (codes "=!<>") ≡ false
+    → list_any (λ x. eqb x b) (codes "&|.") ≡ false → is_token (b ∷ u) ≡ false
 no_token_from b u letter digit single equals doubles =
-    none_of (is_word (b ∷ u)) (is_run (b ∷ u)) (is_symbol (b ∷ u)) (and_left (is_letter b) (list_all is_letter_or_digit u) letter) (and_left (is_ascii_digit b) (list_all is_ascii_digit u) digit) (symbol u)
+    none_of (is_word (b ∷ u)) (is_run (b ∷ u)) (is_symbol (b ∷ u)) (and_left (is_letter b) (list_all is_letter_or_digit u) letter)
+    (and_left (is_ascii_digit b) (list_all is_ascii_digit u) digit) (symbol u)
   where
     symbol : (v : List ℕ) → is_symbol (b ∷ v) ≡ false
     symbol [] = single
@@ -88,7 +92,8 @@ token_no_separator [] is = absurd (true≢false (sym is))
 token_no_separator (b ∷ u) is =
     or_from (eqb b 32 || eqb b 9 || eqb b 13) (eqb b 10)
     (or_from (eqb b 32 || eqb b 9) (eqb b 13)
-    (or_from (eqb b 32) (eqb b 9) (no_token_at 32 b u is (no_token_from 32 u refl refl refl refl refl)) (no_token_at 9 b u is (no_token_from 9 u refl refl refl refl refl)))
+    (or_from (eqb b 32) (eqb b 9) (no_token_at 32 b u is (no_token_from 32 u refl refl refl refl refl))
+    (no_token_at 9 b u is (no_token_from 9 u refl refl refl refl refl)))
     (no_token_at 13 b u is (no_token_from 13 u refl refl refl refl refl)))
     (no_token_at 10 b u is (no_token_from 10 u refl refl refl refl refl))
 
@@ -112,7 +117,8 @@ apart_cutter (b ∷ t) c is h = record {
 pub apart_single : (b c : ℕ) → is_letter b ≡ false → is_ascii_digit b ≡ false → eqb b 47 ≡ false → is_pair b c ≡ false → Apart (b ∷ []) c
 apart_single b c letter digit slash pair = record {
   no_longer = λ u. none_of (is_word (b ∷ c ∷ u)) (is_run (b ∷ c ∷ u)) (is_symbol (b ∷ c ∷ u))
-      (and_left (is_letter b) (list_all is_letter_or_digit (c ∷ u)) letter) (and_left (is_ascii_digit b) (list_all is_ascii_digit (c ∷ u)) digit) (symbol_stops (b ∷ []) c u (omega arith) (λ one. pair));
+      (and_left (is_letter b) (list_all is_letter_or_digit (c ∷ u)) letter) (and_left (is_ascii_digit b) (list_all is_ascii_digit (c ∷ u)) digit)
+      (symbol_stops (b ∷ []) c u (omega arith) (λ one. pair));
   no_letter = λ run. absurd (true≢false (sym run ∙ and_left (is_ascii_digit b) true digit));
   no_comment = λ u. and_left (eqb b 47) (eqb c 47) slash;
 }

@@ -1,5 +1,6 @@
 -- The tokens of a shaped program are readable.
-use Rattle.std.proofs.Common.{◌≡◌, ℕ, max, true, false, ◌&&◌, List, [], ◌∷◌, ◌++◌, map, Option, Some, None, codes, refl, sym, ap, subst, ◌∙◌, arith, append_assoc, append-nil}
+use Rattle.std.proofs.Common.{◌≡◌, ℕ, max, true, false, ◌&&◌, List, [], ◌∷◌, ◌++◌, map, Option, Some, None}
+use Rattle.std.proofs.Common.{codes, refl, sym, ap, subst, ◌∙◌, arith, append_assoc, append-nil}
 use Rattle.std.proofs.Math.Dec.{leb}
 use Rattle.std.specs.List.{flat_map, list_all}
 use Rattle.std.proofs.lemmas.Bool.{and_parts, leb-true}
@@ -19,13 +20,21 @@ use Rattle.jade_syntax.specs.declared.tree.Statement.{Statement, map-Statement, 
 use Rattle.jade_syntax.specs.declared.tree.Statement.TheOpen.{Statement-F}
 use Rattle.jade_syntax.specs.declared.tree.Program.{Program}
 use Rattle.jade_syntax.specs.Names.{is_name}
-use Rattle.jade_syntax.specs.Shapes.{◌⊕◌, signs, all_of, in_brackets, name_extent, limited, outermost, outer_index, target_extent, object_extent, names_extent, braced as braced_extent, at_statement as e_statement, statement_extent, item_extent, program_extent, is_placed, is_within, is_shaped}
-use Rattle.jade_layout.specs.Spelling.{Token, Tokens, kind_word, declare_word, expr_tokens, cell_tokens, object_index, object_tokens, braced, more_names, name_tokens, at_statement, statement_tokens, item_tokens, spelling}
+use Rattle.jade_syntax.specs.Shapes.{expr_extent, ◌⊕◌, signs, all_of, in_brackets, name_extent, limited}
+use Rattle.jade_syntax.specs.Shapes.{outermost, outer_index, target_extent, object_extent, names_extent}
+use Rattle.jade_syntax.specs.Shapes.{braced as braced_extent, at_statement as e_statement, statement_extent}
+use Rattle.jade_syntax.specs.Shapes.{item_extent, program_extent, is_placed, is_within, is_shaped}
+use Rattle.jade_layout.specs.Spelling.{Token, Tokens, kind_word, declare_word, expr_tokens, cell_tokens}
+use Rattle.jade_layout.specs.Spelling.{object_index, object_tokens, braced, more_names, name_tokens}
+use Rattle.jade_layout.specs.Spelling.{at_statement, statement_tokens, item_tokens, spelling}
 use Rattle.jade_layout.specs.Readable.{is_readable}
 use Rattle.jade_layout.proofs.Opened.{cell_opens}
 use Rattle.jade_layout.proofs.Goes.{GoesOn, on, wider, nothing, join, join_on, plain, is_plain, mark, round, curly, name_plain}
-use Rattle.jade_layout.proofs.Fine.{Fine, FineOn, fine_on, fine_join, fine_join_on, fine_nothing, fine_regroup, fine_all, IsMark, fine_number, fine_name, fine_bracketed}
-use Rattle.jade_layout.proofs.Trees.{expr_fine}
+use Rattle.jade_layout.proofs.Fine.{Fine, FineOn, fine_on, fine_join, fine_join_on, fine_nothing}
+use Rattle.jade_layout.proofs.Fine.{fine_regroup, fine_all, IsMark, fine_number, fine_name, fine_bracketed}
+use Rattle.jade_layout.proofs.Fine.{fine_chain, fine_signs, fine_truth, fine_group, fine_single, fine_member}
+use Rattle.jade_layout.proofs.Fine.{fine_alone, fine_pair, sum_mark, product_mark}
+use Rattle.jade_layout.proofs.Trees.{expr_holds}
 
 -- a word, before so many signs that are counted with it
 fine_words : (k : ℕ) (t : Token) → is_plain t ≡ true → Fine (signs k) (t ∷ [])
@@ -42,6 +51,13 @@ fine_lead {x} k f = record { by = λ h. wider (max 0 x.depth) (omega arith) (f.b
 fine_limited : {x : Extent} {ts : Tokens} → Fine x ts → Fine (limited x) ts
 fine_limited {x} f = record { by = λ h. f.by (and_parts x.sound (leb x.tokens 256) h).0 }
 
+-- the tokens of an expression go on being readable
+expr_fine : (e : Expr) → Fine (expr_extent e) (expr_tokens e)
+expr_fine =
+    expr_holds Fine IsMark (λ depth rest. refl) (λ depth rest. refl) sum_mark product_mark (λ P x first. fine_chain) (λ x ts. fine_signs) fine_number fine_name
+    fine_truth (λ x ts. fine_group)
+    (λ x ts. fine_single) (λ x y a b. fine_member) (λ x ts. fine_alone) (λ x y a b. fine_pair)
+
 outer_fine : (e : Expr) → Fine (outermost e) (expr_tokens e)
 outer_fine e = fine_limited (expr_fine e)
 
@@ -53,7 +69,8 @@ target_fine : (c : CellRef) → Fine (target_extent c) (cell_tokens c)
 target_fine c =
     subst (λ ts. Fine (target_extent c) ts) (sym (cell_opens c))
     (fine_regroup (name_extent (out-CellRef c).name) (outer_index (out-CellRef c).family) (in_brackets (outermost (out-CellRef c).cell)) _
-    (fine_join (fine_name (out-CellRef c).name) (fine_join_on (index_fine (out-CellRef c).family) (fine_on (fine_bracketed (outer_fine (out-CellRef c).cell))))))
+    (fine_join (fine_name (out-CellRef c).name)
+    (fine_join_on (index_fine (out-CellRef c).family) (fine_on (fine_bracketed (outer_fine (out-CellRef c).cell))))))
 
 object_fine : (o : ObjectRef) → Fine (object_extent o) (object_tokens o)
 object_fine o = fine_join (fine_name o.name) (index_fine o.member)
@@ -81,7 +98,8 @@ names_fine ns = record { by = λ h. names_go (names_extent ns).depth ns (and_par
 fine_round : {x y : Extent} {a b : Tokens} → Fine x a → FineOn y b → Fine (x ⊕ in_brackets y) (a ++ codes "(" ∷ [] ++ b ++ codes ")" ∷ [])
 fine_round {x} {y} {a} {b} f g =
     let inner : Fine (in_brackets y) (codes "(" ∷ (b ++ codes ")" ∷ [])) = record { by = λ h. round y.depth b (g.by h) } in
-    let same : a ++ (codes "(" ∷ (b ++ codes ")" ∷ [])) ≡ a ++ codes "(" ∷ [] ++ b ++ codes ")" ∷ [] = sym (ap (λ ts. ts ++ codes ")" ∷ []) (append_assoc a (codes "(" ∷ []) b) ∙ append_assoc a (codes "(" ∷ b) (codes ")" ∷ [])) in
+    let same : a ++ (codes "(" ∷ (b ++ codes ")" ∷ [])) ≡ a ++ codes "(" ∷ [] ++ b ++ codes ")" ∷ [] =
+    sym (ap (λ ts. ts ++ codes ")" ∷ []) (append_assoc a (codes "(" ∷ []) b) ∙ append_assoc a (codes "(" ∷ b) (codes ")" ∷ [])) in
     subst (λ ts. Fine (x ⊕ in_brackets y) ts) same (fine_join f (fine_on inner))
 
 -- statements in braces
@@ -111,24 +129,50 @@ module _ {S : Type 0} (s : S → Statement) (each : (x : S) → Fine (statement_
   braced_at : (xs : List S) → FineOn (braced_extent (map statement_extent (map s xs))) (braced (map statement_tokens (map s xs)))
   braced_at xs = fine_on (fine_curly (block_at xs))
 
-  layer : (y : Statement-F S) → Fine (e_statement (map-Statement Statement Extent statement_extent (map-Statement S Statement s y))) (at_statement (map-Statement Statement Tokens statement_tokens (map-Statement S Statement s y)))
-  layer (Statement-F.Local kind n p value) = fine_mark (codes ";") (λ depth rest. refl) (fine_join (fine_mark (codes "=") (λ depth rest. refl) (fine_join (fine_words 3 (kind_word kind) (kind_plain kind)) (fine_on (fine_name n)))) (fine_on (outer_fine value)))
-  layer (Statement-F.Assign n p value) = fine_mark (codes ";") (λ depth rest. refl) (fine_join (fine_mark (codes "=") (λ depth rest. refl) (fine_lead 2 (fine_name n))) (fine_on (outer_fine value)))
-  layer (Statement-F.Store target value) = fine_mark (codes ";") (λ depth rest. refl) (fine_join (fine_mark (codes "=") (λ depth rest. refl) (fine_lead 2 (target_fine target))) (fine_on (outer_fine value)))
-  layer (Statement-F.If test first None) = fine_join (fine_join (fine_join (fine_words 1 (codes "if") refl) (fine_on (outer_fine test))) (braced_at first)) fine_nothing
-  layer (Statement-F.If test first (Some other)) = fine_join (fine_join (fine_join (fine_words 1 (codes "if") refl) (fine_on (outer_fine test))) (braced_at first)) (fine_join_on (fine_on (fine_words 1 (codes "else") refl)) (braced_at other))
-  layer (Statement-F.For n p low high body) = fine_join (fine_join (fine_mark (codes "..") (λ depth rest. refl) (fine_join (fine_mark (codes "in") (λ depth rest. refl) (fine_join (fine_words 3 (codes "for") refl) (fine_on (fine_name n)))) (fine_on (outer_fine low)))) (fine_on (outer_fine high))) (braced_at body)
-  layer (Statement-F.Withonly p section names body) = fine_join (fine_round (fine_mark (codes "do") (λ depth rest. refl) (fine_join (fine_words 2 (codes "withonly") refl) (braced_at section))) (names_fine names)) (braced_at body)
-  layer (Statement-F.With p section) = fine_mark (codes ";") (λ depth rest. refl) (fine_mark (codes "cont") (λ depth rest. refl) (fine_join (fine_words 3 (codes "with") refl) (braced_at section)))
-  layer (Statement-F.Declare w p object) = fine_mark (codes ";") (λ depth rest. refl) (fine_round (fine_words 2 (declare_word w) (word_plain w)) (fine_on (object_fine object)))
+  layer : (y : Statement-F S) → Fine (e_statement (map-Statement Statement Extent statement_extent (map-Statement S Statement s y)))
+      (at_statement (map-Statement Statement Tokens statement_tokens (map-Statement S Statement s y)))
+  layer (Statement-F.Local kind n p value) =
+      fine_mark (codes ";") (λ depth rest. refl)
+      (fine_join (fine_mark (codes "=") (λ depth rest. refl) (fine_join (fine_words 3 (kind_word kind) (kind_plain kind)) (fine_on (fine_name n))))
+      (fine_on (outer_fine value)))
+  layer (Statement-F.Assign n p value) =
+      fine_mark (codes ";") (λ depth rest. refl)
+      (fine_join (fine_mark (codes "=") (λ depth rest. refl) (fine_lead 2 (fine_name n))) (fine_on (outer_fine value)))
+  layer (Statement-F.Store target value) =
+      fine_mark (codes ";") (λ depth rest. refl)
+      (fine_join (fine_mark (codes "=") (λ depth rest. refl) (fine_lead 2 (target_fine target))) (fine_on (outer_fine value)))
+  layer (Statement-F.If test first None) =
+      fine_join (fine_join (fine_join (fine_words 1 (codes "if") refl) (fine_on (outer_fine test))) (braced_at first)) fine_nothing
+  layer (Statement-F.If test first (Some other)) =
+      fine_join (fine_join (fine_join (fine_words 1 (codes "if") refl) (fine_on (outer_fine test))) (braced_at first))
+      (fine_join_on (fine_on (fine_words 1 (codes "else") refl)) (braced_at other))
+  layer (Statement-F.For n p low high body) =
+      fine_join (fine_join (fine_mark (codes "..") (λ depth rest. refl)
+      (fine_join (fine_mark (codes "in") (λ depth rest. refl) (fine_join (fine_words 3 (codes "for") refl) (fine_on (fine_name n))))
+      (fine_on (outer_fine low)))) (fine_on (outer_fine high))) (braced_at body)
+  layer (Statement-F.Withonly p section names body) =
+      fine_join (fine_round (fine_mark (codes "do") (λ depth rest. refl) (fine_join (fine_words 2 (codes "withonly") refl) (braced_at section)))
+      (names_fine names)) (braced_at body)
+  layer (Statement-F.With p section) =
+      fine_mark (codes ";") (λ depth rest. refl)
+      (fine_mark (codes "cont") (λ depth rest. refl) (fine_join (fine_words 3 (codes "with") refl) (braced_at section)))
+  layer (Statement-F.Declare w p object) =
+      fine_mark (codes ";") (λ depth rest. refl) (fine_round (fine_words 2 (declare_word w) (word_plain w)) (fine_on (object_fine object)))
 
 pub statement_fine : (s : Statement) → Fine (statement_extent s) (statement_tokens s)
-statement_fine s = ind-Statement (λ s. Fine (statement_extent s) (statement_tokens s)) (λ x y k. rw (← k) (rw (fold-roll-Statement Extent e_statement, fold-roll-Statement Tokens at_statement) (layer (λ z. z.0) (λ z. z.1) y))) s
+statement_fine s = ind-Statement (λ s. Fine (statement_extent s) (statement_tokens s))
+    (λ x y k. rw (← k) (rw (fold-roll-Statement Extent e_statement, fold-roll-Statement Tokens at_statement) (layer (λ z. z.0) (λ z. z.1) y))) s
 
 item_fine : (i : Item) → Fine (item_extent i) (item_tokens i)
 item_fine (Input n p) = fine_mark (codes ";") (λ depth rest. refl) (fine_join (fine_words 2 (codes "input") refl) (fine_on (fine_name n)))
-item_fine (Single n p size) = fine_mark (codes ";") (λ depth rest. refl) (fine_join (fine_mark (codes ":") (λ depth rest. refl) (fine_join (fine_words 3 (codes "object") refl) (fine_on (fine_name n)))) (fine_on (fine_number size)))
-item_fine (Family n p count size) = fine_mark (codes ";") (λ depth rest. refl) (fine_join (fine_mark (codes ":") (λ depth rest. refl) (fine_join (fine_join (fine_words 3 (codes "objects") refl) (fine_on (fine_name n))) (fine_on (fine_bracketed (fine_number count))))) (fine_on (fine_number size)))
+item_fine (Single n p size) = fine_mark (codes ";") (λ depth rest. refl)
+    (fine_join (fine_mark (codes ":") (λ depth rest. refl) (fine_join (fine_words 3 (codes "object") refl) (fine_on (fine_name n))))
+    (fine_on (fine_number size)))
+item_fine (Family n p count size) =
+    fine_mark (codes ";") (λ depth rest. refl)
+    (fine_join (fine_mark (codes ":") (λ depth rest. refl)
+    (fine_join (fine_join (fine_words 3 (codes "objects") refl) (fine_on (fine_name n))) (fine_on (fine_bracketed (fine_number count)))))
+    (fine_on (fine_number size)))
 
 program_fine : (p : Program) → FineOn (program_extent p.items p.main) (spelling p)
 program_fine p =

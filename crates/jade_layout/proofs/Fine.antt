@@ -31,10 +31,16 @@ pub fine_on : {x : Extent} {ts : Tokens} → Fine x ts → FineOn x ts
 fine_on f = record { by = λ h. on (f.by h) }
 
 pub fine_join : {x y : Extent} {a b : Tokens} → Fine x a → FineOn y b → Fine (x ⊕ y) (a ++ b)
-fine_join {x} {y} f g = record { by = λ h. let p = and_parts x.sound y.sound h in join (wider (max x.depth y.depth) (omega arith) (f.by p.0)) (wider_on (max x.depth y.depth) (omega arith) (g.by p.1)) }
+fine_join {x} {y} f g = record {
+  by = λ h. let p = and_parts x.sound y.sound h in
+      join (wider (max x.depth y.depth) (omega arith) (f.by p.0)) (wider_on (max x.depth y.depth) (omega arith) (g.by p.1));
+}
 
 pub fine_join_on : {x y : Extent} {a b : Tokens} → FineOn x a → FineOn y b → FineOn (x ⊕ y) (a ++ b)
-fine_join_on {x} {y} f g = record { by = λ h. let p = and_parts x.sound y.sound h in join_on (wider_on (max x.depth y.depth) (omega arith) (f.by p.0)) (wider_on (max x.depth y.depth) (omega arith) (g.by p.1)) }
+fine_join_on {x} {y} f g = record {
+  by = λ h. let p = and_parts x.sound y.sound h in
+      join_on (wider_on (max x.depth y.depth) (omega arith) (f.by p.0)) (wider_on (max x.depth y.depth) (omega arith) (g.by p.1));
+}
 
 pub fine_nothing : FineOn no_extent []
 fine_nothing = record { by = λ h. nothing 0 }
@@ -61,7 +67,8 @@ pub fine_link : {x : Extent} {ts : Tokens} (op : Token) → IsMark op → Fine x
 fine_link {x} op is f = record { by = λ h. join_on (mark (max 0 x.depth) op is) (on (wider (max 0 x.depth) (omega arith) (f.by h))) }
 
 -- a chain of one level
-pub fine_chain : {P : Type 0} {x : Extent} {first : Tokens} (g : P → Extent) (f : P → Tokens) (op : P → Token) → ((p : P) → IsMark (op p)) → ((p : P) → Fine (g p) (f p)) → Fine x first → (ps : List P) → Fine (x ⊕ all_of (map (λ p. signs 1 ⊕ g p) ps)) (first ++ flat_map (λ p. op p ∷ f p) ps)
+pub fine_chain : {P : Type 0} {x : Extent} {first : Tokens} (g : P → Extent) (f : P → Tokens) (op : P → Token) → ((p : P) → IsMark (op p))
+    → ((p : P) → Fine (g p) (f p)) → Fine x first → (ps : List P) → Fine (x ⊕ all_of (map (λ p. signs 1 ⊕ g p) ps)) (first ++ flat_map (λ p. op p ∷ f p) ps)
 fine_chain g f op marks each begun ps = fine_join begun (fine_all (λ p. signs 1 ⊕ g p) (λ p. op p ∷ f p) ps (λ p. fine_link (op p) (marks p) (each p)))
 
 pub sum_mark : (o : SumOp) → IsMark (sum_sign o)
@@ -94,7 +101,8 @@ signs_then room ts [] g = g
 signs_then room ts (s ∷ ss) g = sign_then room (flat_map (λ (p : UnaryOp × Pos). unary_sign p.0 ∷ []) ss ++ ts) s.0 (signs_then room ts ss g)
 
 -- signs before an operand
-pub fine_signs : {x : Extent} {ts : Tokens} (ss : List (UnaryOp × Pos)) → Fine x ts → Fine (signs (length ss) ⊕ x) (flat_map (λ (p : UnaryOp × Pos). unary_sign p.0 ∷ []) ss ++ ts)
+pub fine_signs : {x : Extent} {ts : Tokens} (ss : List (UnaryOp × Pos)) → Fine x ts
+    → Fine (signs (length ss) ⊕ x) (flat_map (λ (p : UnaryOp × Pos). unary_sign p.0 ∷ []) ss ++ ts)
 fine_signs {x} {ts} ss f = record { by = λ h. signs_then (max 0 x.depth) ts ss (wider (max 0 x.depth) (omega arith) (f.by h)) }
 
 number_goes : (z : ℤ) → is_natural z ≡ true → Goes 0 (signed_decimal z ∷ [])
@@ -119,10 +127,13 @@ fine_bracketed {x} {ts} f = record { by = λ h. square x.depth ts (on (f.by h)) 
 
 -- a name with one index or two
 pub fine_single : {x : Extent} {ts : Tokens} (n : Token) → Fine x ts → Fine (name_extent n ⊕ no_extent ⊕ in_brackets x) (n ∷ ([] ++ bracketed ts))
-fine_single {x} {ts} n f = fine_regroup (name_extent n) no_extent (in_brackets x) _ (fine_join (fine_name n) (fine_join_on fine_nothing (fine_on (fine_bracketed f))))
+fine_single {x} {ts} n f = fine_regroup (name_extent n) no_extent (in_brackets x) _
+    (fine_join (fine_name n) (fine_join_on fine_nothing (fine_on (fine_bracketed f))))
 
-pub fine_member : {x y : Extent} {a b : Tokens} (n : Token) → Fine x a → Fine y b → Fine (name_extent n ⊕ in_brackets x ⊕ in_brackets y) (n ∷ (bracketed a ++ bracketed b))
-fine_member {x} {y} n f g = fine_regroup (name_extent n) (in_brackets x) (in_brackets y) _ (fine_join (fine_name n) (fine_join_on (fine_on (fine_bracketed f)) (fine_on (fine_bracketed g))))
+pub fine_member : {x y : Extent} {a b : Tokens} (n : Token) → Fine x a → Fine y b
+    → Fine (name_extent n ⊕ in_brackets x ⊕ in_brackets y) (n ∷ (bracketed a ++ bracketed b))
+fine_member {x} {y} n f g = fine_regroup (name_extent n) (in_brackets x) (in_brackets y) _
+    (fine_join (fine_name n) (fine_join_on (fine_on (fine_bracketed f)) (fine_on (fine_bracketed g))))
 
 -- one operand, or two with a relation between them
 pub fine_alone : {x : Extent} {ts : Tokens} → Fine x ts → Fine (x ⊕ no_extent) (ts ++ [])

@@ -1,5 +1,7 @@
 -- Tokens that go on being readable.
-use Rattle.std.proofs.Common.{◌≡◌, ℕ, zero, suc, ◌+◌, ◌-◌, ◌*◌, ◌/◌, ◌%◌, ◌^◌, ◌<◌, ◌≤◌, Bool, true, false, not, ◌&&◌, ◌||◌, if◌then◌else◌, List, [], ◌∷◌, ◌++◌, length, get_or, codes, refl, sym, ap, ◌∙◌, ⊎_elim, arith, append_assoc, length-append}
+use Rattle.std.proofs.Common.{◌≡◌, ℕ, zero, suc, ◌+◌, ◌-◌, ◌*◌, ◌/◌, ◌%◌, ◌^◌, ◌<◌, ◌≤◌, Bool, true, false}
+use Rattle.std.proofs.Common.{not, ◌&&◌, ◌||◌, if◌then◌else◌, List, [], ◌∷◌, ◌++◌, length, get_or, codes}
+use Rattle.std.proofs.Common.{refl, sym, ap, ◌∙◌, ⊎_elim, arith, append_assoc, length-append}
 use Rattle.std.proofs.Math.Dec.{eqb, leb, ltb}
 use Rattle.std.specs.List.{list_any, list_all, flat_map}
 use Rattle.std.specs.Char.{is_ascii_digit, is_ascii_alphabetic}
@@ -7,16 +9,18 @@ use Rattle.std.specs.Int.{is_in_range}
 use Rattle.std.specs.Fmt.{decimal}
 use Rattle.std.proofs.lemmas.Fmt.{decimal_by_steps, decimal_digit, first_decimal}
 use Rattle.std.proofs.lemmas.List.Folds.{list_all-append}
-use Rattle.std.proofs.lemmas.Bool.{and_from, and_left, and_right, and_parts, or_from, or_cases, eqb-true, leb-true, le-leb, lt-ltb, true≢false, not-true, ne_eqb, false_from_ne_true}
+use Rattle.std.proofs.lemmas.Bool.{and_from, and_left, and_right, and_parts, or_from, or_cases, eqb-true}
+use Rattle.std.proofs.lemmas.Bool.{leb-true, le-leb, lt-ltb, true≢false, not-true, ne_eqb, false_from_ne_true}
 use Rattle.jade_lexer.specs.Alphabet.{is_run, is_symbol, is_number, is_opener, is_closer, value_after}
 use Rattle.jade_alphabet.specs.Letters.{is_letter, is_letter_or_digit, is_word}
-use Rattle.jade_syntax.specs.Names.{is_name, is_spelled, is_reserved}
+use Rattle.jade_syntax.specs.Names.{is_name, is_reserved}
 use Rattle.jade_syntax.specs.Numbering.{same_name}
 use Rattle.jade_layout.specs.Spelling.{Token, Tokens}
 use Rattle.jade_layout.proofs.Apart.{among_not}
 use Rattle.jade_layout.specs.Readable.{is_sound, is_bang, is_readable}
 
--- with so much room for brackets these tokens are readable before others that are, whatever stands before them; no bracket is left open, and the last is not `!`
+-- with so much room for brackets these tokens are readable before others that are, whatever stands before them; no bracket is left open, and the last
+-- is not `!`
 pub record Goes (room : ℕ) (ts : Tokens) : Type 0 where
   pub from : (depth : ℕ) (bang : Bool) (rest : Tokens) → depth + room ≤ 64 → is_readable depth bang (ts ++ rest) ≡ is_readable depth false rest
 
@@ -37,10 +41,16 @@ pub nothing : (room : ℕ) → GoesOn room []
 nothing room = record { from = λ depth rest fit. refl }
 
 pub join : {room : ℕ} {a b : Tokens} → Goes room a → GoesOn room b → Goes room (a ++ b)
-join {room} {a} {b} p q = record { from = λ depth bang rest fit. ap (is_readable depth bang) (append_assoc a b rest) ∙ p.from depth bang (b ++ rest) fit ∙ q.from depth rest fit }
+join {room} {a} {b} p q = record {
+  from = λ depth bang rest fit. ap (is_readable depth bang) (append_assoc a b rest) ∙ p.from depth bang (b ++ rest) fit
+      ∙ q.from depth rest fit;
+}
 
 pub join_on : {room : ℕ} {a b : Tokens} → GoesOn room a → GoesOn room b → GoesOn room (a ++ b)
-join_on {room} {a} {b} p q = record { from = λ depth rest fit. ap (is_readable depth false) (append_assoc a b rest) ∙ p.from depth (b ++ rest) fit ∙ q.from depth rest fit }
+join_on {room} {a} {b} p q = record {
+  from = λ depth rest fit. ap (is_readable depth false) (append_assoc a b rest) ∙ p.from depth (b ++ rest) fit
+      ∙ q.from depth rest fit;
+}
 
 -- the parts of a list, one after another
 pub all_on : {A : Type 0} (room : ℕ) (f : A → Tokens) (xs : List A) → ((x : A) → GoesOn room (f x)) → GoesOn room (flat_map f xs)
@@ -65,14 +75,18 @@ plain room t h = record { from = goes }
         let equal : eqb (get_or t 0 0) 61 ≡ false = not-true (eqb (get_or t 0 0) 61) q.1 in
         let parts : (bang && eqb (get_or t 0 0) 61) ≡ false = and_right bang (eqb (get_or t 0 0) 61) equal in
         let last : is_bang t ≡ false = not-true (is_bang t) p.1 in
-        (λ i. s.0 i && (not (opens i) || ltb depth 64) && not (parts i) && is_readable (if opens i then depth + 1 else (if closes i then depth - 1 else depth)) (last i) rest)
+        (λ i. s.0 i && (not (opens i) || ltb depth 64) && not (parts i)
+        && is_readable (if opens i then depth + 1 else (if closes i then depth - 1 else depth)) (last i) rest)
 
 -- a token that may begin with `=`
 pub mark : (room : ℕ) (t : Token) → ((depth : ℕ) (rest : Tokens) → is_readable depth false (t ∷ rest) ≡ is_readable depth false rest) → GoesOn room (t ∷ [])
 mark room t h = record { from = λ depth rest fit. h depth rest }
 
 -- tokens in brackets
-pub enclosed : (room : ℕ) (left right : Token) (ts : Tokens) → ((depth : ℕ) (bang : Bool) (rest : Tokens) → depth < 64 → is_readable depth bang (left ∷ rest) ≡ is_readable (depth + 1) false rest) → ((depth : ℕ) (rest : Tokens) → is_readable (depth + 1) false (right ∷ rest) ≡ is_readable depth false rest) → GoesOn room ts → Goes (room + 1) (left ∷ (ts ++ right ∷ []))
+pub enclosed : (room : ℕ) (left right : Token) (ts : Tokens)
+    → ((depth : ℕ) (bang : Bool) (rest : Tokens) → depth < 64 → is_readable depth bang (left ∷ rest) ≡ is_readable (depth + 1) false rest)
+    → ((depth : ℕ) (rest : Tokens) → is_readable (depth + 1) false (right ∷ rest) ≡ is_readable depth false rest) → GoesOn room ts
+    → Goes (room + 1) (left ∷ (ts ++ right ∷ []))
 enclosed room left right ts opens closes inner = record {
   from = λ depth bang rest fit.
       opens depth bang ((ts ++ right ∷ []) ++ rest) (omega arith)
@@ -81,25 +95,32 @@ enclosed room left right ts opens closes inner = record {
       ∙ closes depth rest;
 }
 
-opener_reads : (t : Token) (depth : ℕ) (bang : Bool) (rest : Tokens) → is_sound t ≡ true → is_opener (get_or t 0 0) ≡ true → eqb (get_or t 0 0) 61 ≡ false → is_bang t ≡ false → depth < 64 → is_readable depth bang (t ∷ rest) ≡ is_readable (depth + 1) false rest
+opener_reads : (t : Token) (depth : ℕ) (bang : Bool) (rest : Tokens) → is_sound t ≡ true → is_opener (get_or t 0 0) ≡ true → eqb (get_or t 0 0) 61 ≡ false
+    → is_bang t ≡ false → depth < 64 → is_readable depth bang (t ∷ rest) ≡ is_readable (depth + 1) false rest
 opener_reads t depth bang rest sound opens equal last lt =
     let room : ltb depth 64 ≡ true = lt-ltb depth 64 lt in
     let parts : (bang && eqb (get_or t 0 0) 61) ≡ false = and_right bang (eqb (get_or t 0 0) 61) equal in
-    (λ i. sound i && (not (opens i) || room i) && not (parts i) && is_readable (if opens i then depth + 1 else (if is_closer (get_or t 0 0) then depth - 1 else depth)) (last i) rest)
+    (λ i. sound i && (not (opens i) || room i) && not (parts i)
+    && is_readable (if opens i then depth + 1 else (if is_closer (get_or t 0 0) then depth - 1 else depth)) (last i) rest)
 
-closer_reads : (t : Token) (depth : ℕ) (rest : Tokens) → is_sound t ≡ true → is_opener (get_or t 0 0) ≡ false → is_closer (get_or t 0 0) ≡ true → is_bang t ≡ false → is_readable (depth + 1) false (t ∷ rest) ≡ is_readable depth false rest
+closer_reads : (t : Token) (depth : ℕ) (rest : Tokens) → is_sound t ≡ true → is_opener (get_or t 0 0) ≡ false → is_closer (get_or t 0 0) ≡ true → is_bang t
+    ≡ false → is_readable (depth + 1) false (t ∷ rest) ≡ is_readable depth false rest
 closer_reads t depth rest sound opens closes last =
     let less : depth + 1 - 1 ≡ depth = omega arith in
-    (λ i. sound i && (not (opens i) || ltb (depth + 1) 64) && true && is_readable (if opens i then depth + 1 + 1 else (if closes i then less i else depth + 1)) (last i) rest)
+    (λ i. sound i && (not (opens i) || ltb (depth + 1) 64) && true
+    && is_readable (if opens i then depth + 1 + 1 else (if closes i then less i else depth + 1)) (last i) rest)
 
 pub round : (room : ℕ) (ts : Tokens) → GoesOn room ts → Goes (room + 1) (codes "(" ∷ (ts ++ codes ")" ∷ []))
-round room ts g = enclosed room (codes "(") (codes ")") ts (λ depth bang rest lt. opener_reads (codes "(") depth bang rest refl refl refl refl lt) (λ depth rest. closer_reads (codes ")") depth rest refl refl refl refl) g
+round room ts g = enclosed room (codes "(") (codes ")") ts (λ depth bang rest lt. opener_reads (codes "(") depth bang rest refl refl refl refl lt)
+    (λ depth rest. closer_reads (codes ")") depth rest refl refl refl refl) g
 
 pub square : (room : ℕ) (ts : Tokens) → GoesOn room ts → Goes (room + 1) (codes "[" ∷ (ts ++ codes "]" ∷ []))
-square room ts g = enclosed room (codes "[") (codes "]") ts (λ depth bang rest lt. opener_reads (codes "[") depth bang rest refl refl refl refl lt) (λ depth rest. closer_reads (codes "]") depth rest refl refl refl refl) g
+square room ts g = enclosed room (codes "[") (codes "]") ts (λ depth bang rest lt. opener_reads (codes "[") depth bang rest refl refl refl refl lt)
+    (λ depth rest. closer_reads (codes "]") depth rest refl refl refl refl) g
 
 pub curly : (room : ℕ) (ts : Tokens) → GoesOn room ts → Goes (room + 1) (codes "{" ∷ (ts ++ codes "}" ∷ []))
-curly room ts g = enclosed room (codes "{") (codes "}") ts (λ depth bang rest lt. opener_reads (codes "{") depth bang rest refl refl refl refl lt) (λ depth rest. closer_reads (codes "}") depth rest refl refl refl refl) g
+curly room ts g = enclosed room (codes "{") (codes "}") ts (λ depth bang rest lt. opener_reads (codes "{") depth bang rest refl refl refl refl lt)
+    (λ depth rest. closer_reads (codes "}") depth rest refl refl refl refl) g
 
 -- a byte of a class is no byte that is not of it
 other_than : (f : ℕ → Bool) (b k : ℕ) → f b ≡ true → f k ≡ false → eqb b k ≡ false
@@ -111,8 +132,10 @@ specials = 40 ∷ 91 ∷ 123 ∷ 41 ∷ 93 ∷ 125 ∷ 61 ∷ 33 ∷ []
 -- a sound token whose first byte is of a class that has no bracket, no `!` and no `=` is plain
 plain_from : (f : ℕ → Bool) (b : ℕ) (u : List ℕ) → list_all (λ k. not (f k)) specials ≡ true → f b ≡ true → is_sound (b ∷ u) ≡ true → is_plain (b ∷ u) ≡ true
 plain_from f b u none is sound =
-    let opens : is_opener b ≡ false = or_from (eqb b 40 || eqb b 91) (eqb b 123) (or_from (eqb b 40) (eqb b 91) (away 40 refl) (away 91 refl)) (away 123 refl) in
-    let closes : is_closer b ≡ false = or_from (eqb b 41 || eqb b 93) (eqb b 125) (or_from (eqb b 41) (eqb b 93) (away 41 refl) (away 93 refl)) (away 125 refl) in
+    let opens : is_opener b ≡ false =
+    or_from (eqb b 40 || eqb b 91) (eqb b 123) (or_from (eqb b 40) (eqb b 91) (away 40 refl) (away 91 refl)) (away 123 refl) in
+    let closes : is_closer b ≡ false =
+    or_from (eqb b 41 || eqb b 93) (eqb b 125) (or_from (eqb b 41) (eqb b 93) (away 41 refl) (away 93 refl)) (away 125 refl) in
     let equal : eqb b 61 ≡ false = away 61 refl in
     let last : is_bang (b ∷ u) ≡ false = and_left (eqb b 33) (same_name u []) (away 33 refl) in
     (λ i. sound i && not (opens i) && not (closes i) && not (equal i) && not (last i))
@@ -141,8 +164,8 @@ digit_is_no_letter b digit = false_from_ne_true (is_letter b) (λ l. true≢fals
 pub name_plain : (n : Token) → is_name n ≡ true → is_plain n ≡ true
 name_plain [] h = absurd (true≢false (sym h))
 name_plain (b ∷ u) h =
-    let p = and_parts (leb (length (b ∷ u)) 64 && is_spelled (b ∷ u)) (not (is_reserved (b ∷ u))) h in
-    let q = and_parts (leb (length (b ∷ u)) 64) (is_spelled (b ∷ u)) p.0 in
+    let p = and_parts (leb (length (b ∷ u)) 64 && is_word (b ∷ u)) (not (is_reserved (b ∷ u))) h in
+    let q = and_parts (leb (length (b ∷ u)) 64) (is_word (b ∷ u)) p.0 in
     let r = and_parts (is_letter b) (list_all is_letter_or_digit u) q.1 in
     let word : is_word (b ∷ u) ≡ true = q.1 in
     let run : is_run (b ∷ u) ≡ false = and_left (is_ascii_digit b) (list_all is_ascii_digit u) (letter_is_no_digit b r.0) in
@@ -163,13 +186,16 @@ digit_is n lt = and_from (leb 48 (48 + n)) (leb (48 + n) 57) (le-leb 48 (48 + n)
 
 numeral_more : (n : ℕ) (ds : List ℕ) → 10 ≤ n → Numeral (n / 10) ds → Numeral n (ds ++ ((48 + n % 10) ∷ []))
 numeral_more n ds ge p = record {
-  digits = list_all-append is_ascii_digit ds ((48 + n % 10) ∷ []) ∙ and_from (list_all is_ascii_digit ds) (is_ascii_digit (48 + n % 10) && true) p.digits (and_from (is_ascii_digit (48 + n % 10)) true (digit_is (n % 10) (omega arith)) refl);
+  digits = list_all-append is_ascii_digit ds ((48 + n % 10) ∷ [])
+      ∙ and_from (list_all is_ascii_digit ds) (is_ascii_digit (48 + n % 10) && true) p.digits
+      (and_from (is_ascii_digit (48 + n % 10)) true (digit_is (n % 10) (omega arith)) refl);
   some = omega (arith, length-append ds ((48 + n % 10) ∷ []));
   value = let v = p.value in omega (arith, value_push 0 ds (48 + n % 10));
 }
 
 numeral : (n : ℕ) → n < 2 ^ 64 → Numeral n (decimal n)
-numeral n lt = decimal_by_steps Numeral (λ k small. record { digits = and_from (is_ascii_digit (48 + k)) true (digit_is k small) refl; some = omega arith; value = omega arith }) numeral_more n lt
+numeral n lt = decimal_by_steps Numeral
+    (λ k small. record { digits = and_from (is_ascii_digit (48 + k)) true (digit_is k small) refl; some = omega arith; value = omega arith }) numeral_more n lt
 
 -- digits of a number have no needless 0 in front
 no_zero : (n : ℕ) (lt : n < 2 ^ 64) → (eqb (length (decimal n)) 1 || not (eqb (get_or (decimal n) 0 0) 48)) ≡ true
@@ -192,7 +218,8 @@ numeral_plain n (b ∷ u) p zeros le =
     let word : is_word (b ∷ u) ≡ false = and_left (is_letter b) (list_all is_letter_or_digit u) (digit_is_no_letter b r.0) in
     let small : leb (value_after 0 (b ∷ u)) 9223372036854775807 ≡ true = le-leb (value_after 0 (b ∷ u)) 9223372036854775807 (omega arith) in
     let number : is_number (b ∷ u) [] ≡ true = (λ i. zeros i && small i && true) in
-    plain_from is_ascii_digit b u refl r.0 (λ i. (word i || run i || is_symbol (b ∷ u)) && (not (word i) || leb (length (b ∷ u)) 64) && (not (run i) || number i))
+    plain_from is_ascii_digit b u refl r.0
+    (λ i. (word i || run i || is_symbol (b ∷ u)) && (not (word i) || leb (length (b ∷ u)) 64) && (not (run i) || number i))
 
 -- a number in decimal is a plain token
 pub decimal_plain : (n : ℕ) → n ≤ 9223372036854775807 → is_plain (decimal n) ≡ true

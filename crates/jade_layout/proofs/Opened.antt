@@ -20,13 +20,21 @@ use Rattle.jade_syntax.specs.declared.tree.Product.{Product, out-Product, fold_o
 use Rattle.jade_syntax.specs.declared.tree.ProductOp.{ProductOp}
 use Rattle.jade_syntax.specs.declared.tree.Statement.{Statement, out-Statement, fold_out-Statement, map-Statement}
 use Rattle.jade_syntax.specs.declared.tree.Statement.TheOpen.{Statement-F}
-use Rattle.jade_syntax.specs.declared.tree.Statement.TheVariants.{Local, Assign, Store, Declare, outs-Local, outs-Assign, outs-Store, outs-Declare, If, For, Withonly, With, outs-If, outs-For, outs-Withonly, outs-With}
+use Rattle.jade_syntax.specs.declared.tree.Statement.TheVariants.{Local, Assign, Store, Declare, outs-Local}
+use Rattle.jade_syntax.specs.declared.tree.Statement.TheVariants.{outs-Assign, outs-Store, outs-Declare, If}
+use Rattle.jade_syntax.specs.declared.tree.Statement.TheVariants.{For, Withonly, With, outs-If, outs-For}
+use Rattle.jade_syntax.specs.declared.tree.Statement.TheVariants.{outs-Withonly, outs-With}
 use Rattle.jade_syntax.specs.declared.tree.Sum.{Sum, out-Sum, fold_out-Sum}
 use Rattle.jade_syntax.specs.declared.tree.SumOp.{SumOp}
 use Rattle.jade_syntax.specs.declared.tree.Unary.{Unary, fold_out-Unary}
 use Rattle.jade_syntax.specs.declared.tree.UnaryOp.{UnaryOp}
 use Rattle.jade_syntax.specs.declared.tree.ValueKind.{ValueKind}
-use Rattle.jade_layout.specs.Spelling.{Tokens, expr_tokens, and_tokens, cell_tokens, sum_tokens, product_tokens, unary_tokens, atom_tokens, compare_tokens, at_atom, at_and, at_cell, at_compare, at_expr, at_product, at_sum, at_unary, bracketed, object_index as index_of, statement_tokens, block_tokens, at_statement, kind_word, declare_word, name_tokens, object_tokens, sum_sign, product_sign, unary_sign, relation_sign}
+use Rattle.jade_layout.specs.Spelling.{Tokens, expr_tokens, and_tokens, cell_tokens, sum_tokens}
+use Rattle.jade_layout.specs.Spelling.{product_tokens, unary_tokens, atom_tokens, compare_tokens, at_atom}
+use Rattle.jade_layout.specs.Spelling.{at_and, at_cell, at_compare, at_expr, at_product, at_sum, at_unary}
+use Rattle.jade_layout.specs.Spelling.{bracketed, object_index as index_of, statement_tokens, block_tokens}
+use Rattle.jade_layout.specs.Spelling.{at_statement, kind_word, declare_word, name_tokens, object_tokens}
+use Rattle.jade_layout.specs.Spelling.{sum_sign, product_sign, unary_sign, relation_sign}
 
 abbrev pub or_part : Pos × AndExpr → Tokens
 or_part p = codes "||" ∷ and_tokens p.1
@@ -44,16 +52,20 @@ abbrev pub sign_part : UnaryOp × Pos → Tokens
 sign_part p = unary_sign p.0 ∷ []
 
 pub expr_opens : (e : Expr) → expr_tokens e ≡ and_tokens (out-Expr e).first ++ flat_map or_part (out-Expr e).rest
-expr_opens e = fold_out-Expr Tokens Tokens Tokens Tokens Tokens Tokens Tokens Tokens at_atom at_and at_cell at_compare at_expr at_product at_sum at_unary e ∙ simp flat_map-map
+expr_opens e = fold_out-Expr Tokens Tokens Tokens Tokens Tokens Tokens Tokens Tokens at_atom at_and at_cell at_compare at_expr at_product at_sum at_unary e
+    ∙ simp flat_map-map
 
 pub and_opens : (e : AndExpr) → and_tokens e ≡ compare_tokens (out-AndExpr e).first ++ flat_map and_part (out-AndExpr e).rest
-and_opens e = fold_out-AndExpr Tokens Tokens Tokens Tokens Tokens Tokens Tokens Tokens at_atom at_and at_cell at_compare at_expr at_product at_sum at_unary e ∙ simp flat_map-map
+and_opens e = fold_out-AndExpr Tokens Tokens Tokens Tokens Tokens Tokens Tokens Tokens at_atom at_and at_cell at_compare at_expr at_product at_sum at_unary e
+    ∙ simp flat_map-map
 
 pub sum_opens : (e : Sum) → sum_tokens e ≡ product_tokens (out-Sum e).first ++ flat_map sum_part (out-Sum e).rest
-sum_opens e = fold_out-Sum Tokens Tokens Tokens Tokens Tokens Tokens Tokens Tokens at_atom at_and at_cell at_compare at_expr at_product at_sum at_unary e ∙ simp flat_map-map
+sum_opens e = fold_out-Sum Tokens Tokens Tokens Tokens Tokens Tokens Tokens Tokens at_atom at_and at_cell at_compare at_expr at_product at_sum at_unary e
+    ∙ simp flat_map-map
 
 pub product_opens : (e : Product) → product_tokens e ≡ unary_tokens (out-Product e).first ++ flat_map product_part (out-Product e).rest
-product_opens e = fold_out-Product Tokens Tokens Tokens Tokens Tokens Tokens Tokens Tokens at_atom at_and at_cell at_compare at_expr at_product at_sum at_unary e ∙ simp flat_map-map
+product_opens e = fold_out-Product Tokens Tokens Tokens Tokens Tokens Tokens Tokens Tokens at_atom at_and at_cell at_compare at_expr at_product at_sum at_unary
+    e ∙ simp flat_map-map
 
 pub unary_opens : (e : Unary) → unary_tokens e ≡ flat_map sign_part e.signs ++ atom_tokens e.atom
 unary_opens e = fold_out-Unary Tokens Tokens Tokens Tokens Tokens Tokens Tokens Tokens at_atom at_and at_cell at_compare at_expr at_product at_sum at_unary e
@@ -72,14 +84,16 @@ compare_layer_is l None = refl
 compare_layer_is l (Some r) = refl
 
 pub compare_opens : (e : Compare) → compare_tokens e ≡ sum_tokens (out-Compare e).left ++ second_part (out-Compare e).right
-compare_opens e = fold_out-Compare Tokens Tokens Tokens Tokens Tokens Tokens Tokens Tokens at_atom at_and at_cell at_compare at_expr at_product at_sum at_unary e ∙ compare_layer_is _ _
+compare_opens e = fold_out-Compare Tokens Tokens Tokens Tokens Tokens Tokens Tokens Tokens at_atom at_and at_cell at_compare at_expr at_product at_sum at_unary
+    e ∙ compare_layer_is _ _
 
 abbrev atom_layer : Atom-F Atom AndExpr CellRef Compare Expr Product Sum Unary → Tokens
 atom_layer f = at_atom (map-Atom Atom AndExpr CellRef Compare Expr Product Sum Unary Tokens Tokens Tokens Tokens Tokens Tokens Tokens Tokens
     atom_tokens and_tokens cell_tokens compare_tokens expr_tokens product_tokens sum_tokens unary_tokens f)
 
 pub group_opens : (p : Pos) (b : Box Expr Global) → atom_tokens (Group p b) ≡ codes "(" ∷ (expr_tokens b.value ++ codes ")" ∷ [])
-group_opens p b = fold_out-Atom Tokens Tokens Tokens Tokens Tokens Tokens Tokens Tokens at_atom at_and at_cell at_compare at_expr at_product at_sum at_unary (Group p b) ∙ ap atom_layer (outs-Group p b)
+group_opens p b = fold_out-Atom Tokens Tokens Tokens Tokens Tokens Tokens Tokens Tokens at_atom at_and at_cell at_compare at_expr at_product at_sum at_unary
+    (Group p b) ∙ ap atom_layer (outs-Group p b)
 
 abbrev Layer : Type 0
 Layer = CellRef-F Atom AndExpr CellRef Compare Expr Product Sum Unary
@@ -88,12 +102,14 @@ abbrev layer_tokens : Layer → Tokens
 layer_tokens f = at_cell (map-CellRef Atom AndExpr CellRef Compare Expr Product Sum Unary Tokens Tokens Tokens Tokens Tokens Tokens Tokens Tokens
     atom_tokens and_tokens cell_tokens compare_tokens expr_tokens product_tokens sum_tokens unary_tokens f)
 
-layer_is : (n : List ℕ) (p : Pos) (o : Option Expr) (c : Expr) → layer_tokens (record { name = n; pos = p; family = o; cell = c }) ≡ n ∷ (index_of o ++ bracketed (expr_tokens c))
+layer_is : (n : List ℕ) (p : Pos) (o : Option Expr) (c : Expr) → layer_tokens (record { name = n; pos = p; family = o; cell = c }) ≡ n
+    ∷ (index_of o ++ bracketed (expr_tokens c))
 layer_is n p None c = refl
 layer_is n p (Some e) c = refl
 
 pub cell_opens : (e : CellRef) → cell_tokens e ≡ (out-CellRef e).name ∷ (index_of (out-CellRef e).family ++ bracketed (expr_tokens (out-CellRef e).cell))
-cell_opens e = fold_out-CellRef Tokens Tokens Tokens Tokens Tokens Tokens Tokens Tokens at_atom at_and at_cell at_compare at_expr at_product at_sum at_unary e ∙ layer_is _ (out-CellRef e).pos _ _
+cell_opens e = fold_out-CellRef Tokens Tokens Tokens Tokens Tokens Tokens Tokens Tokens at_atom at_and at_cell at_compare at_expr at_product at_sum at_unary e
+    ∙ layer_is _ (out-CellRef e).pos _ _
 
 abbrev pub else_block : Option (List Statement) → Tokens
 else_block None = []
@@ -144,14 +160,17 @@ if_is t b o = statement_opens (If t b o) ∙ ap opened (outs-If t b o)
 pub for_is : (n : List ℕ) (p : Pos) (l h : Expr) (b : List Statement) → statement_tokens (For n p l h b) ≡ opened (Statement-F.For n p l h b)
 for_is n p l h b = statement_opens (For n p l h b) ∙ ap opened (outs-For n p l h b)
 
-pub withonly_is : (p : Pos) (s : List Statement) (ns : List Named) (b : List Statement) → statement_tokens (Withonly p s ns b) ≡ opened (Statement-F.Withonly p s ns b)
+pub withonly_is : (p : Pos) (s : List Statement) (ns : List Named) (b : List Statement) → statement_tokens (Withonly p s ns b)
+    ≡ opened (Statement-F.Withonly p s ns b)
 withonly_is p s ns b = statement_opens (Withonly p s ns b) ∙ ap opened (outs-Withonly p s ns b)
 
 pub with_is : (p : Pos) (s : List Statement) → statement_tokens (With p s) ≡ opened (Statement-F.With p s)
 with_is p s = statement_opens (With p s) ∙ ap opened (outs-With p s)
 
-pub if_none : (t : Expr) (b : List Statement) (o : Option (List Statement)) → o ≡ None → statement_tokens (If t b o) ≡ codes "if" ∷ [] ++ expr_tokens t ++ block_tokens b
+pub if_none : (t : Expr) (b : List Statement) (o : Option (List Statement)) → o ≡ None → statement_tokens (If t b o) ≡ codes "if" ∷ [] ++ expr_tokens t
+    ++ block_tokens b
 if_none t b o e = if_is t b o ∙ rw e (append-nil _)
 
-pub if_some : (t : Expr) (b e : List Statement) (o : Option (List Statement)) → o ≡ Some e → statement_tokens (If t b o) ≡ codes "if" ∷ [] ++ expr_tokens t ++ block_tokens b ++ (codes "else" ∷ [] ++ block_tokens e)
+pub if_some : (t : Expr) (b e : List Statement) (o : Option (List Statement)) → o ≡ Some e → statement_tokens (If t b o) ≡ codes "if" ∷ [] ++ expr_tokens t
+    ++ block_tokens b ++ (codes "else" ∷ [] ++ block_tokens e)
 if_some t b e o h = if_is t b o ∙ rw h refl

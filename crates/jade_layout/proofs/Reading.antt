@@ -1,5 +1,7 @@
 -- Laid out tokens are read as the same tokens.
-use Rattle.std.proofs.Common.{◌≡◌, ℕ, zero, suc, ◌+◌, ◌<◌, ◌≤◌, Bool, true, false, not, ◌&&◌, ◌||◌, if◌then◌else◌, List, [], ◌∷◌, ◌++◌, length, map, get_or, codes, refl, sym, ap, subst, ◌∙◌, ⊎_elim, append_assoc}
+use Rattle.std.proofs.Common.{◌≡◌, ℕ, zero, suc, ◌+◌, ◌<◌, ◌≤◌, Bool, true, false, not, ◌&&◌, ◌||◌}
+use Rattle.std.proofs.Common.{if◌then◌else◌, List, [], ◌∷◌, ◌++◌, length, map, get_or, codes, refl, sym, ap}
+use Rattle.std.proofs.Common.{subst, ◌∙◌, ⊎_elim, append_assoc}
 use Rattle.std.proofs.Common.{rules}
 use Rattle.std.proofs.lemmas.Slice.Eq.{compares_Decides, IsBytesEq}
 use Rattle.std.proofs.Math.Dec.{eqb, leb, ltb}
@@ -37,7 +39,9 @@ separated depth b bytes ts is later start pos =
 indented : (depth n : ℕ) (bytes : List ℕ) (ts : Tokens) → CutsAt depth bytes ts → CutsAt depth (indent n ++ bytes) ts
 indented depth zero bytes ts later = later
 indented depth (suc n) bytes ts later =
-    separated depth 32 (32 ∷ 32 ∷ 32 ∷ (indent n ++ bytes)) ts refl (separated depth 32 (32 ∷ 32 ∷ (indent n ++ bytes)) ts refl (separated depth 32 (32 ∷ (indent n ++ bytes)) ts refl (separated depth 32 (indent n ++ bytes) ts refl (indented depth n bytes ts later))))
+    separated depth 32 (32 ∷ 32 ∷ 32 ∷ (indent n ++ bytes)) ts refl
+    (separated depth 32 (32 ∷ 32 ∷ (indent n ++ bytes)) ts refl
+    (separated depth 32 (32 ∷ (indent n ++ bytes)) ts refl (separated depth 32 (indent n ++ bytes) ts refl (indented depth n bytes ts later))))
 
 -- what a token that is not the last keeps
 pub record Fits (depth : ℕ) (t : Token) : Type 0 where
@@ -67,7 +71,8 @@ number_before t c more is other =
     and_from _ (not (is_letter c)) p.0 (ap not other)
 
 -- a token before a byte from which it is apart is cut off
-one_token : (depth : ℕ) (t : Token) (c : ℕ) (more : List ℕ) (ts : Tokens) → Fits depth t → Apart t c → CutsAt (brackets_after depth (get_or t 0 0)) (c ∷ more) ts → CutsAt depth (t ++ c ∷ more) (t ∷ ts)
+one_token : (depth : ℕ) (t : Token) (c : ℕ) (more : List ℕ) (ts : Tokens) → Fits depth t → Apart t c
+    → CutsAt (brackets_after depth (get_or t 0 0)) (c ∷ more) ts → CutsAt depth (t ++ c ∷ more) (t ∷ ts)
 one_token depth t c more ts ok apart later start pos =
     let r = later (start + length t) (pos_after pos t) in
     let here : TokenAt = record { bytes = t; start = start; pos = pos } in
@@ -114,7 +119,8 @@ readable depth bang t ts h =
     record { sound = r.0; room = r.1; parts = q.1; later = p.1 }
 
 -- a token that touches the next one is apart from its first byte
-touching : (before t : Token) (c : ℕ) (v : List ℕ) → is_token t ≡ true → parts_from (is_bang t) (c ∷ v) ≡ true → touches t (is_sign before t) (c ∷ v) ≡ true → Apart t c
+touching : (before t : Token) (c : ℕ) (v : List ℕ) → is_token t ≡ true → parts_from (is_bang t) (c ∷ v) ≡ true → touches t (is_sign before t) (c ∷ v) ≡ true
+    → Apart t c
 touching before t c v is parts h =
     ⊎_elim
     (λ first. ⊎_elim
@@ -123,10 +129,12 @@ touching before t c v is parts h =
     (λ bracket. by_bracket bracket)
     (or_cases (is_sign before t) (is_among (codes "(" ∷ codes "[" ∷ []) t) opening))
     (λ closing. apart_cutter t c is (among_holds (λ k. list_any (λ x. eqb x k) cutters) (41 ∷ 93 ∷ 91 ∷ 44 ∷ 59 ∷ []) refl (c ∷ v) closing))
-    (or_cases (is_sign before t || is_among (codes "(" ∷ codes "[" ∷ []) t) (is_among (codes ")" ∷ codes "]" ∷ codes "[" ∷ codes "," ∷ codes ";" ∷ []) (c ∷ v)) first))
+    (or_cases (is_sign before t || is_among (codes "(" ∷ codes "[" ∷ []) t) (is_among (codes ")" ∷ codes "]" ∷ codes "[" ∷ codes "," ∷ codes ";" ∷ []) (c ∷ v))
+    first))
     (λ declared. let p = and_parts (is_among declare_words t) (same_name (c ∷ v) (codes "(")) declared in
     apart_cutter t c is (ap (λ s. list_any (λ x. eqb x (get_or s 0 0)) cutters) (same_from (c ∷ v) (codes "(") p.1) ∙ refl))
-    (or_cases (is_sign before t || is_among (codes "(" ∷ codes "[" ∷ []) t || is_among (codes ")" ∷ codes "]" ∷ codes "[" ∷ codes "," ∷ codes ";" ∷ []) (c ∷ v)) (is_among declare_words t && same_name (c ∷ v) (codes "(")) h)
+    (or_cases (is_sign before t || is_among (codes "(" ∷ codes "[" ∷ []) t || is_among (codes ")" ∷ codes "]" ∷ codes "[" ∷ codes "," ∷ codes ";" ∷ []) (c ∷ v))
+    (is_among declare_words t && same_name (c ∷ v) (codes "(")) h)
   where
     no_equal : is_bang t ≡ true → eqb c 61 ≡ false
     no_equal bang = not-true (eqb c 61) (sym (ap (λ b. not (b && eqb c 61)) bang) ∙ parts)
@@ -164,19 +172,23 @@ gap_is [] sign blocks s is = absurd (true≢false (sym is))
 gap_is (b ∷ t) sign blocks s is = refl
 
 -- a gap and what follows it, by the kind of the gap
-on_gap : (P : List ℕ → Type 0) (t : Token) (sign : Bool) (blocks : ℕ) (s : Token) (rest : List ℕ) → is_token t ≡ true → P (10 ∷ (indent (depth_before blocks s) ++ rest)) → (touches t sign s ≡ true → P rest) → P (32 ∷ rest) → P (gap t sign blocks s ++ rest)
+on_gap : (P : List ℕ → Type 0) (t : Token) (sign : Bool) (blocks : ℕ) (s : Token) (rest : List ℕ) → is_token t ≡ true
+    → P (10 ∷ (indent (depth_before blocks s) ++ rest)) → (touches t sign s ≡ true → P rest) → P (32 ∷ rest) → P (gap t sign blocks s ++ rest)
 on_gap P t sign blocks s rest is line touch space =
     subst (λ g. P (g ++ rest)) (sym (gap_is t sign blocks s is))
     (⊎_elim
-    (λ yes_line. subst (λ g. P (g ++ rest)) (sym (cond-true (breaks t s) (10 ∷ indent (depth_before blocks s)) (if touches t sign s then [] else 32 ∷ []) yes_line)) line)
-    (λ no_line. subst (λ g. P (g ++ rest)) (sym (cond-false (breaks t s) (10 ∷ indent (depth_before blocks s)) (if touches t sign s then [] else 32 ∷ []) no_line))
+    (λ yes_line. subst (λ g. P (g ++ rest))
+    (sym (cond-true (breaks t s) (10 ∷ indent (depth_before blocks s)) (if touches t sign s then [] else 32 ∷ []) yes_line)) line)
+    (λ no_line. subst (λ g. P (g ++ rest))
+    (sym (cond-false (breaks t s) (10 ∷ indent (depth_before blocks s)) (if touches t sign s then [] else 32 ∷ []) no_line))
     (⊎_elim
     (λ close. subst (λ g. P (g ++ rest)) (sym (cond-true (touches t sign s) [] (32 ∷ []) close)) (touch close))
     (λ wide. subst (λ g. P (g ++ rest)) (sym (cond-false (touches t sign s) [] (32 ∷ []) wide)) space)
     (cases_Bool (touches t sign s))))
     (cases_Bool (breaks t s)))
 
-begins_next : (before t : Token) (blocks : ℕ) (s : Token) (rest : List ℕ) → is_token t ≡ true → is_token s ≡ true → parts_from (is_bang t) s ≡ true → Begins t (gap t (is_sign before t) blocks s ++ (s ++ rest))
+begins_next : (before t : Token) (blocks : ℕ) (s : Token) (rest : List ℕ) → is_token t ≡ true → is_token s ≡ true → parts_from (is_bang t) s ≡ true
+    → Begins t (gap t (is_sign before t) blocks s ++ (s ++ rest))
 begins_next before t blocks [] rest is next parts = absurd (true≢false (sym next))
 begins_next before t blocks (c ∷ v) rest is next parts =
     on_gap (Begins t) t (is_sign before t) blocks (c ∷ v) ((c ∷ v) ++ rest) is
@@ -184,7 +196,8 @@ begins_next before t blocks (c ∷ v) rest is next parts =
     (λ close. record { head = c; tail = v ++ rest; is = refl; apart = touching before t c v is parts close })
     (record { head = 32; tail = (c ∷ v) ++ rest; is = refl; apart = apart_cutter t 32 is refl })
 
-begins : (before t : Token) (blocks depth : ℕ) (ts : Tokens) → is_token t ≡ true → is_readable depth (is_bang t) ts ≡ true → Begins t (follows t (is_sign before t) blocks ts)
+begins : (before t : Token) (blocks depth : ℕ) (ts : Tokens) → is_token t ≡ true → is_readable depth (is_bang t) ts ≡ true
+    → Begins t (follows t (is_sign before t) blocks ts)
 begins before t blocks depth [] is h = record { head = 10; tail = []; is = refl; apart = apart_cutter t 10 is refl }
 begins before t blocks depth (s ∷ ts) is h =
     let r = readable depth (is_bang t) s ts h in
@@ -193,7 +206,8 @@ begins before t blocks depth (s ∷ ts) is h =
     subst (λ bytes. Begins t bytes) (sym (append_assoc (gap t (is_sign before t) blocks s) s rest)) (begins_next before t blocks s rest is next.a_token r.parts)
 
 -- a gap means nothing
-gap_cut : (depth : ℕ) (t : Token) (sign : Bool) (blocks : ℕ) (s : Token) (rest : List ℕ) (ts : Tokens) → is_token t ≡ true → CutsAt depth rest ts → CutsAt depth (gap t sign blocks s ++ rest) ts
+gap_cut : (depth : ℕ) (t : Token) (sign : Bool) (blocks : ℕ) (s : Token) (rest : List ℕ) (ts : Tokens) → is_token t ≡ true → CutsAt depth rest ts
+    → CutsAt depth (gap t sign blocks s ++ rest) ts
 gap_cut depth t sign blocks s rest ts is later =
     on_gap (λ bytes. CutsAt depth bytes ts) t sign blocks s rest is
     (separated depth 10 (indent (depth_before blocks s) ++ rest) ts refl (indented depth (depth_before blocks s) rest ts later))
@@ -201,14 +215,18 @@ gap_cut depth t sign blocks s rest ts is later =
     (separated depth 32 rest ts refl later)
 
 -- a token before what follows it
-token_cut : (before t : Token) (blocks depth : ℕ) (ts : Tokens) → is_sound t ≡ true → has_room depth t ≡ true → is_readable (brackets_after depth (get_or t 0 0)) (is_bang t) ts ≡ true → CutsAt (brackets_after depth (get_or t 0 0)) (follows t (is_sign before t) blocks ts) ts → CutsAt depth (t ++ follows t (is_sign before t) blocks ts) (t ∷ ts)
+token_cut : (before t : Token) (blocks depth : ℕ) (ts : Tokens) → is_sound t ≡ true → has_room depth t ≡ true
+    → is_readable (brackets_after depth (get_or t 0 0)) (is_bang t) ts ≡ true
+    → CutsAt (brackets_after depth (get_or t 0 0)) (follows t (is_sign before t) blocks ts) ts
+    → CutsAt depth (t ++ follows t (is_sign before t) blocks ts) (t ∷ ts)
 token_cut before t blocks depth ts sound room h later =
     let ok = fits depth t sound room in
     let b = begins before t blocks (brackets_after depth (get_or t 0 0)) ts ok.a_token h in
     subst (λ bytes. CutsAt depth (t ++ bytes) (t ∷ ts)) (sym b.is)
     (one_token depth t b.head b.tail ts ok b.apart (subst (λ bytes. CutsAt (brackets_after depth (get_or t 0 0)) bytes ts) b.is later))
 
-follows_cut : (before first : Token) (blocks depth : ℕ) (ts : Tokens) → is_token first ≡ true → is_readable depth (is_bang first) ts ≡ true → CutsAt depth (follows first (is_sign before first) blocks ts) ts
+follows_cut : (before first : Token) (blocks depth : ℕ) (ts : Tokens) → is_token first ≡ true → is_readable depth (is_bang first) ts ≡ true
+    → CutsAt depth (follows first (is_sign before first) blocks ts) ts
 follows_cut before first blocks depth [] is h = separated depth 10 [] [] refl (λ start pos. record { end = pos; lexemes = []; cut = nothing refl; same = refl })
 follows_cut before first blocks depth (t ∷ ts) is h =
     let r = readable depth (is_bang first) t ts h in
@@ -216,7 +234,8 @@ follows_cut before first blocks depth (t ∷ ts) is h =
     let rest = follows t (is_sign first t) (depth_after blocks t) ts in
     subst (λ bytes. CutsAt depth bytes (t ∷ ts)) (sym (append_assoc (gap first (is_sign before first) blocks t) t rest))
     (gap_cut depth first (is_sign before first) blocks t (t ++ rest) (t ∷ ts) is
-    (token_cut first t (depth_after blocks t) depth ts r.sound r.room r.later (follows_cut first t (depth_after blocks t) (brackets_after depth (get_or t 0 0)) ts ok.a_token r.later)))
+    (token_cut first t (depth_after blocks t) depth ts r.sound r.room r.later
+    (follows_cut first t (depth_after blocks t) (brackets_after depth (get_or t 0 0)) ts ok.a_token r.later)))
 
 layout_cut : (ts : Tokens) → is_readable 0 false ts ≡ true → CutsAt 0 (layout ts) ts
 layout_cut [] h = λ start pos. record { end = pos; lexemes = []; cut = nothing refl; same = refl }
@@ -232,7 +251,8 @@ pub record IsCutAs (text : List ℕ) (ts : Tokens) : Type 0 where
   pub same : map (λ t. t.bytes) tokens.lexemes ≡ ts
 
 pub layout_is_cut : (ts : Tokens) → is_readable 0 false ts ≡ true → IsCutAs (layout ts) ts
-layout_is_cut ts h = let c = layout_cut ts h 0 (record { line = 1; column = 1 }) in record { tokens = record { lexemes = c.lexemes; end = c.end }; cut = c.cut; same = c.same }
+layout_is_cut ts h = let c = layout_cut ts h 0 (record { line = 1; column = 1 }) in
+    record { tokens = record { lexemes = c.lexemes; end = c.end }; cut = c.cut; same = c.same }
 
 pub reads_as : (text : List ℕ) (ts : Tokens) → ((tokens : TokenList) → IsCut text tokens → reading text ≡ Whole tokens) → IsCutAs text ts → ReadsAs text ts
 reads_as text ts law c = record { tokens = c.tokens; whole = law c.tokens c.cut; same = c.same }

@@ -2,7 +2,8 @@
 use Rattle.std.specs.Prelude.{ℕ, zero, suc, ◌+◌, ◌-◌, Bool, false, not, ◌&&◌, ◌||◌, List, [], ◌∷◌, ◌++◌, codes, if◌then◌else◌}
 use Rattle.std.specs.List.{list_any}
 use Rattle.std.specs.Char.{is_ascii_digit}
-use Rattle.jade_syntax.specs.Names.{is_letter, is_reserved, declare_words}
+use Rattle.jade_syntax.specs.Names.{is_reserved, declare_words}
+use Rattle.jade_alphabet.specs.Letters.{is_letter}
 use Rattle.jade_syntax.specs.Numbering.{same_name}
 use Rattle.jade_layout.specs.Spelling.{Token, Tokens}
 

@@ -3,7 +3,8 @@
 ghost use Rattle.std.specs.Prelude.{◌≡◌, [], ◌∷◌, codes};
 ghost use Rattle.jade_layout.specs.Layout.{is_among, opens_block, closes_block, is_number, is_free_word, ends_operand, is_sign, breaks, touches};
 
-use jade_syntax::name::{is_declare_word, is_letter, is_reserved, same_name};
+use jade_alphabet::is_letter;
+use jade_syntax::name::{is_declare_word, is_reserved, same_name};
 
 /// Whether the token is `{`.
 pub(crate) fn opens_block(token: &[u8]) -> bool

@@ -3,7 +3,7 @@ use Rattle.std.proofs.Common.{◌≡◌, ◌+◌, Bool, true, false, ◌&&◌, L
 use Rattle.std.specs.List.{flat_map}
 use Rattle.std.proofs.lemmas.List.{map-append}
 use Rattle.jade_parser.specs.Spelled.{Tokens, Parts, tokens_of, fixed, Fixed}
-use Rattle.jade_parser.specs.Machine.{Must, Body, Stack, goes, is_sign}
+use Rattle.jade_parser.specs.steps.Machine.{Must, Body, Stack, goes, is_sign}
 use Rattle.jade_syntax.specs.declared.shapes.place.BlockKind.{BlockKind}
 use Rattle.jade_syntax.specs.Shapes.{all_placed}
 use Rattle.jade_parser.specs.declared.Sign.TheVariants.{LeftBrace, RightBrace, ElseWord}
@@ -28,11 +28,13 @@ both true b e = (refl, e)
 both false b e = absurd (cc)
 
 module _ {S : Type 0} (tok : S → Parts) (shape : S → BlockKind → Bool) (ok : (s : S) (c : BlockKind) → shape s c ≡ true → Goes c (tok s)) where
-  statements_begin : (c : BlockKind) (xs : List S) (rest : Tokens) → all_placed c (map shape xs) ≡ true → NotElse rest → NotElse (tokens_of (flat_map (λ t. t) (map tok xs)) ++ rest)
+  statements_begin : (c : BlockKind) (xs : List S) (rest : Tokens) → all_placed c (map shape xs) ≡ true → NotElse rest
+      → NotElse (tokens_of (flat_map (λ t. t) (map tok xs)) ++ rest)
   statements_begin c [] rest e n = n
   statements_begin c (x ∷ xs) rest e n =
       let p = both (shape x c) (all_placed c (map shape xs)) e in
-      rw (split_tokens (tok x) (flat_map (λ t. t) (map tok xs)) rest) ((ok x c p.0).begins (tokens_of (flat_map (λ t. t) (map tok xs)) ++ rest) (statements_begin c xs rest p.1 n))
+      rw (split_tokens (tok x) (flat_map (λ t. t) (map tok xs)) rest)
+      ((ok x c p.0).begins (tokens_of (flat_map (λ t. t) (map tok xs)) ++ rest) (statements_begin c xs rest p.1 n))
 
   statements_go : (c : BlockKind) (xs : List S) (st : Stack) (rest : Tokens) → all_placed c (map shape xs) ≡ true → NotElse rest
       → goes (tokens_of (flat_map (λ t. t) (map tok xs)) ++ rest) (Body c ∷ st) ≡ length (flat_map (λ t. t) (map tok xs)) + goes rest (Body c ∷ st)

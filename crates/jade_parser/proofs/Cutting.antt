@@ -1,5 +1,7 @@
 -- The parts of an outermost expression, numbered, and the beginning of what was read.
-use Rattle.std.proofs.Common.{◌≡◌, ℕ, zero, suc, ◌+◌, ◌-◌, ◌≤◌, ◌<◌, List, [], ◌∷◌, ◌++◌, refl, ap, sym, ◌∙◌, length, drop, arith, append_assoc, append-nil, length-append, Bool, true, false, ◌&&◌, nat_le}
+use Rattle.std.proofs.Common.{◌≡◌, ℕ, zero, suc, ◌+◌, ◌-◌, ◌≤◌, ◌<◌, List, [], ◌∷◌, ◌++◌, refl, ap, sym, ◌∙◌}
+use Rattle.std.proofs.Common.{length, drop, arith, append_assoc, append-nil, length-append, Bool, true, false}
+use Rattle.std.proofs.Common.{◌&&◌, nat_le}
 use Rattle.std.specs.List.{list_all}
 use Rattle.std.proofs.lemmas.Bool.Decides.{nat_tests}
 use Rattle.std.proofs.lemmas.List.{map-append}
@@ -7,10 +9,11 @@ use Rattle.std.proofs.lemmas.List.Folds.{list_all-append}
 use Rattle.jade_base.specs.declared.place.Pos.{Pos}
 use Rattle.jade_syntax.specs.declared.tree.Expr.{Expr}
 use Rattle.jade_parser.specs.Spelled.{Tokens, Part, Parts, tokens_of, numbered, outer, is_valid, AllValid, AllShort, expr_parts}
-use Rattle.jade_parser.specs.Machine.{expr_in}
+use Rattle.jade_parser.specs.steps.Machine.{expr_in}
 use Rattle.jade_parser.specs.declared.Seen.{Seen}
-use Rattle.jade_parser.specs.Reads.{Reads, kinds, places, Agrees, Known, Refusal, Whole}
-use Rattle.jade_parser.specs.Parts.{Any, RefusalIn, LongIn, OuterIn}
+use Rattle.jade_parser.specs.steps.Reads.{Reads, kinds, places, Known, Refusal, Whole}
+use Rattle.jade_parser.specs.Spelled.{Agrees}
+use Rattle.jade_parser.specs.steps.Parts.{Any, RefusalIn, LongIn, OuterIn}
 use Rattle.jade_parser.proofs.Reading.{reads_length, all_valid}
 
 pub numbered_tokens : (n : ℕ) (ps : Parts) → tokens_of (numbered n ps) ≡ tokens_of ps
@@ -89,8 +92,10 @@ reads_first {all} {a} {b} s t r =
     let n : b ≡ a + length (s ++ t) = reads_length r in
     let m : length (s ++ t) ≡ length s + length t = length-append s t in
     let w = r.within in
-    let o : drop a ts ≡ tokens_of s ++ (tokens_of t ++ drop b ts) = r.stands ∙ rw (map-append (λ (x : Part). x.token) s t) (append_assoc (tokens_of s) (tokens_of t) (drop b ts)) in
-    let d : drop (a + length s) ts ≡ tokens_of t ++ drop b ts = sym (drop_twice (length s) a ts) ∙ ap (drop (length s)) o ∙ drop_past s (tokens_of t ++ drop b ts) in
+    let o : drop a ts ≡ tokens_of s ++ (tokens_of t ++ drop b ts) =
+    r.stands ∙ rw (map-append (λ (x : Part). x.token) s t) (append_assoc (tokens_of s) (tokens_of t) (drop b ts)) in
+    let d : drop (a + length s) ts ≡ tokens_of t ++ drop b ts = sym (drop_twice (length s) a ts) ∙ ap (drop (length s)) o
+    ∙ drop_past s (tokens_of t ++ drop b ts) in
     record {
       forward = omega arith;
       within = omega arith;
@@ -139,7 +144,8 @@ outer_refused all a k r le =
       };
     }
 
-long_cut : (all : List Seen) (a c : ℕ) (x : Expr) (before after more : Parts) (p : Part) → length before ≡ 256 → Reads all a c (before ++ p ∷ after) → expr_parts x ≡ (before ++ p ∷ after) ++ more → (Known all → AllValid more) → LongIn Any outer all a (a + 256)
+long_cut : (all : List Seen) (a c : ℕ) (x : Expr) (before after more : Parts) (p : Part) → length before ≡ 256 → Reads all a c (before ++ p ∷ after)
+    → expr_parts x ≡ (before ++ p ∷ after) ++ more → (Known all → AllValid more) → LongIn Any outer all a (a + 256)
 long_cut all a c x before after more p long r e v =
     let s = before ++ p ∷ [] in
     let q : (before ++ p ∷ []) ++ after ≡ before ++ p ∷ after = append_assoc before (p ∷ []) after in
@@ -155,14 +161,16 @@ long_cut all a c x before after more p long r e v =
       more = numbered (0 + length before + 1) (after ++ more);
       tree = x;
       reads = rw (← numbered_append 0 before (p ∷ [])) g;
-      by = ap (numbered 0) h ∙ numbered_append 0 before (p ∷ (after ++ more)) ∙ sym (append_assoc (numbered 0 before) (last ∷ []) (numbered (0 + length before + 1) (after ++ more)));
+      by = ap (numbered 0) h ∙ numbered_append 0 before (p ∷ (after ++ more))
+          ∙ sym (append_assoc (numbered 0 before) (last ∷ []) (numbered (0 + length before + 1) (after ++ more)));
       fits = record { any = tt };
       valid = λ w. numbered_valid (0 + length before + 1) (after ++ more) (all_valid after more (valid_second s after (rw q (r.valid w))) (v w));
       short = numbered_short 0 before (omega arith);
       too_many = omega arith;
     }
 
-long_so : (all : List Seen) (a c : ℕ) (x : Expr) (read more : Parts) → Reads all a c read → expr_parts x ≡ read ++ more → (Known all → AllValid more) → 256 < c - a → LongIn Any outer all a (a + 256)
+long_so : (all : List Seen) (a c : ℕ) (x : Expr) (read more : Parts) → Reads all a c read → expr_parts x ≡ read ++ more → (Known all → AllValid more)
+    → 256 < c - a → LongIn Any outer all a (a + 256)
 long_so all a c x read more r e v lt =
     let n : c ≡ a + length read = reads_length r in
     let t = cut 256 read (omega arith) in

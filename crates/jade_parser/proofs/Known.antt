@@ -1,5 +1,7 @@
 -- What bytes say of a token, there and back.
-use Rattle.std.proofs.Common.{◌≡◌, ℕ, ◌<◌, ◌≤◌, zero, suc, ◌^◌, Bool, true, false, ◌&&◌, ◌||◌, not, nat_le, if◌then◌else◌, List, [], ◌∷◌, ◌++◌, Option, Some, None, length, map, codes, get_or, refl, sym, ap, ◌∙◌, arith, rules, ℤ}
+use Rattle.std.proofs.Common.{◌≡◌, ℕ, ◌<◌, ◌≤◌, zero, suc, ◌^◌, Bool, true, false, ◌&&◌, ◌||◌, not, nat_le}
+use Rattle.std.proofs.Common.{if◌then◌else◌, List, [], ◌∷◌, ◌++◌, Option, Some, None, length, map, codes}
+use Rattle.std.proofs.Common.{get_or, refl, sym, ap, ◌∙◌, arith, rules, ℤ}
 use Rattle.std.specs.List.{list_any, list_all}
 use Rattle.std.specs.Char.{is_ascii_digit}
 use Rattle.std.specs.Fmt.{decimal}
@@ -10,11 +12,26 @@ use Rattle.std.proofs.lemmas.Slice.Eq.{compares_Decides, IsBytesEq}
 use Rattle.std.proofs.lemmas.Str.Parse.{IsNumeralModel, numerals_by_fold}
 use Rattle.jade_lexer.specs.Alphabet.{value_after, is_run}
 use Rattle.jade_syntax.specs.Numbering.{same_name}
-use Rattle.jade_syntax.specs.Names.{is_letter, is_spelled, is_name, is_reserved, item_words, statement_words, declare_words}
+use Rattle.jade_syntax.specs.Names.{is_name, is_reserved, item_words, statement_words, declare_words}
+use Rattle.jade_alphabet.specs.Letters.{is_letter, is_word}
 use Rattle.jade_parser.specs.declared.Sign.{Sign}
-use Rattle.jade_parser.specs.declared.Sign.TheVariants.{InputWord, ObjectWord, ObjectsWord, MainWord, IntWord, BoolWord, TrueWord, FalseWord, IfWord, ElseWord, ForWord, InWord, WithonlyWord, DoWord, WithWord, ContWord, RdWord, WrWord, RdWrWord, DfRdWord, DfWrWord, DfRdWrWord, NoRdWord, NoWrWord, NoRdWrWord, LeftParen, RightParen, LeftBracket, RightBracket, LeftBrace, RightBrace, Semicolon, Colon, Comma, DotDot, Becomes, EqualSign, UnequalSign, LessSign, LessEqualSign, GreaterSign, GreaterEqualSign, PlusSign, MinusSign, TimesSign, OverSign, PercentSign, NotSign, OrSign, AndSign}
-use Rattle.jade_parser.specs.Spelled.{Token, Fixed, Called, Counted, Odd, is_valid}
-use Rattle.jade_parser.specs.Kinds.{sign_bytes, token_bytes, sign_among, first_of, sign_in, all_signs, item_signs, statement_signs, access_signs, change_signs, bracket_signs, mark_signs, relation_signs, operator_signs, is_kept, is_free, is_small_run, has_needless_zero, is_counted, plain_token, sign_or, token_of_bytes}
+use Rattle.jade_parser.specs.declared.Sign.TheVariants.{InputWord, ObjectWord, ObjectsWord, MainWord, IntWord}
+use Rattle.jade_parser.specs.declared.Sign.TheVariants.{BoolWord, TrueWord, FalseWord, IfWord, ElseWord}
+use Rattle.jade_parser.specs.declared.Sign.TheVariants.{ForWord, InWord, WithonlyWord, DoWord, WithWord}
+use Rattle.jade_parser.specs.declared.Sign.TheVariants.{ContWord, RdWord, WrWord, RdWrWord, DfRdWord}
+use Rattle.jade_parser.specs.declared.Sign.TheVariants.{DfWrWord, DfRdWrWord, NoRdWord, NoWrWord, NoRdWrWord}
+use Rattle.jade_parser.specs.declared.Sign.TheVariants.{LeftParen, RightParen, LeftBracket, RightBracket}
+use Rattle.jade_parser.specs.declared.Sign.TheVariants.{LeftBrace, RightBrace, Semicolon, Colon, Comma}
+use Rattle.jade_parser.specs.declared.Sign.TheVariants.{DotDot, Becomes, EqualSign, UnequalSign, LessSign}
+use Rattle.jade_parser.specs.declared.Sign.TheVariants.{LessEqualSign, GreaterSign, GreaterEqualSign}
+use Rattle.jade_parser.specs.declared.Sign.TheVariants.{PlusSign, MinusSign, TimesSign, OverSign, PercentSign}
+use Rattle.jade_parser.specs.declared.Sign.TheVariants.{NotSign, OrSign, AndSign}
+use Rattle.jade_parser.specs.Spelled.{Token, Fixed, Called, Counted, Unknown, is_valid}
+use Rattle.jade_parser.specs.Kinds.{sign_bytes, token_bytes, sign_among, first_of, sign_in, all_signs}
+use Rattle.jade_parser.specs.Kinds.{item_signs, statement_signs, access_signs, change_signs, bracket_signs}
+use Rattle.jade_parser.specs.Kinds.{mark_signs, relation_signs, operator_signs, is_kept, is_free}
+use Rattle.jade_parser.specs.Kinds.{is_small_run, has_needless_zero, is_counted, plain_token, sign_or}
+use Rattle.jade_parser.specs.Kinds.{token_of_bytes}
 use Rattle.jade_parser.proofs.Digits.{run_is}
 
 bytes_like : IsBytesEq same_name
@@ -74,7 +91,7 @@ name_free n h =
     let p : same_name n (codes "proc") ≡ false = differs is_name n (codes "proc") h refl in
     let q : same_name n (codes "cm") ≡ false = differs is_name n (codes "cm") h refl in
     let k : is_kept n ≡ false = rw (p, q) refl in
-    free_of (nat_le (length n) 64) (is_spelled n) (not (is_reserved n)) (is_kept n) h k
+    free_of (nat_le (length n) 64) (is_word n) (not (is_reserved n)) (is_kept n) h k
 
 called_back : (n : List ℕ) → is_name n ≡ true → token_of_bytes n ≡ Called n
 called_back n h =
@@ -90,7 +107,7 @@ own = numerals_by_fold _ (search rules) value_after (search rules)
 digit_no_letter : (b : ℕ) → is_ascii_digit b ≡ true → is_letter b ≡ false
 digit_no_letter b h = grind (arith, nat_tests)
 
-run_not_spelled : (x : List ℕ) → is_run x ≡ true → is_spelled x ≡ false
+run_not_spelled : (x : List ℕ) → is_run x ≡ true → is_word x ≡ false
 run_not_spelled [] h = absurd (cc)
 run_not_spelled (b ∷ x) h =
     let p = both_true (is_ascii_digit b) (list_all is_ascii_digit x) h in
@@ -105,7 +122,7 @@ counted_is x h =
     let s : sign_in all_signs x ≡ None = no_sign is_counted all_signs x h refl in
     let p = both_true (is_small_run x) (not (has_needless_zero x)) h in
     let q = both_true (is_run x) (nat_le (value_after 0 x) 9223372036854775807) p.0 in
-    let f : is_free x ≡ false = not_free (nat_le (length x) 64) (is_spelled x) (not (is_kept x)) (run_not_spelled x q.0) in
+    let f : is_free x ≡ false = not_free (nat_le (length x) 64) (is_word x) (not (is_kept x)) (run_not_spelled x q.0) in
     rw (s, f, h) refl
 
 no_zero : (x : List ℕ) → 48 < get_or x 0 0 → has_needless_zero x ≡ false
@@ -127,7 +144,8 @@ decimal_counted n h =
     let v : value_after 0 (decimal n) ≡ n = digits_value-decimal own n small in
     let l : nat_le (value_after 0 (decimal n)) 9223372036854775807 ≡ true = le-leb (value_after 0 (decimal n)) 9223372036854775807 (omega arith) in
     let z : not (has_needless_zero (decimal n)) ≡ true = ap not (decimal_no_zero n small) in
-    and_true (is_small_run (decimal n)) (not (has_needless_zero (decimal n))) (and_true (is_run (decimal n)) (nat_le (value_after 0 (decimal n)) 9223372036854775807) r l) z
+    and_true (is_small_run (decimal n)) (not (has_needless_zero (decimal n)))
+    (and_true (is_run (decimal n)) (nat_le (value_after 0 (decimal n)) 9223372036854775807) r l) z
 
 number_back : (n : ℕ) → nat_le n 9223372036854775807 ≡ true → token_of_bytes (decimal n) ≡ Counted (ℤ.pos n)
 number_back n h =
@@ -154,12 +172,13 @@ is_the_decimal x h =
 
 -- what a token is, its bytes being these
 abbrev pub Known : List ℕ → Token → Type 0
-Known x Odd = Unit {0}
+Known x Unknown = Unit {0}
 Known x (Fixed s) = (is_valid (Fixed s) ≡ true) × (token_bytes (Fixed s) ≡ x)
 Known x (Called n) = (is_valid (Called n) ≡ true) × (token_bytes (Called n) ≡ x)
 Known x (Counted v) = (is_valid (Counted v) ≡ true) × (token_bytes (Counted v) ≡ x)
 
-found_one : (t : Sign) (later : Option Sign) (x : List ℕ) (s : Sign) (b : Bool) → same_name x (sign_bytes t) ≡ b → (later ≡ Some s → sign_bytes s ≡ x) → (if b then Some t else later) ≡ Some s → sign_bytes s ≡ x
+found_one : (t : Sign) (later : Option Sign) (x : List ℕ) (s : Sign) (b : Bool) → same_name x (sign_bytes t) ≡ b → (later ≡ Some s → sign_bytes s ≡ x)
+    → (if b then Some t else later) ≡ Some s → sign_bytes s ≡ x
 found_one t later x s true h more e = let w : t ≡ s = cc in ap sign_bytes (sym w) ∙ sym (same_from x (sign_bytes t) h)
 found_one t later x s false h more e = more e
 
@@ -173,7 +192,8 @@ first_is None b s Q f g e = g e
 
 found : (groups : List (List Sign)) (x : List ℕ) (s : Sign) → sign_in groups x ≡ Some s → sign_bytes s ≡ x
 found [] x s e = absurd (cc)
-found (signs ∷ groups) x s e = first_is (sign_among signs x) (sign_in groups x) s (sign_bytes s ≡ x) (λ k. found_among signs x s k) (λ k. found groups x s k) e
+found (signs ∷ groups) x s e = first_is (sign_among signs x) (sign_in groups x) s (sign_bytes s ≡ x) (λ k. found_among signs x s k)
+    (λ k. found groups x s k) e
 
 -- ---- what no sign is, is no reserved word of a form
 
@@ -210,20 +230,23 @@ kept_both false b e = (refl, e)
 not_reserved : (x : List ℕ) → sign_in all_signs x ≡ None → is_kept x ≡ false → is_reserved x ≡ false
 not_reserved x e k =
     let kept = kept_both (same_name x (codes "proc")) (same_name x (codes "cm")) k in
-    let a = none_both (sign_among item_signs x) (sign_in (statement_signs ∷ access_signs ∷ change_signs ∷ bracket_signs ∷ mark_signs ∷ relation_signs ∷ operator_signs ∷ []) x) e in
-    let b = none_both (sign_among statement_signs x) (sign_in (access_signs ∷ change_signs ∷ bracket_signs ∷ mark_signs ∷ relation_signs ∷ operator_signs ∷ []) x) a.1 in
+    let a = none_both (sign_among item_signs x)
+    (sign_in (statement_signs ∷ access_signs ∷ change_signs ∷ bracket_signs ∷ mark_signs ∷ relation_signs ∷ operator_signs ∷ []) x) e in
+    let b = none_both (sign_among statement_signs x)
+    (sign_in (access_signs ∷ change_signs ∷ bracket_signs ∷ mark_signs ∷ relation_signs ∷ operator_signs ∷ []) x) a.1 in
     let c = none_both (sign_among access_signs x) (sign_in (change_signs ∷ bracket_signs ∷ mark_signs ∷ relation_signs ∷ operator_signs ∷ []) x) b.1 in
     let d = none_both (sign_among change_signs x) (sign_in (bracket_signs ∷ mark_signs ∷ relation_signs ∷ operator_signs ∷ []) x) c.1 in
     let items : list_any (same_name x) item_words ≡ false = none_listed item_signs x a.0 in
     let statements : list_any (same_name x) statement_words ≡ false =
-    none_with (same_name x) (map sign_bytes statement_signs) (codes "proc" ∷ []) (none_listed statement_signs x b.0) (or_false (same_name x (codes "proc")) false kept.0 refl) in
+    none_with (same_name x) (map sign_bytes statement_signs) (codes "proc" ∷ []) (none_listed statement_signs x b.0)
+    (or_false (same_name x (codes "proc")) false kept.0 refl) in
     let declares : list_any (same_name x) declare_words ≡ false =
     none_with (same_name x) (map sign_bytes access_signs) (codes "cm" ∷ map sign_bytes change_signs) (none_listed access_signs x c.0)
     (or_false (same_name x (codes "cm")) (list_any (same_name x) (map sign_bytes change_signs)) kept.1 (none_listed change_signs x d.0)) in
     rw (items, statements, declares) refl
 
 free_name : (x : List ℕ) → sign_in all_signs x ≡ None → is_free x ≡ true → is_name x ≡ true
-free_name x e h = named (nat_le (length x) 64) (is_spelled x) (is_kept x) (is_reserved x) h (λ k. not_reserved x e k)
+free_name x e h = named (nat_le (length x) 64) (is_word x) (is_kept x) (is_reserved x) h (λ k. not_reserved x e k)
   where
     named : (a b c d : Bool) → (a && b && not c) ≡ true → (c ≡ false → d ≡ false) → (a && b && not d) ≡ true
     named true true true d h f = absurd (cc)
@@ -234,18 +257,18 @@ free_name x e h = named (nat_le (length x) 64) (is_spelled x) (is_kept x) (is_re
 plain_known : (x : List ℕ) → sign_in all_signs x ≡ None → Known x (plain_token x)
 plain_known x e = by_free (is_free x) refl
   where
-    number_known : (b : Bool) → is_counted x ≡ b → Known x (if b then Counted (ℤ.pos (value_after 0 x)) else Odd)
+    number_known : (b : Bool) → is_counted x ≡ b → Known x (if b then Counted (ℤ.pos (value_after 0 x)) else Unknown)
     number_known true h =
         let p = both_true (is_small_run x) (not (has_needless_zero x)) h in
         let q = both_true (is_run x) (nat_le (value_after 0 x) 9223372036854775807) p.0 in
         (q.1, is_the_decimal x h)
     number_known false h = tt
 
-    by_free : (b : Bool) → is_free x ≡ b → Known x (if b then Called x else (if is_counted x then Counted (ℤ.pos (value_after 0 x)) else Odd))
+    by_free : (b : Bool) → is_free x ≡ b → Known x (if b then Called x else (if is_counted x then Counted (ℤ.pos (value_after 0 x)) else Unknown))
     by_free true h = (free_name x e h, refl)
     by_free false h = number_known (is_counted x) refl
 
--- what is not odd is a token that a program may have, and has these bytes
+-- what is not unknown is a token that a program may have, and has these bytes
 pub known : (x : List ℕ) → Known x (token_of_bytes x)
 known x = here (sign_in all_signs x) refl
   where
@@ -311,4 +334,4 @@ back (Fixed s) h = sign_back s
 back (Called n) h = called_back n h
 back (Counted (ℤ.pos n)) h = number_back n h
 back (Counted (ℤ.negsuc n)) h = absurd (cc)
-back Odd h = absurd (cc)
+back Unknown h = absurd (cc)

@@ -4,7 +4,7 @@ use Rattle.std.proofs.lemmas.List.{map-append}
 use Rattle.std.specs.List.{flat_map}
 use Rattle.jade_parser.specs.declared.Sign.TheVariants.{TrueWord, FalseWord, LeftParen, RightParen, RightBracket}
 use Rattle.jade_parser.specs.Spelled.{Tokens, Fixed, Called, Counted, Parts, tokens_of, marked, fixed, bracketed, relation_sign, unary_sign}
-use Rattle.jade_parser.specs.Machine.{Need, Rest, First, Second, Must, Stack, rank, asks, goes, unary_in, sum_in, compare_in, expr_in}
+use Rattle.jade_parser.specs.steps.Machine.{Need, Rest, First, Second, Must, Stack, rank, asks, goes, unary_in, sum_in, compare_in, expr_in}
 use Rattle.jade_base.specs.declared.place.Pos.{Pos}
 use Rattle.jade_syntax.specs.declared.tree.Relation.{Relation}
 use Rattle.jade_syntax.specs.declared.tree.Relation.TheVariants.{Equal, Unequal, Less, LessEqual, Greater, GreaterEqual}
@@ -35,40 +35,50 @@ called_runs n p = record { by = λ st rest f. ap (λ k. 1 + k) (past_first st re
 pub group_runs : (p : Pos) (ts : Parts) → Runs expr_in 5 ts → Runs unary_in 0 (marked (Fixed LeftParen) p ∷ (ts ++ fixed RightParen ∷ []))
 group_runs p ts r = record {
   by = λ st rest f.
-      let a : goes (tokens_of (ts ++ fixed RightParen ∷ []) ++ rest) (expr_in ++ Must RightParen ∷ st) ≡ goes (tokens_of ts ++ (Fixed RightParen ∷ rest)) (expr_in ++ Must RightParen ∷ st) = simp (append_assoc, map-append) in
+      let a : goes (tokens_of (ts ++ fixed RightParen ∷ []) ++ rest) (expr_in ++ Must RightParen ∷ st)
+      ≡ goes (tokens_of ts ++ (Fixed RightParen ∷ rest)) (expr_in ++ Must RightParen ∷ st) = simp (append_assoc, map-append) in
       let b = r.by (Must RightParen ∷ st) (Fixed RightParen ∷ rest) (omega arith) in
       omega (arith, a, b, length-append ts (fixed RightParen ∷ []));
 }
 
-first_index : (ts : Parts) (st : Stack) (rest : Tokens) → Runs expr_in 5 ts → goes (tokens_of (bracketed ts) ++ rest) (First ∷ st) ≡ length (bracketed ts) + goes rest (Second ∷ st)
+first_index : (ts : Parts) (st : Stack) (rest : Tokens) → Runs expr_in 5 ts → goes (tokens_of (bracketed ts) ++ rest) (First ∷ st)
+    ≡ length (bracketed ts) + goes rest (Second ∷ st)
 first_index ts st rest r =
-    let a : goes (tokens_of (ts ++ fixed RightBracket ∷ []) ++ rest) (expr_in ++ Must RightBracket ∷ Second ∷ st) ≡ goes (tokens_of ts ++ (Fixed RightBracket ∷ rest)) (expr_in ++ Must RightBracket ∷ Second ∷ st) = simp (append_assoc, map-append) in
+    let a : goes (tokens_of (ts ++ fixed RightBracket ∷ []) ++ rest) (expr_in ++ Must RightBracket ∷ Second ∷ st)
+    ≡ goes (tokens_of ts ++ (Fixed RightBracket ∷ rest)) (expr_in ++ Must RightBracket ∷ Second ∷ st) = simp (append_assoc, map-append) in
     let b = r.by (Must RightBracket ∷ Second ∷ st) (Fixed RightBracket ∷ rest) (omega arith) in
     omega (arith, a, b, length-append ts (fixed RightBracket ∷ []))
 
-pub second_index : (ts : Parts) (st : Stack) (rest : Tokens) → Runs expr_in 5 ts → goes (tokens_of (bracketed ts) ++ rest) (Second ∷ st) ≡ length (bracketed ts) + goes rest st
+pub second_index : (ts : Parts) (st : Stack) (rest : Tokens) → Runs expr_in 5 ts → goes (tokens_of (bracketed ts) ++ rest) (Second ∷ st)
+    ≡ length (bracketed ts) + goes rest st
 second_index ts st rest r =
-    let a : goes (tokens_of (ts ++ fixed RightBracket ∷ []) ++ rest) (expr_in ++ Must RightBracket ∷ st) ≡ goes (tokens_of ts ++ (Fixed RightBracket ∷ rest)) (expr_in ++ Must RightBracket ∷ st) = simp (append_assoc, map-append) in
+    let a : goes (tokens_of (ts ++ fixed RightBracket ∷ []) ++ rest) (expr_in ++ Must RightBracket ∷ st)
+    ≡ goes (tokens_of ts ++ (Fixed RightBracket ∷ rest)) (expr_in ++ Must RightBracket ∷ st) = simp (append_assoc, map-append) in
     let b = r.by (Must RightBracket ∷ st) (Fixed RightBracket ∷ rest) (omega arith) in
     omega (arith, a, b, length-append ts (fixed RightBracket ∷ []))
 
 pub single_runs : (n : List ℕ) (p : Pos) (ts : Parts) → Runs expr_in 5 ts → Runs unary_in 0 (marked (Called n) p ∷ ([] ++ bracketed ts))
 single_runs n p ts r = record { by = λ st rest f. let a = first_index ts st rest r in let b = past_second st rest f in omega (arith, a, b) }
 
-pub member_runs : (n : List ℕ) (p : Pos) (us ts : Parts) → Runs expr_in 5 us → Runs expr_in 5 ts → Runs unary_in 0 (marked (Called n) p ∷ (bracketed us ++ bracketed ts))
+pub member_runs : (n : List ℕ) (p : Pos) (us ts : Parts) → Runs expr_in 5 us → Runs expr_in 5 ts
+    → Runs unary_in 0 (marked (Called n) p ∷ (bracketed us ++ bracketed ts))
 member_runs n p us ts q r = record {
   by = λ st rest f.
-      let e : goes (tokens_of (bracketed us ++ bracketed ts) ++ rest) (First ∷ st) ≡ goes (tokens_of (bracketed us) ++ (tokens_of (bracketed ts) ++ rest)) (First ∷ st) = simp (append_assoc, map-append) in
+      let e : goes (tokens_of (bracketed us ++ bracketed ts) ++ rest) (First ∷ st)
+      ≡ goes (tokens_of (bracketed us) ++ (tokens_of (bracketed ts) ++ rest)) (First ∷ st) = simp (append_assoc, map-append) in
       let a = first_index us st (tokens_of (bracketed ts) ++ rest) q in
       let b = second_index ts st rest r in
       omega (arith, a, b, e, length-append (bracketed us) (bracketed ts));
 }
 
-pub signs_run : {A : Type 0} (op : A → UnaryOp) (at : A → Pos) (xs : List A) (atom : Parts) → Runs unary_in 0 atom → Runs unary_in 0 (flat_map (λ x. marked (unary_sign (op x)) (at x) ∷ []) xs ++ atom)
+pub signs_run : {A : Type 0} (op : A → UnaryOp) (at : A → Pos) (xs : List A) (atom : Parts) → Runs unary_in 0 atom
+    → Runs unary_in 0 (flat_map (λ x. marked (unary_sign (op x)) (at x) ∷ []) xs ++ atom)
 signs_run op at [] atom r = r
 signs_run op at (x ∷ xs) atom r = record { by = λ st rest f. sign_step (op x) _ _ st rest ((signs_run op at xs atom r).by st rest f) }
   where
-    sign_step : (o : UnaryOp) (ts : Tokens) (k : ℕ) (st : Stack) (rest : Tokens) → goes ts (Need ∷ st) ≡ k + goes rest st → goes (unary_sign o ∷ ts) (Need ∷ st) ≡ suc k + goes rest st
+    sign_step : (o : UnaryOp) (ts : Tokens) (k : ℕ) (st : Stack) (rest : Tokens) → goes ts (Need ∷ st) ≡ k + goes rest st
+        → goes (unary_sign o ∷ ts) (Need ∷ st)
+        ≡ suc k + goes rest st
     sign_step Negative ts k st rest e = omega (arith, e)
     sign_step Not ts k st rest e = omega (arith, e)
 
@@ -80,13 +90,16 @@ compare_alone ts r = record {
       rw (append-nil ts) (omega (arith, a, b));
 }
 
-pub compare_pair : (op : Relation) (p : Pos) (us ts : Parts) → Runs sum_in 2 us → Runs sum_in 2 ts → Runs compare_in 3 (us ++ marked (relation_sign op) p ∷ ts)
+pub compare_pair : (op : Relation) (p : Pos) (us ts : Parts) → Runs sum_in 2 us → Runs sum_in 2 ts
+    → Runs compare_in 3 (us ++ marked (relation_sign op) p ∷ ts)
 compare_pair op p us ts q r = record {
   by = λ st rest f.
-      let e : goes (tokens_of (us ++ marked (relation_sign op) p ∷ ts) ++ rest) (compare_in ++ st) ≡ goes (tokens_of us ++ (relation_sign op ∷ (tokens_of ts ++ rest))) (sum_in ++ Rest 3 ∷ st) = simp (append_assoc, map-append) in
+      let e : goes (tokens_of (us ++ marked (relation_sign op) p ∷ ts) ++ rest) (compare_in ++ st)
+      ≡ goes (tokens_of us ++ (relation_sign op ∷ (tokens_of ts ++ rest))) (sum_in ++ Rest 3 ∷ st) = simp (append_assoc, map-append) in
       let a = q.by (Rest 3 ∷ st) (relation_sign op ∷ (tokens_of ts ++ rest)) (ranked op) in
       let c = takes 3 (relation_sign op) (tokens_of ts ++ rest) st (rank_is op) in
-      let d : goes (tokens_of ts ++ rest) (asks (relation_sign op) ++ st) ≡ goes (tokens_of ts ++ rest) (sum_in ++ st) = asked op (tokens_of ts ++ rest) st in
+      let d : goes (tokens_of ts ++ rest) (asks (relation_sign op) ++ st) ≡ goes (tokens_of ts ++ rest) (sum_in ++ st) =
+      asked op (tokens_of ts ++ rest) st in
       let b = r.by st rest (follows_less 2 3 rest (omega arith) f) in
       omega (arith, a, b, c, d, e, length-append us (marked (relation_sign op) p ∷ ts));
 }

@@ -12,9 +12,14 @@ use Rattle.jade_syntax.specs.declared.tree.DeclareWord.{DeclareWord}
 use Rattle.jade_syntax.specs.declared.tree.DeclareWord.TheVariants.{Rd, Wr, RdWr, DfRd, DfWr, DfRdWr, NoRd, NoWr, NoRdWr}
 use Rattle.jade_syntax.specs.declared.tree.Statement.{Statement, map-Statement, fold-roll-Statement, ind-Statement}
 use Rattle.jade_syntax.specs.declared.tree.Statement.TheOpen.{Statement-F}
-use Rattle.jade_parser.specs.declared.Sign.TheVariants.{LeftBracket, RightBracket, LeftParen, RightParen, LeftBrace, RightBrace, Becomes, Semicolon, Comma, DotDot, IfWord, ElseWord, ForWord, InWord, WithonlyWord, WithWord, DoWord, ContWord, MainWord}
+use Rattle.jade_parser.specs.declared.Sign.TheVariants.{LeftBracket, RightBracket, LeftParen, RightParen}
+use Rattle.jade_parser.specs.declared.Sign.TheVariants.{LeftBrace, RightBrace, Becomes, Semicolon, Comma}
+use Rattle.jade_parser.specs.declared.Sign.TheVariants.{DotDot, IfWord, ElseWord, ForWord, InWord}
+use Rattle.jade_parser.specs.declared.Sign.TheVariants.{WithonlyWord, WithWord, DoWord, ContWord, MainWord}
 use Rattle.jade_parser.specs.Spelled.{Parts, Fixed, Called, plain, fixed, marked, bracketed, outer, expr_parts}
-use Rattle.jade_parser.specs.Statements.{kind_word, declare_word, outer_index, object_parts, target_parts, braced, name_parts, else_parts, at_statement, statement_parts, block_parts}
+use Rattle.jade_parser.specs.Statements.{kind_word, declare_word, outer_index, object_parts, target_parts}
+use Rattle.jade_parser.specs.Statements.{braced, name_parts, else_parts, at_statement, statement_parts}
+use Rattle.jade_parser.specs.Statements.{block_parts}
 use Rattle.jade_syntax.specs.declared.tree.Item.{Item}
 use Rattle.jade_syntax.specs.declared.tree.Item.TheVariants.{Input, Single, Family}
 use Rattle.jade_syntax.specs.declared.tree.Program.{Program}
@@ -50,10 +55,12 @@ name_goes n p = record { by = λ rest. refl }
 
 names_goes : (ns : List Named) → Goes Outside (name_parts ns) Outside
 names_goes [] = goes_none Outside
-names_goes (n ∷ ns) = goes_on (name_goes n.name n.pos) (goes_all Outside (λ (n : Named). fixed Comma ∷ marked (Called n.name) n.pos ∷ []) (λ n. record { by = λ rest. refl }) ns)
+names_goes (n ∷ ns) = goes_on (name_goes n.name n.pos)
+    (goes_all Outside (λ (n : Named). fixed Comma ∷ marked (Called n.name) n.pos ∷ []) (λ n. record { by = λ rest. refl }) ns)
 
 target_goes : (c : CellRef) → Goes Outside (target_parts c) Outside
-target_goes c = goes_on (name_goes (out-CellRef c).name (out-CellRef c).pos) (goes_on (outer_index_goes (out-CellRef c).family) (index_goes (out-CellRef c).cell))
+target_goes c = goes_on (name_goes (out-CellRef c).name (out-CellRef c).pos)
+    (goes_on (outer_index_goes (out-CellRef c).family) (index_goes (out-CellRef c).cell))
 
 object_goes : (o : ObjectRef) → Goes Outside (object_parts o) Outside
 object_goes o = goes_on (name_goes o.name o.pos) (outer_index_goes o.member)
@@ -100,7 +107,8 @@ module _ {S : Type 0} (tok : S → Parts) (each : (s : S) → Goes Outside (tok 
       let a : Goes Outside (fixed Becomes ∷ []) (Inside 0 0) = record { by = λ rest. refl } in
       goes_on (goes_on (goes_on (target_goes t) a) (expression_goes e)) (ends_goes _)
 
-  if_goes : (e : Expr) (xs : List S) (o : Option (List Parts)) → Goes Outside (else_parts o) Outside → Goes Outside (at_statement (Statement-F.If e (map tok xs) o)) Outside
+  if_goes : (e : Expr) (xs : List S) (o : Option (List Parts)) → Goes Outside (else_parts o) Outside
+      → Goes Outside (at_statement (Statement-F.If e (map tok xs) o)) Outside
   if_goes e xs o h =
       let a : Goes Outside (fixed IfWord ∷ []) (Inside 0 0) = record { by = λ rest. refl } in
       goes_on (goes_on (goes_on a (expression_goes e)) (braced_goes (Inside 0 (count_after 0 (expr_parts e))) (opens_goes _) xs)) h
@@ -114,9 +122,11 @@ module _ {S : Type 0} (tok : S → Parts) (each : (s : S) → Goes Outside (tok 
   for_goes n p l h xs =
       let a : Goes Outside (fixed ForWord ∷ marked (Called n) p ∷ fixed InWord ∷ []) (Inside 0 0) = record { by = λ rest. refl } in
       let d : Goes (Inside 0 (count_after 0 (expr_parts l))) (fixed DotDot ∷ []) (Inside 0 0) = record { by = λ rest. refl } in
-      goes_on (goes_on (goes_on (goes_on a (expression_goes l)) d) (expression_goes h)) (braced_goes (Inside 0 (count_after 0 (expr_parts h))) (opens_goes _) xs)
+      goes_on (goes_on (goes_on (goes_on a (expression_goes l)) d) (expression_goes h))
+      (braced_goes (Inside 0 (count_after 0 (expr_parts h))) (opens_goes _) xs)
 
-  withonly_goes : (p : Pos) (ss : List S) (ns : List Named) (xs : List S) → Goes Outside (at_statement (Statement-F.Withonly p (map tok ss) ns (map tok xs))) Outside
+  withonly_goes : (p : Pos) (ss : List S) (ns : List Named) (xs : List S)
+      → Goes Outside (at_statement (Statement-F.Withonly p (map tok ss) ns (map tok xs))) Outside
   withonly_goes p ss ns xs =
       let a : Goes Outside (marked (Fixed WithonlyWord) p ∷ []) Outside = record { by = λ rest. refl } in
       let b : Goes Outside (fixed DoWord ∷ []) Outside = record { by = λ rest. refl } in
@@ -157,7 +167,8 @@ module _ {S : Type 0} (val : S → Statement) (ok : (s : S) → Goes Outside (st
   layer (Statement-F.Declare w p o) = declare_goes tok ok w p o
 
 pub statement_goes : (s : Statement) → Goes Outside (statement_parts s) Outside
-statement_goes s = ind-Statement (λ s. Goes Outside (statement_parts s) Outside) (λ x y k. rw (← k) (rw (fold-roll-Statement Parts at_statement) (layer (λ z. z.0) (λ z. z.1) y))) s
+statement_goes s = ind-Statement (λ s. Goes Outside (statement_parts s) Outside)
+    (λ x y k. rw (← k) (rw (fold-roll-Statement Parts at_statement) (layer (λ z. z.0) (λ z. z.1) y))) s
 
 pub block_marked : (ss : List Statement) → Goes Outside (block_parts ss) Outside
 block_marked ss =

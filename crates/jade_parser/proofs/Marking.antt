@@ -3,8 +3,10 @@ use Rattle.std.proofs.Common.{◌≡◌, ℕ, zero, suc, ◌+◌, List, [], ◌�
 use Rattle.std.specs.List.{flat_map}
 use Rattle.std.proofs.lemmas.List.{map-append}
 use Rattle.jade_parser.specs.declared.Sign.{Sign}
-use Rattle.jade_parser.specs.declared.Sign.TheVariants.{LeftParen, RightParen, LeftBracket, RightBracket, Semicolon, LeftBrace, DotDot, Becomes, IfWord, InWord, MainWord}
-use Rattle.jade_parser.specs.Spelled.{Token, Tokens, Fixed, Called, Counted, Odd, Part, Parts, tokens_of, numbered}
+use Rattle.jade_parser.specs.declared.Sign.TheVariants.{LeftParen, RightParen, LeftBracket, RightBracket}
+use Rattle.jade_parser.specs.declared.Sign.TheVariants.{Semicolon, LeftBrace, DotDot, Becomes, IfWord, InWord}
+use Rattle.jade_parser.specs.declared.Sign.TheVariants.{MainWord}
+use Rattle.jade_parser.specs.Spelled.{Token, Tokens, Fixed, Called, Counted, Unknown, Part, Parts, tokens_of, numbered}
 
 -- where a reader of tokens stands: before `main`, outside all expressions, or in an outermost one with so many brackets open and tokens counted
 pub data Standing : Type 0 where
@@ -41,7 +43,7 @@ abbrev pub role : Token → Role
 role (Fixed s) = sign_role s
 role (Called n) = Quiet
 role (Counted v) = Quiet
-role Odd = Quiet
+role Unknown = Quiet
 
 abbrev pub after_before : Role → Standing
 after_before Starts = Outside
@@ -150,12 +152,14 @@ numbers_append c (p ∷ ps) qs = ap (λ ms. (c + 1) ∷ ms) (numbers_append (c +
 pub inner_on : {ps qs : Parts} → Inner ps → Inner qs → Inner (ps ++ qs)
 inner_on {ps} {qs} g h = record {
   by = λ d c rest.
-      let a : marks (Inside d c) (tokens_of (ps ++ qs) ++ rest) ≡ marks (Inside d c) (tokens_of ps ++ (tokens_of qs ++ rest)) = simp (append_assoc, map-append) in
+      let a : marks (Inside d c) (tokens_of (ps ++ qs) ++ rest) ≡ marks (Inside d c) (tokens_of ps ++ (tokens_of qs ++ rest)) =
+      simp (append_assoc, map-append) in
       let n = nths (numbered c ps) in
       let k = count_after c ps in
       let m = nths (numbered k qs) in
       let last = marks (Inside d (count_after k qs)) rest in
-      a ∙ g.by d c (tokens_of qs ++ rest) ∙ ap (λ ms. n ++ ms) (h.by d k rest) ∙ sym (append_assoc n m last) ∙ ap (λ ms. ms ++ last) (sym (numbers_append c ps qs))
+      a ∙ g.by d c (tokens_of qs ++ rest) ∙ ap (λ ms. n ++ ms) (h.by d k rest) ∙ sym (append_assoc n m last)
+      ∙ ap (λ ms. ms ++ last) (sym (numbers_append c ps qs))
       ∙ ap (λ j. nths (numbered c (ps ++ qs)) ++ marks (Inside d j) rest) (sym (count_append c ps qs));
 }
 
@@ -200,12 +204,17 @@ inner_bracketed p q {ps} o e h = record {
   by = λ d c rest.
       let k = count_after (c + 1) ps in
       let n = nths (numbered (c + 1) ps) in
-      let a : marks (Inside (suc d) (c + 1)) (tokens_of (ps ++ q ∷ []) ++ rest) ≡ marks (Inside (suc d) (c + 1)) (tokens_of ps ++ (q.token ∷ rest)) = simp (append_assoc, map-append) in
-      let b : marks (Inside (suc d) k) (q.token ∷ rest) ≡ (k + 1) ∷ marks (Inside d (k + 1)) rest = ap (λ r. inner_mark (suc d) k r ∷ marks (after_inside (suc d) k r) rest) e in
-      let f : marks (Inside d c) (p.token ∷ (tokens_of (ps ++ q ∷ []) ++ rest)) ≡ (c + 1) ∷ marks (Inside (suc d) (c + 1)) (tokens_of (ps ++ q ∷ []) ++ rest) =
-      ap (λ i. i ∷ marks (after_inside d c (role p.token)) (tokens_of (ps ++ q ∷ []) ++ rest)) (o.marked d c) ∙ ap (λ s. (c + 1) ∷ marks s (tokens_of (ps ++ q ∷ []) ++ rest)) (o.opened d c) in
+      let a : marks (Inside (suc d) (c + 1)) (tokens_of (ps ++ q ∷ []) ++ rest) ≡ marks (Inside (suc d) (c + 1)) (tokens_of ps ++ (q.token ∷ rest)) =
+      simp (append_assoc, map-append) in
+      let b : marks (Inside (suc d) k) (q.token ∷ rest) ≡ (k + 1) ∷ marks (Inside d (k + 1)) rest =
+      ap (λ r. inner_mark (suc d) k r ∷ marks (after_inside (suc d) k r) rest) e in
+      let f : marks (Inside d c) (p.token ∷ (tokens_of (ps ++ q ∷ []) ++ rest)) ≡ (c + 1)
+      ∷ marks (Inside (suc d) (c + 1)) (tokens_of (ps ++ q ∷ []) ++ rest) =
+      ap (λ i. i ∷ marks (after_inside d c (role p.token)) (tokens_of (ps ++ q ∷ []) ++ rest)) (o.marked d c)
+      ∙ ap (λ s. (c + 1) ∷ marks s (tokens_of (ps ++ q ∷ []) ++ rest)) (o.opened d c) in
       let g : n ++ ((k + 1) ∷ marks (Inside d (k + 1)) rest) ≡ nths (numbered (c + 1) (ps ++ q ∷ [])) ++ marks (Inside d (k + 1)) rest =
-      sym (append_assoc n ((k + 1) ∷ []) (marks (Inside d (k + 1)) rest)) ∙ ap (λ ms. ms ++ marks (Inside d (k + 1)) rest) (sym (numbers_append (c + 1) ps (q ∷ []))) in
+      sym (append_assoc n ((k + 1) ∷ []) (marks (Inside d (k + 1)) rest))
+      ∙ ap (λ ms. ms ++ marks (Inside d (k + 1)) rest) (sym (numbers_append (c + 1) ps (q ∷ []))) in
       f ∙ ap (λ ms. (c + 1) ∷ ms) (a ∙ h.by (suc d) (c + 1) (q.token ∷ rest) ∙ ap (λ ms. n ++ ms) b ∙ g)
       ∙ ap (λ j. (c + 1) ∷ (nths (numbered (c + 1) (ps ++ q ∷ [])) ++ marks (Inside d j) rest)) (sym (count_append (c + 1) ps (q ∷ [])));
 }

@@ -1,16 +1,18 @@
 -- Reading one part after another.
-use Rattle.std.proofs.Common.{◌≡◌, ℕ, suc, ◌+◌, ◌≤◌, List, [], ◌∷◌, ◌++◌, refl, ap, ◌∙◌, drop, length, arith, length-append, length-drop, append_assoc, append-nil}
+use Rattle.std.proofs.Common.{◌≡◌, ℕ, suc, ◌+◌, ◌≤◌, List, [], ◌∷◌, ◌++◌, refl, ap, ◌∙◌, drop, length, arith}
+use Rattle.std.proofs.Common.{length-append, length-drop, append_assoc, append-nil}
 use Rattle.std.specs.List.{flat_map}
 use Rattle.std.proofs.lemmas.List.{map-append, length-map}
 use Rattle.std.proofs.lemmas.List.Folds.{list_all-append}
 use Rattle.jade_base.specs.declared.place.Pos.{Pos}
 use Rattle.std.proofs.lemmas.List.Concat.{flat_map-append}
 use Rattle.jade_parser.specs.Spelled.{Part, Parts, tokens_of, is_valid, AllValid}
-use Rattle.jade_parser.specs.Machine.{Stack}
+use Rattle.jade_parser.specs.steps.Machine.{Stack}
 use Rattle.jade_parser.specs.declared.Seen.{Seen}
 use Rattle.jade_parser.specs.declared.Stop.{Stop}
 use Rattle.jade_parser.specs.declared.Stop.TheVariants.{Token as AtToken, Long, Memory}
-use Rattle.jade_parser.specs.Reads.{Reads, kinds, places, Agrees, Passes, Whole, Refusal, OnToken}
+use Rattle.jade_parser.specs.steps.Reads.{Reads, kinds, places, Passes, Whole, Refusal, OnToken}
+use Rattle.jade_parser.specs.Spelled.{Agrees}
 
 pub reads_none : (all : List Seen) (at : ℕ) → at ≤ length all → Reads all at at []
 reads_none all at le = record { forward = omega arith; within = le; stands = refl; agrees = tt; valid = λ k. record { is = refl } }
@@ -29,7 +31,8 @@ reads_length {all} {a} {b} {s} p =
     let m : length (tokens_of s) ≡ length s = length-map s _ in
     let w = p.within in
     let f = p.forward in
-    let e : length (drop a (kinds all)) ≡ length (tokens_of s) + length (drop b (kinds all)) = ap length p.stands ∙ length-append (tokens_of s) (drop b (kinds all)) in
+    let e : length (drop a (kinds all)) ≡ length (tokens_of s) + length (drop b (kinds all)) =
+    ap length p.stands ∙ length-append (tokens_of s) (drop b (kinds all)) in
     omega (arith, e, length-drop a (kinds all), length-drop b (kinds all))
 
 pub reads_on : {all : List Seen} {a b c : ℕ} {s t : Parts} → Reads all a b s → Reads all b c t → Reads all a c (s ++ t)
@@ -47,7 +50,8 @@ passes_on p q = record { by = λ st. p.by st ∙ q.by st }
 pub whole_none : (all : List Seen) (at : ℕ) (xs : Stack) → at ≤ length all → Whole all at xs at xs []
 whole_none all at xs le = record { reads = reads_none all at le; passes = record { by = λ st. refl } }
 
-pub whole_on : {all : List Seen} {a b c : ℕ} {xs ys zs : Stack} {s t : Parts} → Whole all a xs b ys s → Whole all b ys c zs t → Whole all a xs c zs (s ++ t)
+pub whole_on : {all : List Seen} {a b c : ℕ} {xs ys zs : Stack} {s t : Parts} → Whole all a xs b ys s → Whole all b ys c zs t
+    → Whole all a xs c zs (s ++ t)
 whole_on p q = record { reads = reads_on p.reads q.reads; passes = passes_on p.passes q.passes }
 
 -- where nothing more comes at this level
@@ -56,13 +60,17 @@ whole_past p q = record { reads = p.reads; passes = passes_on p.passes q }
 
 -- what stands below stays below
 pub whole_under : {all : List Seen} {a b : ℕ} {xs ys : Stack} {s : Parts} (zs : Stack) → Whole all a xs b ys s → Whole all a (xs ++ zs) b (ys ++ zs) s
-whole_under {all} {a} {b} {xs} {ys} zs p = record { reads = p.reads; passes = record { by = λ st. rw (append_assoc xs zs st, append_assoc ys zs st) (p.passes.by (zs ++ st)) } }
+whole_under {all} {a} {b} {xs} {ys} zs p =
+    record { reads = p.reads; passes = record { by = λ st. rw (append_assoc xs zs st, append_assoc ys zs st) (p.passes.by (zs ++ st)) } }
 
-pub refusal_under : {X : Type 0} {f : X → Parts} {all : List Seen} {a k : ℕ} {xs : Stack} (zs : Stack) → Refusal f all a xs k → Refusal f all a (xs ++ zs) k
-refusal_under {X} {f} {all} {a} {k} {xs} zs p = record { stops = record { by = λ st. rw (append_assoc xs zs st) (p.stops.by (zs ++ st)) }; begun = p.begun }
+pub refusal_under : {X : Type 0} {f : X → Parts} {all : List Seen} {a k : ℕ} {xs : Stack} (zs : Stack) → Refusal f all a xs k
+    → Refusal f all a (xs ++ zs) k
+refusal_under {X} {f} {all} {a} {k} {xs} zs p =
+    record { stops = record { by = λ st. rw (append_assoc xs zs st) (p.stops.by (zs ++ st)) }; begun = p.begun }
 
 -- one more part of a chain
-pub whole_more : {A : Type 0} (f : A → Parts) {all : List Seen} {a b c : ℕ} {xs ys zs : Stack} (first : Parts) (done : List A) (y : A) → Whole all a xs b ys (first ++ flat_map f done) → Whole all b ys c zs (f y) → Whole all a xs c zs (first ++ flat_map f (done ++ y ∷ []))
+pub whole_more : {A : Type 0} (f : A → Parts) {all : List Seen} {a b c : ℕ} {xs ys zs : Stack} (first : Parts) (done : List A) (y : A)
+    → Whole all a xs b ys (first ++ flat_map f done) → Whole all b ys c zs (f y) → Whole all a xs c zs (first ++ flat_map f (done ++ y ∷ []))
 whole_more f first done y p q = rw (flat_map-append f done (y ∷ []), append-nil, ← append_assoc) (whole_on p q)
 
 -- after a part that was read, a part is refused

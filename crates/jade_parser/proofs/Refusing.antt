@@ -1,5 +1,7 @@
 -- Where the machine stops, no program goes on.
-use Rattle.std.proofs.Common.{◌≡◌, ℕ, zero, suc, ◌+◌, ◌<◌, ◌≤◌, List, [], ◌∷◌, ◌++◌, Option, Some, None, refl, ap, sym, length, take, drop, arith, append-nil, length-append, length-take, length-drop}
+use Rattle.std.proofs.Common.{◌≡◌, ℕ, zero, suc, ◌+◌, ◌<◌, ◌≤◌, List, [], ◌∷◌, ◌++◌, Option, Some, None, refl}
+use Rattle.std.proofs.Common.{ap, sym, length, take, drop, arith, append-nil, length-append, length-take}
+use Rattle.std.proofs.Common.{length-drop}
 use Rattle.std.proofs.lemmas.List.{length-map}
 use Rattle.jade_syntax.specs.declared.tree.Item.{Item}
 use Rattle.jade_syntax.specs.declared.tree.Statement.{Statement}
@@ -9,12 +11,14 @@ use Rattle.jade_parser.specs.declared.Stop.{Stop}
 use Rattle.jade_parser.specs.declared.Stop.TheVariants.{Token as AtToken, Long, Memory}
 use Rattle.jade_syntax.specs.declared.shapes.place.BlockKind.TheVariants.{Main}
 use Rattle.jade_parser.specs.Spelled.{Token, Tokens, tokens_of, AllShort}
-use Rattle.jade_parser.specs.Machine.{Stack, feed, goes, counted, Items}
+use Rattle.jade_parser.specs.steps.Machine.{Stack, feed, goes, counted, Items}
 use Rattle.jade_parser.specs.Statements.{block_parts}
-use Rattle.jade_parser.specs.Programs.{head_parts, program_parts, Proper, body_in}
-use Rattle.jade_parser.specs.Parts.{Any, FitsAll, BegunIn, RefusalIn, LongIn, ReadIn}
-use Rattle.jade_parser.specs.Reads.{kinds, Whole, OnStop}
-use Rattle.jade_parser.specs.Refused.{ReadAll, Nowhere, Never, RefusedAt, TooLongAt}
+use Rattle.jade_parser.specs.Programs.{head_parts, program_parts, Proper}
+use Rattle.jade_parser.specs.steps.Openings.{body_in}
+use Rattle.jade_parser.specs.steps.Parts.{Any, BegunIn, RefusalIn, LongIn, ReadIn}
+use Rattle.jade_parser.specs.Programs.{FitsAll}
+use Rattle.jade_parser.specs.steps.Reads.{kinds, Whole, OnStop}
+use Rattle.jade_parser.specs.steps.Refused.{ReadAll, Nowhere, Never, RefusedAt, TooLongAt}
 use Rattle.jade_parser.proofs.Sounding.{program_runs}
 use Rattle.jade_parser.proofs.Reading.{whole_none, whole_on, none_valid}
 use Rattle.jade_parser.proofs.Going.{stop_in, none_short, all_short}
@@ -31,7 +35,8 @@ same_stop (t ∷ ts) rest st (suc k) e lt =
     let w : suc k + 1 ≡ suc (k + 1) = omega arith in
     rw w (from (feed st t) e (λ s f. same_stop ts rest s k f (omega arith)))
   where
-    from : (o : Option Stack) → counted (λ s. goes ts s) o ≡ suc k → ((s : Stack) → goes ts s ≡ k → goes (take (k + 1) ts ++ rest) s ≡ k) → counted (λ s. goes (take (k + 1) ts ++ rest) s) o ≡ suc k
+    from : (o : Option Stack) → counted (λ s. goes ts s) o ≡ suc k → ((s : Stack) → goes ts s ≡ k → goes (take (k + 1) ts ++ rest) s ≡ k)
+        → counted (λ s. goes (take (k + 1) ts ++ rest) s) o ≡ suc k
     from None e h = absurd (omega arith)
     from (Some s) e h = let r = h s (omega arith) in omega (arith, r)
 
@@ -64,29 +69,36 @@ refused_at all k e b =
     let w = b.reads.within in
     record { begun = b; no_more = λ lt. no_more (kinds all) k e (omega arith); no_end = no_end (kinds all) k e (omega arith) }
 
-refused_so : (all : List Seen) (e : Stop) → OnStop e (RefusalIn Proper program_parts all 0 (Items ∷ [])) (LongIn Proper program_parts all 0) → OnStop e (RefusedAt all) (TooLongAt all)
+refused_so : (all : List Seen) (e : Stop) → OnStop e (RefusalIn Proper program_parts all 0 (Items ∷ [])) (LongIn Proper program_parts all 0)
+    → OnStop e (RefusedAt all) (TooLongAt all)
 refused_so all (AtToken k) r = let s = r.stops.by [] in refused_at all k (omega (arith, s)) r.begun
 refused_so all (Long k) l = l
 refused_so all Memory r = tt
 
 -- an item is refused
-pub head_refused : (all : List Seen) (e : Stop) → OnStop e (RefusalIn Any head_parts all 0 (Items ∷ [])) (LongIn Any head_parts all 0) → OnStop e (RefusedAt all) (TooLongAt all)
+pub head_refused : (all : List Seen) (e : Stop) → OnStop e (RefusalIn Any head_parts all 0 (Items ∷ [])) (LongIn Any head_parts all 0)
+    → OnStop e (RefusedAt all) (TooLongAt all)
 head_refused all e o = refused_so all e
-    (stop_in Proper Any program_parts head_parts all 0 0 (Items ∷ []) (Items ∷ []) [] (λ (ys : List Item). record { items = ys; main = [] }) (block_parts []) (λ ys. refl)
+    (stop_in Proper Any program_parts head_parts all 0 0 (Items ∷ []) (Items ∷ []) [] (λ (ys : List Item). record { items = ys; main = [] })
+    (block_parts [])
+    (λ ys. refl)
     (λ ys k. record { is = record { is = refl } }) (record { is = refl }) none_short (whole_none all 0 (Items ∷ []) (omega arith)) e o)
 
 -- the block is refused
 pub main_refused : (all : List Seen) (at : ℕ) (ys : List Item) (e : Stop) → ReadIn Any head_parts all 0 (Items ∷ []) at body_in ys
     → OnStop e (RefusalIn (FitsAll Main) block_parts all at body_in) (LongIn (FitsAll Main) block_parts all at) → OnStop e (RefusedAt all) (TooLongAt all)
 main_refused all at ys e h o = refused_so all e
-    (stop_in Proper (FitsAll Main) program_parts block_parts all 0 at (Items ∷ []) body_in (head_parts ys) (λ (b : List Statement). record { items = ys; main = b }) []
+    (stop_in Proper (FitsAll Main) program_parts block_parts all 0 at (Items ∷ []) body_in (head_parts ys)
+    (λ (b : List Statement). record { items = ys; main = b }) []
     (λ b. ap (λ l. head_parts ys ++ l) (sym (append-nil (block_parts b)))) (λ b k. record { is = k }) none_valid h.short h.whole e o)
 
-both_read : (all : List Seen) (at end : ℕ) (ys : List Item) (b : List Statement) → ReadIn Any head_parts all 0 (Items ∷ []) at body_in ys → ReadIn (FitsAll Main) block_parts all at body_in end [] b
+both_read : (all : List Seen) (at end : ℕ) (ys : List Item) (b : List Statement) → ReadIn Any head_parts all 0 (Items ∷ []) at body_in ys
+    → ReadIn (FitsAll Main) block_parts all at body_in end [] b
     → Whole all 0 (Items ∷ []) end [] (program_parts (record { items = ys; main = b }))
 both_read all at end ys b h m = whole_on h.whole m.whole
 
-both_short : (all : List Seen) (at end : ℕ) (ys : List Item) (b : List Statement) → ReadIn Any head_parts all 0 (Items ∷ []) at body_in ys → ReadIn (FitsAll Main) block_parts all at body_in end [] b
+both_short : (all : List Seen) (at end : ℕ) (ys : List Item) (b : List Statement) → ReadIn Any head_parts all 0 (Items ∷ []) at body_in ys
+    → ReadIn (FitsAll Main) block_parts all at body_in end [] b
     → AllShort (program_parts (record { items = ys; main = b }))
 both_short all at end ys b h m = all_short (head_parts ys) (block_parts b) h.short m.short
 
@@ -95,7 +107,8 @@ over [] lt = absurd (omega arith)
 over (t ∷ ts) lt = refl
 
 -- more stands after the block
-pub text_after : (all : List Seen) (at end : ℕ) (ys : List Item) (b : List Statement) → ReadIn Any head_parts all 0 (Items ∷ []) at body_in ys → ReadIn (FitsAll Main) block_parts all at body_in end [] b
+pub text_after : (all : List Seen) (at end : ℕ) (ys : List Item) (b : List Statement) → ReadIn Any head_parts all 0 (Items ∷ []) at body_in ys
+    → ReadIn (FitsAll Main) block_parts all at body_in end [] b
     → end < length all → RefusedAt all end
 text_after all at end ys b h m lt =
     let w = both_read all at end ys b h m in
@@ -114,7 +127,8 @@ text_after all at end ys b h m lt =
     })
 
 -- all was read
-pub all_read : (all : List Seen) (at end : ℕ) (ys : List Item) (b : List Statement) → ReadIn Any head_parts all 0 (Items ∷ []) at body_in ys → ReadIn (FitsAll Main) block_parts all at body_in end [] b
+pub all_read : (all : List Seen) (at end : ℕ) (ys : List Item) (b : List Statement) → ReadIn Any head_parts all 0 (Items ∷ []) at body_in ys
+    → ReadIn (FitsAll Main) block_parts all at body_in end [] b
     → length all ≤ end → ReadAll all (record { items = ys; main = b })
 all_read all at end ys b h m le =
     let w = both_read all at end ys b h m in

@@ -4,7 +4,7 @@ use Rattle.std.proofs.lemmas.List.{map-append}
 use Rattle.std.proofs.lemmas.Bool.Decides.{nat_tests}
 use Rattle.std.specs.List.{flat_map}
 use Rattle.jade_parser.specs.Spelled.{Token, Tokens, Part, Parts, tokens_of}
-use Rattle.jade_parser.specs.Machine.{Rest, Stack, rank, asks, goes}
+use Rattle.jade_parser.specs.steps.Machine.{Rest, Stack, rank, asks, goes}
 
 -- the rest does not go on at this level or below
 abbrev pub Follows : ℕ → Tokens → Type 0
@@ -42,11 +42,15 @@ module _ {A : Type 0} (lo : Stack) (m n : ℕ) (less : m + 1 ≡ n) (op : A → 
   follows_parts [] rest f = follows_less m n rest (omega arith) f
   follows_parts (x ∷ xs) rest f = omega (arith, here x)
 
-  parts_run : (xs : List A) (st : Stack) (rest : Tokens) → Follows n rest → goes (tokens_of (flat_map part xs) ++ rest) (Rest n ∷ st) ≡ length (flat_map part xs) + goes rest st
+  parts_run : (xs : List A) (st : Stack) (rest : Tokens) → Follows n rest → goes (tokens_of (flat_map part xs) ++ rest) (Rest n ∷ st)
+      ≡ length (flat_map part xs) + goes rest st
   parts_run [] st rest f = pass n n st rest (omega arith) f ∙ omega arith
   parts_run (x ∷ xs) st rest f =
-      let a : goes ((op x).token ∷ (tokens_of (body x ++ flat_map part xs) ++ rest)) (Rest n ∷ st) ≡ 1 + goes (tokens_of (body x ++ flat_map part xs) ++ rest) (asks (op x).token ++ st) = takes n (op x).token (tokens_of (body x ++ flat_map part xs) ++ rest) st (here x) in
-      let b : goes (tokens_of (body x ++ flat_map part xs) ++ rest) (asks (op x).token ++ st) ≡ goes (tokens_of (body x) ++ (tokens_of (flat_map part xs) ++ rest)) (lo ++ Rest n ∷ st) = rw (asked x) (simp (append_assoc, map-append)) in
+      let a : goes ((op x).token ∷ (tokens_of (body x ++ flat_map part xs) ++ rest)) (Rest n ∷ st)
+      ≡ 1 + goes (tokens_of (body x ++ flat_map part xs) ++ rest) (asks (op x).token ++ st) =
+      takes n (op x).token (tokens_of (body x ++ flat_map part xs) ++ rest) st (here x) in
+      let b : goes (tokens_of (body x ++ flat_map part xs) ++ rest) (asks (op x).token ++ st)
+      ≡ goes (tokens_of (body x) ++ (tokens_of (flat_map part xs) ++ rest)) (lo ++ Rest n ∷ st) = rw (asked x) (simp (append_assoc, map-append)) in
       let c = (runs x).by (Rest n ∷ st) (tokens_of (flat_map part xs) ++ rest) (follows_parts xs rest f) in
       let d = parts_run xs st rest f in
       a ∙ omega (arith, b, c, d, length-append (body x) (flat_map part xs))
@@ -54,7 +58,8 @@ module _ {A : Type 0} (lo : Stack) (m n : ℕ) (less : m + 1 ≡ n) (op : A → 
   pub chain_runs : (xs : List A) (first : Parts) → Runs lo m first → Runs (lo ++ Rest n ∷ []) n (first ++ flat_map part xs)
   chain_runs xs first r = record {
     by = λ st rest f.
-        let b : goes (tokens_of (first ++ flat_map part xs) ++ rest) ((lo ++ Rest n ∷ []) ++ st) ≡ goes (tokens_of first ++ (tokens_of (flat_map part xs) ++ rest)) (lo ++ Rest n ∷ st) = simp (append_assoc, map-append) in
+        let b : goes (tokens_of (first ++ flat_map part xs) ++ rest) ((lo ++ Rest n ∷ []) ++ st)
+        ≡ goes (tokens_of first ++ (tokens_of (flat_map part xs) ++ rest)) (lo ++ Rest n ∷ st) = simp (append_assoc, map-append) in
         let c = r.by (Rest n ∷ st) (tokens_of (flat_map part xs) ++ rest) (follows_parts xs rest f) in
         let d = parts_run xs st rest f in
         omega (arith, b, c, d, length-append first (flat_map part xs));

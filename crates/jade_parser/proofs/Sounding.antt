@@ -11,14 +11,16 @@ use Rattle.jade_syntax.specs.declared.shapes.place.BlockKind.{BlockKind}
 use Rattle.jade_syntax.specs.declared.shapes.place.BlockKind.TheVariants.{Main}
 use Rattle.jade_parser.specs.declared.Sign.TheVariants.{LeftBrace, RightBrace, MainWord}
 use Rattle.jade_parser.specs.Spelled.{Tokens, Fixed, Part, Parts, tokens_of, fixed}
-use Rattle.jade_parser.specs.Machine.{Stack, Must, Body, Items, goes}
+use Rattle.jade_parser.specs.steps.Machine.{Stack, Must, Body, Items, goes}
 use Rattle.jade_parser.specs.Statements.{block_parts, statement_parts, braced}
-use Rattle.jade_parser.specs.Programs.{item_parts, head_parts, program_parts, Proper, body_in}
-use Rattle.jade_parser.specs.Parts.{FitsAll}
+use Rattle.jade_parser.specs.Programs.{item_parts, head_parts, program_parts, Proper}
+use Rattle.jade_parser.specs.steps.Openings.{body_in}
+use Rattle.jade_parser.specs.Programs.{FitsAll}
 use Rattle.jade_parser.proofs.Blocks.{block_goes, split_tokens}
 use Rattle.jade_parser.proofs.Laid.{stands, statement_goes}
 
-block_runs : (c : BlockKind) (b : List Statement) (st : Stack) (rest : Tokens) → FitsAll c b → goes (tokens_of (block_parts b) ++ rest) (Must LeftBrace ∷ Body c ∷ st) ≡ length (block_parts b) + goes rest st
+block_runs : (c : BlockKind) (b : List Statement) (st : Stack) (rest : Tokens) → FitsAll c b
+    → goes (tokens_of (block_parts b) ++ rest) (Must LeftBrace ∷ Body c ∷ st) ≡ length (block_parts b) + goes rest st
 block_runs c b st rest f =
     let m : flat_map (λ (t : Parts). t) (map statement_parts b) ≡ flat_map statement_parts b = simp flat_map-map in
     let e : braced (map statement_parts b) ≡ block_parts b = ap (λ l. fixed LeftBrace ∷ [] ++ l ++ fixed RightBrace ∷ []) m in
@@ -32,7 +34,8 @@ item_goes (Input n p) st rest = omega arith
 item_goes (Single n p x) st rest = omega arith
 item_goes (Family n p x y) st rest = omega arith
 
-items_go : (ys : List Item) (st : Stack) (rest : Tokens) → goes (tokens_of (flat_map item_parts ys) ++ rest) (Items ∷ st) ≡ length (flat_map item_parts ys) + goes rest (Items ∷ st)
+items_go : (ys : List Item) (st : Stack) (rest : Tokens) → goes (tokens_of (flat_map item_parts ys) ++ rest) (Items ∷ st)
+    ≡ length (flat_map item_parts ys) + goes rest (Items ∷ st)
 items_go [] st rest = omega arith
 items_go (y ∷ ys) st rest =
     let a = item_goes y st (tokens_of (flat_map item_parts ys) ++ rest) in
@@ -40,7 +43,8 @@ items_go (y ∷ ys) st rest =
     let d = ap (λ l. goes l (Items ∷ st)) (split_tokens (item_parts y) (flat_map item_parts ys) rest) in
     omega (arith, a, b, d, length-append (item_parts y) (flat_map item_parts ys))
 
-head_goes : (ys : List Item) (st : Stack) (rest : Tokens) → goes (tokens_of (head_parts ys) ++ rest) (Items ∷ st) ≡ length (head_parts ys) + goes rest (body_in ++ st)
+head_goes : (ys : List Item) (st : Stack) (rest : Tokens) → goes (tokens_of (head_parts ys) ++ rest) (Items ∷ st)
+    ≡ length (head_parts ys) + goes rest (body_in ++ st)
 head_goes ys st rest =
     let a = items_go ys st (Fixed MainWord ∷ rest) in
     let d = ap (λ l. goes l (Items ∷ st)) (split_tokens (flat_map item_parts ys) (fixed MainWord ∷ []) rest) in

@@ -1,5 +1,7 @@
 -- What stands at a place.
-use Rattle.std.proofs.Common.{◌≡◌, ℕ, zero, suc, ◌+◌, ◌<◌, ◌≤◌, List, [], ◌∷◌, ◌++◌, Option, Some, None, refl, ap, sym, ◌∙◌, drop, get_or, length, arith, add-one, drop-cons, ℤ, MatchOption, Bool, true, false, ◌&&◌, IsTrue}
+use Rattle.std.proofs.Common.{◌≡◌, ℕ, zero, suc, ◌+◌, ◌<◌, ◌≤◌, List, [], ◌∷◌, ◌++◌, Option, Some, None, refl}
+use Rattle.std.proofs.Common.{ap, sym, ◌∙◌, drop, get_or, length, arith, add-one, drop-cons, ℤ, MatchOption}
+use Rattle.std.proofs.Common.{Bool, true, false, ◌&&◌, IsTrue}
 use Rattle.std.specs.List.{list_all}
 use Rattle.std.proofs.lemmas.List.{get_or-map, length-map, drop_all}
 use Rattle.jade_base.specs.declared.place.Pos.{Pos}
@@ -7,15 +9,28 @@ use Rattle.jade_syntax.specs.declared.name.NameError.{NameError}
 use Rattle.jade_syntax.specs.declared.name.NameError.TheVariants.{Shape, Memory as NoMemory}
 use Rattle.jade_syntax.specs.Names.{is_name}
 use Rattle.jade_syntax.specs.Refusals.{IsNameRefusal}
-use Rattle.jade_parser.specs.Spelled.{Token, Tokens, Fixed, Called, Counted, Odd, marked, fixed, sum_sign, product_sign, relation_sign, unary_sign}
-use Rattle.jade_parser.specs.Machine.{Need, Rest, First, Must, Stack, goes, sum_in, product_in, same_sign}
-use Rattle.jade_parser.specs.Reads.{kinds, place_at, KeptAt, is_known, Known, token_of, head_sign, Reads, Passes, Whole, Stops, NoUnary}
-use Rattle.jade_parser.specs.Ops.{sum_of, product_of, relation_of, unary_of}
+use Rattle.jade_parser.specs.Spelled.{Token, Tokens, Fixed, Called, Counted, Unknown, marked, fixed, sum_sign, product_sign, relation_sign, unary_sign}
+use Rattle.jade_parser.specs.steps.Machine.{Need, Rest, First, Must, Stack, goes, sum_in, product_in, same_sign}
+use Rattle.jade_parser.specs.steps.Reads.{kinds, place_at, is_known, Known, token_of, head_sign, Reads, Passes, Whole, Stops, NoUnary}
+use Rattle.jade_parser.specs.Spelled.{KeptAt}
+use Rattle.jade_parser.specs.steps.Ops.{sum_of, product_of, relation_of, unary_of}
 use Rattle.jade_parser.specs.declared.Seen.{Seen}
 use Rattle.jade_parser.specs.declared.Kind.{Kind}
-use Rattle.jade_parser.specs.declared.Kind.TheVariants.{Fixed as KFixed, Called as KCalled, Counted as KCounted, Odd as KOdd}
+use Rattle.jade_parser.specs.declared.Kind.TheVariants.{Fixed as KFixed, Called as KCalled, Counted as KCounted, Unknown as KUnknown}
+use denote.Enum.Bare.{same_true}
+use Rattle.jade_parser.specs.contracts.Sign.{the_type}
 use Rattle.jade_parser.specs.declared.Sign.{Sign}
-use Rattle.jade_parser.specs.declared.Sign.TheVariants.{TrueWord, FalseWord, LeftParen, RightParen, LeftBracket, RightBracket, OrSign, AndSign, EqualSign, UnequalSign, LessSign, LessEqualSign, GreaterSign, GreaterEqualSign, PlusSign, MinusSign, TimesSign, OverSign, PercentSign, NotSign, Semicolon, Becomes, LeftBrace, RightBrace, IfWord, ElseWord, ForWord, InWord, DotDot, IntWord, BoolWord, WithonlyWord, WithWord, DoWord, ContWord, Comma, RdWord, WrWord, RdWrWord, DfRdWord, DfWrWord, DfRdWrWord, NoRdWord, NoWrWord, NoRdWrWord, InputWord, ObjectWord, ObjectsWord, MainWord, Colon}
+use Rattle.jade_parser.specs.declared.Sign.TheVariants.{TrueWord, FalseWord, LeftParen, RightParen}
+use Rattle.jade_parser.specs.declared.Sign.TheVariants.{LeftBracket, RightBracket, OrSign, AndSign, EqualSign}
+use Rattle.jade_parser.specs.declared.Sign.TheVariants.{UnequalSign, LessSign, LessEqualSign, GreaterSign}
+use Rattle.jade_parser.specs.declared.Sign.TheVariants.{GreaterEqualSign, PlusSign, MinusSign, TimesSign}
+use Rattle.jade_parser.specs.declared.Sign.TheVariants.{OverSign, PercentSign, NotSign, Semicolon, Becomes}
+use Rattle.jade_parser.specs.declared.Sign.TheVariants.{LeftBrace, RightBrace, IfWord, ElseWord, ForWord}
+use Rattle.jade_parser.specs.declared.Sign.TheVariants.{InWord, DotDot, IntWord, BoolWord, WithonlyWord}
+use Rattle.jade_parser.specs.declared.Sign.TheVariants.{WithWord, DoWord, ContWord, Comma, RdWord, WrWord}
+use Rattle.jade_parser.specs.declared.Sign.TheVariants.{RdWrWord, DfRdWord, DfWrWord, DfRdWrWord, NoRdWord}
+use Rattle.jade_parser.specs.declared.Sign.TheVariants.{NoWrWord, NoRdWrWord, InputWord, ObjectWord}
+use Rattle.jade_parser.specs.declared.Sign.TheVariants.{ObjectsWord, MainWord, Colon}
 
 pub here : (xs : List Seen) (at : ℕ) (d : Seen) → at < length xs → drop at (kinds xs) ≡ token_of (get_or xs at d).kind ∷ drop (at + 1) (kinds xs)
 here xs at d lt =
@@ -23,16 +38,18 @@ here xs at d lt =
     let m : at < length (kinds xs) = omega arith in
     rw (drop-cons (kinds xs) at (token_of d.kind) m, get_or-map (λ (x : Seen). token_of x.kind) xs at d, add-one) refl
 
-pub head_fixed : (xs : List Seen) (at : ℕ) (d : Seen) (s : Sign) → at < length xs → (get_or xs at d).kind ≡ KFixed s → Some s ≡ head_sign (drop at (kinds xs))
+pub head_fixed : (xs : List Seen) (at : ℕ) (d : Seen) (s : Sign) → at < length xs → (get_or xs at d).kind ≡ KFixed s → Some s
+    ≡ head_sign (drop at (kinds xs))
 head_fixed xs at d s lt e = rw (here xs at d lt, e) refl
 
 pub head_called : (xs : List Seen) (at : ℕ) (d : Seen) (b : _) → at < length xs → (get_or xs at d).kind ≡ KCalled b → None ≡ head_sign (drop at (kinds xs))
 head_called xs at d b lt e = rw (here xs at d lt, e) refl
 
-pub head_counted : (xs : List Seen) (at : ℕ) (d : Seen) (v : ℤ) → at < length xs → (get_or xs at d).kind ≡ KCounted v → None ≡ head_sign (drop at (kinds xs))
+pub head_counted : (xs : List Seen) (at : ℕ) (d : Seen) (v : ℤ) → at < length xs → (get_or xs at d).kind ≡ KCounted v → None
+    ≡ head_sign (drop at (kinds xs))
 head_counted xs at d v lt e = rw (here xs at d lt, e) refl
 
-pub head_odd : (xs : List Seen) (at : ℕ) (d : Seen) → at < length xs → (get_or xs at d).kind ≡ KOdd → None ≡ head_sign (drop at (kinds xs))
+pub head_odd : (xs : List Seen) (at : ℕ) (d : Seen) → at < length xs → (get_or xs at d).kind ≡ KUnknown → None ≡ head_sign (drop at (kinds xs))
 head_odd xs at d lt e = rw (here xs at d lt, e) refl
 
 pub pos_here : (xs : List Seen) (at : ℕ) (d : Seen) → at < length xs → (get_or xs at d).pos ≡ place_at xs at
@@ -65,23 +82,26 @@ split [] (suc at) s e = absurd (cc)
 split (Fixed u ∷ ts) zero s e = let k : u ≡ s = cc in (ap (λ x. Fixed x ∷ ts) k, omega arith)
 split (Called n ∷ ts) zero s e = absurd (cc)
 split (Counted v ∷ ts) zero s e = absurd (cc)
-split (Odd ∷ ts) zero s e = absurd (cc)
+split (Unknown ∷ ts) zero s e = absurd (cc)
 split (t ∷ ts) (suc at) s e =
     let r = split ts at s e in
     let w : suc at + 1 ≡ suc (at + 1) = omega arith in
     (r.0 ∙ ap (λ k. Fixed s ∷ drop k (t ∷ ts)) (sym w), omega (arith, r.1))
 
-pub split_sign : (all : List Seen) (at : ℕ) (s : Sign) → Some s ≡ head_sign (drop at (kinds all)) → drop at (kinds all) ≡ Fixed s ∷ drop (at + 1) (kinds all)
+pub split_sign : (all : List Seen) (at : ℕ) (s : Sign) → Some s ≡ head_sign (drop at (kinds all)) → drop at (kinds all) ≡ Fixed s
+    ∷ drop (at + 1) (kinds all)
 split_sign all at s e = (split (kinds all) at s e).0
 
-pub stands : (all : List Seen) (at : ℕ) (s : Sign) (o : Option Pos) → KeptAt o (place_at all at) → Some s ≡ head_sign (drop at (kinds all)) → Reads all at (at + 1) (record { token = Fixed s; at = o; nth = 0 } ∷ [])
+pub stands : (all : List Seen) (at : ℕ) (s : Sign) (o : Option Pos) → KeptAt o (place_at all at) → Some s ≡ head_sign (drop at (kinds all))
+    → Reads all at (at + 1) (record { token = Fixed s; at = o; nth = 0 } ∷ [])
 stands all at s o k e =
     let r = split (kinds all) at s e in
     let n : length (kinds all) ≡ length all = length-map all _ in
     record { forward = omega arith; within = omega (arith, r.1); stands = r.0; agrees = (k, tt); valid = λ w. record { is = refl } }
 
 takes_so : (all : List Seen) (at : ℕ) (s : Sign) (o : Option Pos) (xs ys : Stack) → KeptAt o (place_at all at) → Some s ≡ head_sign (drop at (kinds all))
-    → ((rest : Tokens) (st : Stack) → goes (Fixed s ∷ rest) (xs ++ st) ≡ 1 + goes rest (ys ++ st)) → Whole all at xs (at + 1) ys (record { token = Fixed s; at = o; nth = 0 } ∷ [])
+    → ((rest : Tokens) (st : Stack) → goes (Fixed s ∷ rest) (xs ++ st) ≡ 1 + goes rest (ys ++ st))
+    → Whole all at xs (at + 1) ys (record { token = Fixed s; at = o; nth = 0 } ∷ [])
 takes_so all at s o xs ys k e step =
     let r = split (kinds all) at s e in
     record { reads = stands all at s o k e; passes = record { by = λ st. rw (r.0) (let k = step (drop (at + 1) (kinds all)) st in omega (arith, k)) } }
@@ -93,7 +113,8 @@ takes_sign all at s xs ys e step = takes_so all at s None xs ys tt e step
 
 -- a sign whose place the tree keeps
 pub takes_marked : (all : List Seen) (at : ℕ) (s : Sign) (xs ys : Stack) → Some s ≡ head_sign (drop at (kinds all))
-    → ((rest : Tokens) (st : Stack) → goes (Fixed s ∷ rest) (xs ++ st) ≡ 1 + goes rest (ys ++ st)) → Whole all at xs (at + 1) ys (marked (Fixed s) (place_at all at) ∷ [])
+    → ((rest : Tokens) (st : Stack) → goes (Fixed s ∷ rest) (xs ++ st) ≡ 1 + goes rest (ys ++ st))
+    → Whole all at xs (at + 1) ys (marked (Fixed s) (place_at all at) ∷ [])
 takes_marked all at s xs ys e step = takes_so all at s (Some (place_at all at)) xs ys refl e step
 
 pub past_sign : (all : List Seen) (at : ℕ) (s : Sign) (xs : Stack) → Some s ≡ head_sign (drop at (kinds all))
@@ -103,62 +124,15 @@ past_sign all at s xs e step =
     record { by = λ st. ap (λ k. at + k) (rw (r.0) (step (drop (at + 1) (kinds all)) st)) }
 
 pub same_is : (a b : Sign) → IsTrue (same_sign a b) → a ≡ b
-same_is TrueWord TrueWord t = refl
-same_is FalseWord FalseWord t = refl
-same_is LeftParen LeftParen t = refl
-same_is RightParen RightParen t = refl
-same_is LeftBracket LeftBracket t = refl
-same_is RightBracket RightBracket t = refl
-same_is OrSign OrSign t = refl
-same_is AndSign AndSign t = refl
-same_is EqualSign EqualSign t = refl
-same_is UnequalSign UnequalSign t = refl
-same_is LessSign LessSign t = refl
-same_is LessEqualSign LessEqualSign t = refl
-same_is GreaterSign GreaterSign t = refl
-same_is GreaterEqualSign GreaterEqualSign t = refl
-same_is PlusSign PlusSign t = refl
-same_is MinusSign MinusSign t = refl
-same_is TimesSign TimesSign t = refl
-same_is OverSign OverSign t = refl
-same_is PercentSign PercentSign t = refl
-same_is NotSign NotSign t = refl
-same_is Semicolon Semicolon t = refl
-same_is Becomes Becomes t = refl
-same_is LeftBrace LeftBrace t = refl
-same_is RightBrace RightBrace t = refl
-same_is IfWord IfWord t = refl
-same_is ElseWord ElseWord t = refl
-same_is ForWord ForWord t = refl
-same_is InWord InWord t = refl
-same_is DotDot DotDot t = refl
-same_is IntWord IntWord t = refl
-same_is BoolWord BoolWord t = refl
-same_is WithonlyWord WithonlyWord t = refl
-same_is WithWord WithWord t = refl
-same_is DoWord DoWord t = refl
-same_is ContWord ContWord t = refl
-same_is Comma Comma t = refl
-same_is RdWord RdWord t = refl
-same_is WrWord WrWord t = refl
-same_is RdWrWord RdWrWord t = refl
-same_is DfRdWord DfRdWord t = refl
-same_is DfWrWord DfWrWord t = refl
-same_is DfRdWrWord DfRdWrWord t = refl
-same_is NoRdWord NoRdWord t = refl
-same_is NoWrWord NoWrWord t = refl
-same_is NoRdWrWord NoRdWrWord t = refl
-same_is InputWord InputWord t = refl
-same_is ObjectWord ObjectWord t = refl
-same_is ObjectsWord ObjectsWord t = refl
-same_is MainWord MainWord t = refl
-same_is Colon Colon t = refl
-same_is a b t = absurd (cc)
+same_is a b t = same_true the_type tt a b t
 
-pub sum_leaf : (all : List Seen) (at : ℕ) (s : Sign) (r : _) → Some s ≡ head_sign (drop at (kinds all)) → r ≡ sum_of s → MatchOption r (Passes all at (Rest 2 ∷ []) at []) (λ op. Whole all at (Rest 2 ∷ []) (at + 1) sum_in (marked (sum_sign op) (place_at all at) ∷ []))
+pub sum_leaf : (all : List Seen) (at : ℕ) (s : Sign) (r : _) → Some s ≡ head_sign (drop at (kinds all)) → r ≡ sum_of s
+    → MatchOption r (Passes all at (Rest 2 ∷ []) at []) (λ op. Whole all at (Rest 2 ∷ []) (at + 1) sum_in (marked (sum_sign op) (place_at all at) ∷ []))
 sum_leaf all at s r e k = rw k (sum_leaf_of s e)
   where
-    sum_leaf_of : (u : Sign) → Some u ≡ head_sign (drop at (kinds all)) → MatchOption (sum_of u) (Passes all at (Rest 2 ∷ []) at []) (λ op. Whole all at (Rest 2 ∷ []) (at + 1) sum_in (marked (sum_sign op) (place_at all at) ∷ []))
+    sum_leaf_of : (u : Sign) → Some u ≡ head_sign (drop at (kinds all))
+        → MatchOption (sum_of u) (Passes all at (Rest 2 ∷ []) at [])
+        (λ op. Whole all at (Rest 2 ∷ []) (at + 1) sum_in (marked (sum_sign op) (place_at all at) ∷ []))
     sum_leaf_of PlusSign f = takes_marked all at PlusSign _ _ f (λ rest st. refl)
     sum_leaf_of MinusSign f = takes_marked all at MinusSign _ _ f (λ rest st. refl)
     sum_leaf_of TrueWord f = past_sign all at TrueWord _ f (λ rest st. refl)
@@ -210,10 +184,14 @@ sum_leaf all at s r e k = rw k (sum_leaf_of s e)
     sum_leaf_of MainWord f = past_sign all at MainWord _ f (λ rest st. refl)
     sum_leaf_of Colon f = past_sign all at Colon _ f (λ rest st. refl)
 
-pub product_leaf : (all : List Seen) (at : ℕ) (s : Sign) (r : _) → Some s ≡ head_sign (drop at (kinds all)) → r ≡ product_of s → MatchOption r (Passes all at (Rest 1 ∷ []) at []) (λ op. Whole all at (Rest 1 ∷ []) (at + 1) product_in (marked (product_sign op) (place_at all at) ∷ []))
+pub product_leaf : (all : List Seen) (at : ℕ) (s : Sign) (r : _) → Some s ≡ head_sign (drop at (kinds all)) → r ≡ product_of s
+    → MatchOption r (Passes all at (Rest 1 ∷ []) at [])
+    (λ op. Whole all at (Rest 1 ∷ []) (at + 1) product_in (marked (product_sign op) (place_at all at) ∷ []))
 product_leaf all at s r e k = rw k (product_leaf_of s e)
   where
-    product_leaf_of : (u : Sign) → Some u ≡ head_sign (drop at (kinds all)) → MatchOption (product_of u) (Passes all at (Rest 1 ∷ []) at []) (λ op. Whole all at (Rest 1 ∷ []) (at + 1) product_in (marked (product_sign op) (place_at all at) ∷ []))
+    product_leaf_of : (u : Sign) → Some u ≡ head_sign (drop at (kinds all))
+        → MatchOption (product_of u) (Passes all at (Rest 1 ∷ []) at [])
+        (λ op. Whole all at (Rest 1 ∷ []) (at + 1) product_in (marked (product_sign op) (place_at all at) ∷ []))
     product_leaf_of TimesSign f = takes_marked all at TimesSign _ _ f (λ rest st. refl)
     product_leaf_of OverSign f = takes_marked all at OverSign _ _ f (λ rest st. refl)
     product_leaf_of PercentSign f = takes_marked all at PercentSign _ _ f (λ rest st. refl)
@@ -265,10 +243,14 @@ product_leaf all at s r e k = rw k (product_leaf_of s e)
     product_leaf_of MainWord f = past_sign all at MainWord _ f (λ rest st. refl)
     product_leaf_of Colon f = past_sign all at Colon _ f (λ rest st. refl)
 
-pub relation_leaf : (all : List Seen) (at : ℕ) (s : Sign) (r : _) → Some s ≡ head_sign (drop at (kinds all)) → r ≡ relation_of s → MatchOption r (Passes all at (Rest 3 ∷ []) at []) (λ op. Whole all at (Rest 3 ∷ []) (at + 1) sum_in (marked (relation_sign op) (place_at all at) ∷ []))
+pub relation_leaf : (all : List Seen) (at : ℕ) (s : Sign) (r : _) → Some s ≡ head_sign (drop at (kinds all)) → r ≡ relation_of s
+    → MatchOption r (Passes all at (Rest 3 ∷ []) at [])
+    (λ op. Whole all at (Rest 3 ∷ []) (at + 1) sum_in (marked (relation_sign op) (place_at all at) ∷ []))
 relation_leaf all at s r e k = rw k (relation_leaf_of s e)
   where
-    relation_leaf_of : (u : Sign) → Some u ≡ head_sign (drop at (kinds all)) → MatchOption (relation_of u) (Passes all at (Rest 3 ∷ []) at []) (λ op. Whole all at (Rest 3 ∷ []) (at + 1) sum_in (marked (relation_sign op) (place_at all at) ∷ []))
+    relation_leaf_of : (u : Sign) → Some u ≡ head_sign (drop at (kinds all))
+        → MatchOption (relation_of u) (Passes all at (Rest 3 ∷ []) at [])
+        (λ op. Whole all at (Rest 3 ∷ []) (at + 1) sum_in (marked (relation_sign op) (place_at all at) ∷ []))
     relation_leaf_of EqualSign f = takes_marked all at EqualSign _ _ f (λ rest st. refl)
     relation_leaf_of UnequalSign f = takes_marked all at UnequalSign _ _ f (λ rest st. refl)
     relation_leaf_of LessSign f = takes_marked all at LessSign _ _ f (λ rest st. refl)
@@ -320,13 +302,15 @@ relation_leaf all at s r e k = rw k (relation_leaf_of s e)
     relation_leaf_of MainWord f = past_sign all at MainWord _ f (λ rest st. refl)
     relation_leaf_of Colon f = past_sign all at Colon _ f (λ rest st. refl)
 
-pub unary_leaf : (all : List Seen) (at : ℕ) (s : Sign) (r : _) → Some s ≡ head_sign (drop at (kinds all)) → r ≡ unary_of s → MatchOption r (NoUnary all at) (λ op. Whole all at (Need ∷ []) (at + 1) (Need ∷ []) (marked (unary_sign op) (place_at all at) ∷ []))
+pub unary_leaf : (all : List Seen) (at : ℕ) (s : Sign) (r : _) → Some s ≡ head_sign (drop at (kinds all)) → r ≡ unary_of s
+    → MatchOption r (NoUnary all at) (λ op. Whole all at (Need ∷ []) (at + 1) (Need ∷ []) (marked (unary_sign op) (place_at all at) ∷ []))
 unary_leaf all at s r e k = rw k (of s e)
   where
     none_here : (u : Sign) → Some u ≡ head_sign (drop at (kinds all)) → unary_of u ≡ None → NoUnary all at
     none_here u f n = record { none = λ v h. let w : v ≡ u = cc in rw w n }
 
-    of : (u : Sign) → Some u ≡ head_sign (drop at (kinds all)) → MatchOption (unary_of u) (NoUnary all at) (λ op. Whole all at (Need ∷ []) (at + 1) (Need ∷ []) (marked (unary_sign op) (place_at all at) ∷ []))
+    of : (u : Sign) → Some u ≡ head_sign (drop at (kinds all))
+        → MatchOption (unary_of u) (NoUnary all at) (λ op. Whole all at (Need ∷ []) (at + 1) (Need ∷ []) (marked (unary_sign op) (place_at all at) ∷ []))
     of MinusSign f = takes_marked all at MinusSign _ _ f (λ rest st. refl)
     of NotSign f = takes_marked all at NotSign _ _ f (λ rest st. refl)
     of TrueWord f = none_here TrueWord f refl
@@ -433,18 +417,36 @@ must_step ObjectsWord rest st = refl
 must_step MainWord rest st = refl
 must_step Colon rest st = refl
 
-pub called_reads : (xs : List Seen) (at : ℕ) (b : List ℕ) → at < length xs → drop at (kinds xs) ≡ Called b ∷ drop (at + 1) (kinds xs) → Reads xs at (at + 1) (marked (Called b) (place_at xs at) ∷ [])
-called_reads xs at b lt h = record { forward = omega arith; within = omega arith; stands = h; agrees = (refl, tt); valid = λ k. record { is = rw (known_at (kinds xs) at (Called b) k.is h) refl } }
+pub called_reads : (xs : List Seen) (at : ℕ) (b : List ℕ) → at < length xs → drop at (kinds xs) ≡ Called b ∷ drop (at + 1) (kinds xs)
+    → Reads xs at (at + 1) (marked (Called b) (place_at xs at) ∷ [])
+called_reads xs at b lt h = record {
+  forward = omega arith;
+  within = omega arith;
+  stands = h;
+  agrees = (refl, tt);
+  valid =
+      λ k. record { is = rw (known_at (kinds xs) at (Called b) k.is h) refl };
+}
 
-pub counted_reads : (xs : List Seen) (at : ℕ) (v : ℤ) → at < length xs → drop at (kinds xs) ≡ Counted v ∷ drop (at + 1) (kinds xs) → Reads xs at (at + 1) (marked (Counted v) (place_at xs at) ∷ [])
-counted_reads xs at v lt h = record { forward = omega arith; within = omega arith; stands = h; agrees = (refl, tt); valid = λ k. record { is = rw (known_at (kinds xs) at (Counted v) k.is h) refl } }
+pub counted_reads : (xs : List Seen) (at : ℕ) (v : ℤ) → at < length xs → drop at (kinds xs) ≡ Counted v ∷ drop (at + 1) (kinds xs)
+    → Reads xs at (at + 1) (marked (Counted v) (place_at xs at) ∷ [])
+counted_reads xs at v lt h = record {
+  forward = omega arith;
+  within = omega arith;
+  stands = h;
+  agrees = (refl, tt);
+  valid =
+      λ k. record { is = rw (known_at (kinds xs) at (Counted v) k.is h) refl };
+}
 
-pub called_here : (xs : List Seen) (at : ℕ) (d : Seen) (b : _) → at < length xs → (get_or xs at d).kind ≡ KCalled b → Whole xs at (Need ∷ []) (at + 1) (First ∷ []) (marked (Called b.now) (place_at xs at) ∷ [])
+pub called_here : (xs : List Seen) (at : ℕ) (d : Seen) (b : _) → at < length xs → (get_or xs at d).kind ≡ KCalled b
+    → Whole xs at (Need ∷ []) (at + 1) (First ∷ []) (marked (Called b.now) (place_at xs at) ∷ [])
 called_here xs at d b lt e =
     let h : drop at (kinds xs) ≡ Called b.now ∷ drop (at + 1) (kinds xs) = here xs at d lt ∙ rw e refl in
     record { reads = called_reads xs at b.now lt h; passes = record { by = λ st. rw h (omega arith) } }
 
-pub counted_here : (xs : List Seen) (at : ℕ) (d : Seen) (v : ℤ) → at < length xs → (get_or xs at d).kind ≡ KCounted v → Whole xs at (Need ∷ []) (at + 1) [] (marked (Counted v) (get_or xs at d).pos ∷ [])
+pub counted_here : (xs : List Seen) (at : ℕ) (d : Seen) (v : ℤ) → at < length xs → (get_or xs at d).kind ≡ KCounted v
+    → Whole xs at (Need ∷ []) (at + 1) [] (marked (Counted v) (get_or xs at d).pos ∷ [])
 counted_here xs at d v lt e =
     let h : drop at (kinds xs) ≡ Counted v ∷ drop (at + 1) (kinds xs) = here xs at d lt ∙ rw e refl in
     rw (pos_here xs at d lt) (record { reads = counted_reads xs at v lt h; passes = record { by = λ st. rw h (omega arith) } })
@@ -455,7 +457,8 @@ nothing_here xs at le st =
     let m : length (kinds xs) ≤ at = omega arith in
     rw (drop_all at (kinds xs) m) refl
 
-no_atom : (s : Sign) → (s ≡ TrueWord → ⊥) → (s ≡ FalseWord → ⊥) → (s ≡ LeftParen → ⊥) → unary_of s ≡ None → (rest : Tokens) (st : Stack) → goes (Fixed s ∷ rest) (Need ∷ st) ≡ 0
+no_atom : (s : Sign) → (s ≡ TrueWord → ⊥) → (s ≡ FalseWord → ⊥) → (s ≡ LeftParen → ⊥) → unary_of s ≡ None → (rest : Tokens) (st : Stack)
+    → goes (Fixed s ∷ rest) (Need ∷ st) ≡ 0
 no_atom TrueWord a b c d rest st = absurd (a refl)
 no_atom FalseWord a b c d rest st = absurd (b refl)
 no_atom LeftParen a b c d rest st = absurd (c refl)
@@ -507,10 +510,14 @@ no_atom ObjectsWord a b c d rest st = refl
 no_atom MainWord a b c d rest st = refl
 no_atom Colon a b c d rest st = refl
 
-pub odd_here : (xs : List Seen) (at : ℕ) (d : Seen) → at < length xs → (get_or xs at d).kind ≡ KOdd → (st : Stack) → goes (drop at (kinds xs)) (Need ∷ st) ≡ 0
+pub odd_here : (xs : List Seen) (at : ℕ) (d : Seen) → at < length xs → (get_or xs at d).kind ≡ KUnknown → (st : Stack)
+    → goes (drop at (kinds xs)) (Need ∷ st)
+    ≡ 0
 odd_here xs at d lt e st = rw (here xs at d lt, e) refl
 
-pub no_sign_here : (all : List Seen) (at : ℕ) (s : Sign) → Some s ≡ head_sign (drop at (kinds all)) → NoUnary all at → (s ≡ TrueWord → ⊥) → (s ≡ FalseWord → ⊥) → (s ≡ LeftParen → ⊥)
+pub no_sign_here : (all : List Seen) (at : ℕ) (s : Sign) → Some s ≡ head_sign (drop at (kinds all)) → NoUnary all at → (s ≡ TrueWord → ⊥)
+    → (s ≡ FalseWord → ⊥)
+    → (s ≡ LeftParen → ⊥)
     → (st : Stack) → goes (drop at (kinds all)) (Need ∷ st) ≡ 0
 no_sign_here all at s e u a b c st = let r = split (kinds all) at s e in rw (r.0) (no_atom s a b c (u.none s (sym e)) (drop (at + 1) (kinds all)) st)
 
@@ -519,13 +526,15 @@ within_here all at s e = let r = split (kinds all) at s e in let n : length (kin
 
 -- a name, where a name may stand
 pub called_taken : (xs : List Seen) (at : ℕ) (d : Seen) (b : _) (ys zs : Stack) → at < length xs → (get_or xs at d).kind ≡ KCalled b
-    → ((rest : Tokens) (st : Stack) → goes (Called b.now ∷ rest) (ys ++ st) ≡ 1 + goes rest (zs ++ st)) → Whole xs at ys (at + 1) zs (marked (Called b.now) (place_at xs at) ∷ [])
+    → ((rest : Tokens) (st : Stack) → goes (Called b.now ∷ rest) (ys ++ st) ≡ 1 + goes rest (zs ++ st))
+    → Whole xs at ys (at + 1) zs (marked (Called b.now) (place_at xs at) ∷ [])
 called_taken xs at d b ys zs lt e step =
     let h : drop at (kinds xs) ≡ Called b.now ∷ drop (at + 1) (kinds xs) = here xs at d lt ∙ rw e refl in
     record { reads = called_reads xs at b.now lt h; passes = record { by = λ st. rw h (let k = step (drop (at + 1) (kinds xs)) st in omega (arith, k)) } }
 
 -- what stands as a name among known tokens is one
-pub called_known : {xs : List Seen} {a b : ℕ} {ys zs : Stack} {n : List ℕ} {p : Pos} → Whole xs a ys b zs (marked (Called n) p ∷ []) → Known xs → is_name n ≡ true
+pub called_known : {xs : List Seen} {a b : ℕ} {ys zs : Stack} {n : List ℕ} {p : Pos} → Whole xs a ys b zs (marked (Called n) p ∷ []) → Known xs → is_name n
+    ≡ true
 called_known {xs} {a} {b} {ys} {zs} {n} {p} w k = (both (is_name n) true (w.reads.valid k).is).0
 
 -- a name is not refused for its shape
@@ -535,10 +544,12 @@ never_shape n NoMemory v r k = absurd (cc)
 
 -- a number, where a number may stand
 pub counted_taken : (xs : List Seen) (at : ℕ) (d : Seen) (v : ℤ) (ys zs : Stack) → at < length xs → (get_or xs at d).kind ≡ KCounted v
-    → ((rest : Tokens) (st : Stack) → goes (Counted v ∷ rest) (ys ++ st) ≡ 1 + goes rest (zs ++ st)) → Whole xs at ys (at + 1) zs (marked (Counted v) (get_or xs at d).pos ∷ [])
+    → ((rest : Tokens) (st : Stack) → goes (Counted v ∷ rest) (ys ++ st) ≡ 1 + goes rest (zs ++ st))
+    → Whole xs at ys (at + 1) zs (marked (Counted v) (get_or xs at d).pos ∷ [])
 counted_taken xs at d v ys zs lt e step =
     let h : drop at (kinds xs) ≡ Counted v ∷ drop (at + 1) (kinds xs) = here xs at d lt ∙ rw e refl in
-    rw (pos_here xs at d lt) (record { reads = counted_reads xs at v lt h; passes = record { by = λ st. rw h (let k = step (drop (at + 1) (kinds xs)) st in omega (arith, k)) } })
+    rw (pos_here xs at d lt) (record
+    { reads = counted_reads xs at v lt h; passes = record { by = λ st. rw h (let k = step (drop (at + 1) (kinds xs)) st in omega (arith, k)) } })
 
 -- a token that may not stand there
 pub stops_kind : (xs : List Seen) (at : ℕ) (d : Seen) (k : Kind) (ys : Stack) → at < length xs → (get_or xs at d).kind ≡ k

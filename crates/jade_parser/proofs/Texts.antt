@@ -1,18 +1,21 @@
 -- What was seen is what the bytes say.
-use Rattle.std.proofs.Common.{◌≡◌, ℕ, zero, suc, ◌+◌, ◌<◌, ◌≤◌, true, ◌&&◌, List, [], ◌∷◌, ◌++◌, refl, ap, sym, ◌∙◌, length, take, drop, map, arith, slice_get, Some}
+use Rattle.std.proofs.Common.{◌≡◌, ℕ, zero, suc, ◌+◌, ◌<◌, ◌≤◌, true, ◌&&◌, List, [], ◌∷◌, ◌++◌, refl, ap}
+use Rattle.std.proofs.Common.{sym, ◌∙◌, length, take, drop, map, arith, slice_get, Some}
 use Rattle.std.specs.List.{list_all}
 use Rattle.std.proofs.lemmas.List.{length-map, take_all, take-append-le, take-map, map-append}
 use Rattle.jade_base.specs.declared.place.Pos.{Pos}
 use Rattle.jade_lexer.specs.Lexemes.{TokenAt, TokenList}
 use Rattle.jade_syntax.specs.declared.tree.Program.{Program}
 use Rattle.jade_parser.specs.declared.Seen.{Seen}
-use Rattle.jade_parser.specs.Spelled.{Token, Tokens, Fixed, Called, Counted, Odd, Part, Parts, tokens_of, is_valid, AllValid}
-use Rattle.jade_parser.specs.Kinds.{token_bytes, token_of_bytes, IsSeen}
+use Rattle.jade_parser.specs.Spelled.{Token, Tokens, Fixed, Called, Counted, Unknown, Part, Parts, tokens_of, is_valid, AllValid}
+use Rattle.jade_parser.specs.Kinds.{token_bytes, token_of_bytes}
+use Rattle.jade_parser.specs.steps.Reads.{IsSeen}
 use Rattle.jade_parser.specs.Programs.{program_parts, Proper}
-use Rattle.jade_parser.specs.Reads.{kinds, is_known, Known, Reads}
-use Rattle.jade_parser.specs.Parts.{BegunIn}
-use Rattle.jade_parser.specs.Refused.{ReadAll, RefusedAt, TooLongAt}
-use Rattle.jade_parser.specs.Grammar.{bytes_of, texts, IsProgram, IsReading, IsBegun, IsBegunShort, IsRefused, IsTooLong, place_or, place_of, IsRefusedAt, IsTooLongAt}
+use Rattle.jade_parser.specs.steps.Reads.{kinds, is_known, Known, Reads}
+use Rattle.jade_parser.specs.steps.Parts.{BegunIn}
+use Rattle.jade_parser.specs.steps.Refused.{ReadAll, RefusedAt, TooLongAt}
+use Rattle.jade_parser.specs.Grammar.{bytes_of, texts, IsProgram, IsReading, IsBegun, IsBegunShort, IsRefused}
+use Rattle.jade_parser.specs.Grammar.{IsTooLong, place_or, place_of, IsRefusedAt, IsTooLongAt}
 use Rattle.jade_parser.proofs.Known.{Known as Says, known, back, both_true}
 use Rattle.jade_parser.proofs.Reading.{all_valid, reads_length}
 
@@ -22,13 +25,13 @@ said : (x : List ℕ) (t : Token) → Says x t → is_valid t ≡ true → token
 said x (Fixed s) k v = k.1
 said x (Called n) k v = k.1
 said x (Counted n) k v = k.1
-said x Odd k v = absurd (cc)
+said x Unknown k v = absurd (cc)
 
 said_known : (x : List ℕ) (t : Token) → Says x t → is_known t ≡ true
 said_known x (Fixed s) k = refl
 said_known x (Called n) k = k.0
 said_known x (Counted n) k = k.0
-said_known x Odd k = refl
+said_known x Unknown k = refl
 
 bytes_back : (xs : List (List ℕ)) → list_all is_valid (map token_of_bytes xs) ≡ true → map token_bytes (map token_of_bytes xs) ≡ xs
 bytes_back [] v = refl
@@ -78,7 +81,7 @@ module _ (ts : TokenList) (all : List Seen) (seen : IsSeen ts.lexemes all) where
       let c : length (map token_of_bytes (texts ts)) ≡ length (texts ts) = length-map (texts ts) _ in
       omega arith
 
-  -- each token that was seen may stand in a program, or is odd
+  -- each token that was seen may stand in a program, or is unknown
   pub seen_known : Known all
   seen_known = record { is = rw seen_as (all_known (texts ts)) }
 

@@ -8,7 +8,7 @@ use Rattle.jade_parser.specs.declared.ParseError.TheVariants.{Token as AtToken, 
 use Rattle.jade_parser.specs.Spelled.{Part, Parts, tokens_of, AllValid, AllShort}
 use Rattle.jade_parser.specs.Kinds.{token_bytes}
 use Rattle.jade_parser.specs.Programs.{program_parts, Proper}
-use Rattle.jade_parser.specs.Reads.{Agrees}
+use Rattle.jade_parser.specs.Spelled.{Agrees}
 
 -- the bytes of each part
 abbrev pub bytes_of : Parts → List (List ℕ)

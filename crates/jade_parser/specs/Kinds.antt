@@ -1,15 +1,24 @@
 -- What the bytes of a token say that it is.
-use Rattle.std.specs.Prelude.{◌≡◌, ℕ, ◌≤◌, Bool, true, false, not, ◌&&◌, ◌||◌, ◌==◌, nat_le, if◌then◌else◌, List, [], ◌∷◌, length, codes, map, Option, Some, None, ℤ}
+use Rattle.std.specs.Prelude.{◌≡◌, ℕ, ◌≤◌, Bool, true, false, not, ◌&&◌, ◌||◌, ◌==◌, nat_le, if◌then◌else◌, List, [], ◌∷◌, length, codes, Option, Some,
+    None, ℤ}
 use Rattle.std.specs.Fmt.{signed_decimal}
 use Rattle.jade_lexer.specs.Alphabet.{is_run, value_after}
-use Rattle.jade_syntax.specs.Names.{is_spelled}
+use Rattle.jade_alphabet.specs.declared.TheConstants.{WORD_LIMIT, GREATEST_NUMBER}
+use Rattle.jade_alphabet.specs.Letters.{is_word}
 use Rattle.jade_syntax.specs.Numbering.{same_name}
 use Rattle.jade_parser.specs.declared.Sign.{Sign}
-use Rattle.jade_parser.specs.declared.Sign.TheVariants.{InputWord, ObjectWord, ObjectsWord, MainWord, IntWord, BoolWord, TrueWord, FalseWord, IfWord, ElseWord, ForWord, InWord, WithonlyWord, DoWord, WithWord, ContWord, RdWord, WrWord, RdWrWord, DfRdWord, DfWrWord, DfRdWrWord, NoRdWord, NoWrWord, NoRdWrWord, LeftParen, RightParen, LeftBracket, RightBracket, LeftBrace, RightBrace, Semicolon, Colon, Comma, DotDot, Becomes, EqualSign, UnequalSign, LessSign, LessEqualSign, GreaterSign, GreaterEqualSign, PlusSign, MinusSign, TimesSign, OverSign, PercentSign, NotSign, OrSign, AndSign}
-use Rattle.jade_parser.specs.declared.Seen.{Seen}
-use Rattle.jade_lexer.specs.Lexemes.{TokenAt}
-use Rattle.jade_parser.specs.Spelled.{Token, Fixed, Called, Counted, Odd}
-use Rattle.jade_parser.specs.Reads.{kinds}
+use Rattle.jade_parser.specs.declared.Sign.TheVariants.{InputWord, ObjectWord, ObjectsWord, MainWord, IntWord}
+use Rattle.jade_parser.specs.declared.Sign.TheVariants.{BoolWord, TrueWord, FalseWord, IfWord, ElseWord}
+use Rattle.jade_parser.specs.declared.Sign.TheVariants.{ForWord, InWord, WithonlyWord, DoWord, WithWord}
+use Rattle.jade_parser.specs.declared.Sign.TheVariants.{ContWord, RdWord, WrWord, RdWrWord, DfRdWord}
+use Rattle.jade_parser.specs.declared.Sign.TheVariants.{DfWrWord, DfRdWrWord, NoRdWord, NoWrWord, NoRdWrWord}
+use Rattle.jade_parser.specs.declared.Sign.TheVariants.{LeftParen, RightParen, LeftBracket, RightBracket}
+use Rattle.jade_parser.specs.declared.Sign.TheVariants.{LeftBrace, RightBrace, Semicolon, Colon, Comma}
+use Rattle.jade_parser.specs.declared.Sign.TheVariants.{DotDot, Becomes, EqualSign, UnequalSign, LessSign}
+use Rattle.jade_parser.specs.declared.Sign.TheVariants.{LessEqualSign, GreaterSign, GreaterEqualSign}
+use Rattle.jade_parser.specs.declared.Sign.TheVariants.{PlusSign, MinusSign, TimesSign, OverSign, PercentSign}
+use Rattle.jade_parser.specs.declared.Sign.TheVariants.{NotSign, OrSign, AndSign}
+use Rattle.jade_parser.specs.Spelled.{Token, Fixed, Called, Counted, Unknown}
 
 -- the bytes of a sign
 abbrev pub sign_bytes : Sign → List ℕ
@@ -69,7 +78,7 @@ abbrev pub token_bytes : Token → List ℕ
 token_bytes (Fixed s) = sign_bytes s
 token_bytes (Called n) = n
 token_bytes (Counted v) = signed_decimal v
-token_bytes Odd = []
+token_bytes Unknown = []
 
 -- the words of items and of values
 abbrev pub item_signs : List Sign
@@ -128,17 +137,17 @@ is_kept bytes = same_name bytes (codes "proc") || same_name bytes (codes "cm")
 
 -- letters and digits that are no reserved word of a form, nor any other
 abbrev pub is_free : List ℕ → Bool
-is_free bytes = nat_le (length bytes) 64 && is_spelled bytes && not (is_kept bytes)
+is_free bytes = nat_le (length bytes) WORD_LIMIT && is_word bytes && not (is_kept bytes)
 
--- one or more digits of a value of at most 2 ^ 63 - 1
+-- one or more digits of a value no greater than the greatest number
 abbrev pub is_small_run : List ℕ → Bool
-is_small_run bytes = is_run bytes && nat_le (value_after 0 bytes) 9223372036854775807
+is_small_run bytes = is_run bytes && nat_le (value_after 0 bytes) GREATEST_NUMBER
 
 -- these digits have this value
 pub record IsValue (bytes : List ℕ) (n : ℕ) : Type 0 where
   pub run : is_small_run bytes ≡ true
   pub value : n ≡ value_after 0 bytes
-  pub small : n ≤ 9223372036854775807
+  pub small : n ≤ GREATEST_NUMBER
 
 -- a 0 in front of more
 abbrev pub has_needless_zero : List ℕ → Bool
@@ -157,7 +166,7 @@ pub record IsNumber (bytes : List ℕ) (v : ℤ) : Type 0 where
 
 -- what some bytes are that are no sign
 abbrev pub plain_token : List ℕ → Token
-plain_token bytes = if is_free bytes then Called bytes else (if is_counted bytes then Counted (ℤ.pos (value_after 0 bytes)) else Odd)
+plain_token bytes = if is_free bytes then Called bytes else (if is_counted bytes then Counted (ℤ.pos (value_after 0 bytes)) else Unknown)
 
 -- the sign, where there is one, and else what is plain
 abbrev pub sign_or : Option Sign → Token → Token
@@ -167,8 +176,3 @@ sign_or None plain = plain
 -- what some bytes are: a sign, a name, a number, or none of them
 abbrev pub token_of_bytes : List ℕ → Token
 token_of_bytes bytes = sign_or (sign_in all_signs bytes) (plain_token bytes)
-
--- the lexemes of a text, each with what it is and its place
-pub record IsSeen (lexemes : List TokenAt) (seen : List Seen) : Type 0 where
-  pub tokens : kinds seen ≡ map (λ t. token_of_bytes t.bytes) lexemes
-  pub places : map (λ s. s.pos) seen ≡ map (λ t. t.pos) lexemes

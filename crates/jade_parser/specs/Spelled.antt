@@ -1,9 +1,14 @@
 -- The parts of a tree: its tokens in order, each with the place that the tree keeps of it.
-use Rattle.std.specs.Prelude.{◌≡◌, ℕ, ◌+◌, Bool, true, false, List, [], ◌∷◌, ◌++◌, map, Option, Some, None, ℤ, nat_le}
+use Rattle.std.specs.Prelude.{◌≡◌, ℕ, zero, suc, ◌+◌, Bool, true, false, List, [], ◌∷◌, ◌++◌, map, Option, Some, None, ℤ, nat_le}
 use Rattle.std.specs.List.{flat_map, list_all}
 use Rattle.jade_parser.specs.declared.Sign.{Sign}
-use Rattle.jade_parser.specs.declared.Sign.TheVariants.{EqualSign, UnequalSign, LessSign, LessEqualSign, GreaterSign, GreaterEqualSign, PlusSign, MinusSign, TimesSign, OverSign, PercentSign, NotSign, TrueWord, FalseWord, LeftBracket, RightBracket, LeftParen, RightParen, AndSign, OrSign}
+use Rattle.jade_parser.specs.declared.Sign.TheVariants.{EqualSign, UnequalSign, LessSign, LessEqualSign}
+use Rattle.jade_parser.specs.declared.Sign.TheVariants.{GreaterSign, GreaterEqualSign, PlusSign, MinusSign}
+use Rattle.jade_parser.specs.declared.Sign.TheVariants.{TimesSign, OverSign, PercentSign, NotSign, TrueWord}
+use Rattle.jade_parser.specs.declared.Sign.TheVariants.{FalseWord, LeftBracket, RightBracket, LeftParen}
+use Rattle.jade_parser.specs.declared.Sign.TheVariants.{RightParen, AndSign, OrSign}
 use Rattle.jade_base.specs.declared.place.Pos.{Pos}
+use Rattle.jade_alphabet.specs.declared.TheConstants.{EXPRESSION_LIMIT}
 use Rattle.jade_syntax.specs.Names.{is_name}
 use Rattle.jade_syntax.specs.Shapes.{is_natural}
 use Rattle.jade_syntax.specs.declared.tree.Number.{Number}
@@ -30,7 +35,7 @@ pub data Token : Type 0 where
   Fixed : Sign → Token
   Called : List ℕ → Token
   Counted : ℤ → Token
-  Odd : Token
+  Unknown : Token
 
 -- tokens in text order
 abbrev pub Tokens : Type 0
@@ -74,7 +79,7 @@ abbrev pub is_valid : Token → Bool
 is_valid (Fixed s) = true
 is_valid (Called n) = is_name n
 is_valid (Counted v) = is_natural v
-is_valid Odd = false
+is_valid Unknown = false
 
 -- each name is a name, and each number is one that may be written
 pub record AllValid (ps : Parts) : Type 0 where
@@ -82,7 +87,7 @@ pub record AllValid (ps : Parts) : Type 0 where
 
 -- no outermost expression has more than 256 tokens
 pub record AllShort (ps : Parts) : Type 0 where
-  pub is : list_all (λ (p : Part). nat_le p.nth 256) ps ≡ true
+  pub is : list_all (λ (p : Part). nat_le p.nth EXPRESSION_LIMIT) ps ≡ true
 
 -- ---- words and symbols
 
@@ -229,3 +234,19 @@ sign_part p = marked (unary_sign p.0) p.1 ∷ []
 -- an expression that lies in no other
 abbrev pub outer : Expr → Parts
 outer e = numbered 0 (expr_parts e)
+
+-- the place of a token by its number
+abbrev pub pos_in : List Pos → ℕ → Pos
+pos_in [] at = record { line = 0; column = 0 }
+pos_in (p ∷ ps) zero = p
+pos_in (p ∷ ps) (suc at) = pos_in ps at
+
+-- the place that is kept, if one is
+abbrev pub KeptAt : Option Pos → Pos → Type 0
+KeptAt None q = Unit {0}
+KeptAt (Some p) q = p ≡ q
+
+-- the places that are kept of these parts are those of the tokens from this one on
+abbrev pub Agrees : List Pos → ℕ → Parts → Type 0
+Agrees qs at [] = Unit {0}
+Agrees qs at (p ∷ ps) = KeptAt p.at (pos_in qs at) × Agrees qs (at + 1) ps

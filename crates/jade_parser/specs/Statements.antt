@@ -8,7 +8,11 @@ use Rattle.jade_syntax.specs.declared.tree.DeclareWord.TheVariants.{Rd, Wr, RdWr
 use Rattle.jade_syntax.specs.declared.tree.ObjectRef.{ObjectRef}
 use Rattle.jade_syntax.specs.declared.tree.Statement.{Statement, fold-Statement}
 use Rattle.jade_syntax.specs.declared.tree.Statement.TheOpen.{Statement-F}
-use Rattle.jade_parser.specs.declared.Sign.TheVariants.{LeftParen, RightParen, LeftBrace, RightBrace, Becomes, Semicolon, Comma, DotDot, IfWord, ElseWord, ForWord, InWord, IntWord, BoolWord, WithonlyWord, WithWord, DoWord, ContWord, RdWord, WrWord, RdWrWord, DfRdWord, DfWrWord, DfRdWrWord, NoRdWord, NoWrWord, NoRdWrWord}
+use Rattle.jade_parser.specs.declared.Sign.TheVariants.{LeftParen, RightParen, LeftBrace, RightBrace, Becomes}
+use Rattle.jade_parser.specs.declared.Sign.TheVariants.{Semicolon, Comma, DotDot, IfWord, ElseWord, ForWord}
+use Rattle.jade_parser.specs.declared.Sign.TheVariants.{InWord, IntWord, BoolWord, WithonlyWord, WithWord}
+use Rattle.jade_parser.specs.declared.Sign.TheVariants.{DoWord, ContWord, RdWord, WrWord, RdWrWord, DfRdWord}
+use Rattle.jade_parser.specs.declared.Sign.TheVariants.{DfWrWord, DfRdWrWord, NoRdWord, NoWrWord, NoRdWrWord}
 use Rattle.jade_syntax.specs.declared.tree.CellRef.{CellRef, out-CellRef}
 use Rattle.jade_syntax.specs.declared.tree.Expr.{Expr}
 use Rattle.jade_syntax.specs.declared.tree.Named.{Named}
@@ -66,16 +70,20 @@ else_parts (Some b) = fixed ElseWord ∷ braced b
 
 -- a statement, by those within it
 abbrev pub at_statement : Statement-F Parts → Parts
-at_statement (Statement-F.Local kind name pos value) = plain (kind_word kind) ∷ marked (Called name) pos ∷ fixed Becomes ∷ [] ++ outer value ++ fixed Semicolon ∷ []
+at_statement (Statement-F.Local kind name pos value) = plain (kind_word kind) ∷ marked (Called name) pos ∷ fixed Becomes ∷ [] ++ outer value
+    ++ fixed Semicolon
+    ∷ []
 at_statement (Statement-F.Assign name pos value) = marked (Called name) pos ∷ fixed Becomes ∷ [] ++ outer value ++ fixed Semicolon ∷ []
 at_statement (Statement-F.Store target value) = target_parts target ++ fixed Becomes ∷ [] ++ outer value ++ fixed Semicolon ∷ []
 at_statement (Statement-F.If test then otherwise) = fixed IfWord ∷ [] ++ outer test ++ braced then ++ else_parts otherwise
 at_statement (Statement-F.For name pos low high body) =
     fixed ForWord ∷ marked (Called name) pos ∷ fixed InWord ∷ [] ++ outer low ++ fixed DotDot ∷ [] ++ outer high ++ braced body
 at_statement (Statement-F.Withonly pos section names body) =
-    marked (Fixed WithonlyWord) pos ∷ [] ++ braced section ++ fixed DoWord ∷ [] ++ fixed LeftParen ∷ [] ++ name_parts names ++ fixed RightParen ∷ [] ++ braced body
+    marked (Fixed WithonlyWord) pos ∷ [] ++ braced section ++ fixed DoWord ∷ [] ++ fixed LeftParen ∷ [] ++ name_parts names ++ fixed RightParen ∷ []
+    ++ braced body
 at_statement (Statement-F.With pos section) = marked (Fixed WithWord) pos ∷ [] ++ braced section ++ fixed ContWord ∷ [] ++ fixed Semicolon ∷ []
-at_statement (Statement-F.Declare word pos object) = marked (declare_word word) pos ∷ fixed LeftParen ∷ [] ++ object_parts object ++ fixed RightParen ∷ [] ++ fixed Semicolon ∷ []
+at_statement (Statement-F.Declare word pos object) = marked (declare_word word) pos ∷ fixed LeftParen ∷ [] ++ object_parts object ++ fixed RightParen ∷ []
+    ++ fixed Semicolon ∷ []
 
 -- the parts of a statement
 abbrev pub statement_parts : Statement → Parts
@@ -92,13 +100,16 @@ else_block (Some b) = fixed ElseWord ∷ [] ++ block_parts b
 
 -- a statement whose parts are trees
 abbrev pub opened : Statement-F Statement → Parts
-opened (Statement-F.Local kind name pos value) = plain (kind_word kind) ∷ marked (Called name) pos ∷ fixed Becomes ∷ [] ++ outer value ++ fixed Semicolon ∷ []
+opened (Statement-F.Local kind name pos value) = plain (kind_word kind) ∷ marked (Called name) pos ∷ fixed Becomes ∷ [] ++ outer value ++ fixed Semicolon
+    ∷ []
 opened (Statement-F.Assign name pos value) = marked (Called name) pos ∷ fixed Becomes ∷ [] ++ outer value ++ fixed Semicolon ∷ []
 opened (Statement-F.Store target value) = target_parts target ++ fixed Becomes ∷ [] ++ outer value ++ fixed Semicolon ∷ []
 opened (Statement-F.If test then otherwise) = fixed IfWord ∷ [] ++ outer test ++ block_parts then ++ else_block otherwise
 opened (Statement-F.For name pos low high body) =
     fixed ForWord ∷ marked (Called name) pos ∷ fixed InWord ∷ [] ++ outer low ++ fixed DotDot ∷ [] ++ outer high ++ block_parts body
 opened (Statement-F.Withonly pos section names body) =
-    marked (Fixed WithonlyWord) pos ∷ [] ++ block_parts section ++ fixed DoWord ∷ [] ++ fixed LeftParen ∷ [] ++ name_parts names ++ fixed RightParen ∷ [] ++ block_parts body
+    marked (Fixed WithonlyWord) pos ∷ [] ++ block_parts section ++ fixed DoWord ∷ [] ++ fixed LeftParen ∷ [] ++ name_parts names ++ fixed RightParen ∷ []
+    ++ block_parts body
 opened (Statement-F.With pos section) = marked (Fixed WithWord) pos ∷ [] ++ block_parts section ++ fixed ContWord ∷ [] ++ fixed Semicolon ∷ []
-opened (Statement-F.Declare word pos object) = marked (declare_word word) pos ∷ fixed LeftParen ∷ [] ++ object_parts object ++ fixed RightParen ∷ [] ++ fixed Semicolon ∷ []
+opened (Statement-F.Declare word pos object) = marked (declare_word word) pos ∷ fixed LeftParen ∷ [] ++ object_parts object ++ fixed RightParen ∷ []
+    ++ fixed Semicolon ∷ []

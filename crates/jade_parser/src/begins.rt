@@ -1,8 +1,8 @@
 //! What a word begins where a statement may stand.
 
 ghost use Rattle.std.specs.Prelude.{◌≡◌};
-ghost use Rattle.jade_parser.specs.Ops.{declare_of};
-ghost use Rattle.jade_parser.specs.Begins.{declaration_of, main_only, begin_of};
+ghost use Rattle.jade_parser.specs.steps.Ops.{declare_of};
+ghost use Rattle.jade_parser.specs.steps.Begins.{declaration_of, main_only, begin_of};
 
 use crate::Sign;
 use jade_syntax::shapes::place::{BlockKind, declares};

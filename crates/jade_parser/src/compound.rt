@@ -1,12 +1,13 @@
 //! Blocks, and the statements that hold blocks.
 
 ghost use Rattle.std.specs.Prelude.{◌≡◌, ◌+◌, ◌≤◌, [], ◌∷◌, drop, length, None, MatchOption};
-ghost use Rattle.jade_parser.specs.Reads.{Known, Whole, head_sign, kinds, place_at};
-ghost use Rattle.jade_parser.specs.Parts.{ParsedIn, Fits, FitsAll};
-ghost use Rattle.jade_parser.specs.Machine.{Body};
+ghost use Rattle.jade_parser.specs.steps.Reads.{Known, Whole, head_sign, kinds, place_at};
+ghost use Rattle.jade_parser.specs.steps.Parts.{ParsedIn};
+ghost use Rattle.jade_parser.specs.Programs.{Fits, FitsAll};
+ghost use Rattle.jade_parser.specs.steps.Machine.{Body};
 ghost use Rattle.jade_parser.specs.Spelled.{Fixed, fixed, marked};
 ghost use Rattle.jade_parser.specs.Statements.{statement_parts, block_parts};
-ghost use Rattle.jade_parser.specs.Compound.{block_in, if_in, for_in, withonly_in, with_in, BeginAt, StatementAt};
+ghost use Rattle.jade_parser.specs.steps.Compound.{block_in, if_in, for_in, withonly_in, with_in, BeginAt, StatementAt};
 ghost use Rattle.jade_syntax.specs.declared.shapes.place.BlockKind.TheVariants.{Main};
 ghost use Rattle.jade_parser.specs.declared.Sign.TheVariants.{IfWord, ForWord, WithonlyWord, WithWord};
 

@@ -1,7 +1,7 @@
 ghost use Rattle.std.specs.Prelude.{◌≡◌, ℕ, ◌+◌, ◌<◌, ◌≤◌, [], ◌∷◌, ◌++◌, drop, length, MatchResult, Some};
 ghost use Rattle.std.specs.List.{flat_map};
-ghost use Rattle.jade_parser.specs.Reads.{Known, Parsed, Whole, NoUnary, OnToken, closed, head_sign, kinds, place_at};
-ghost use Rattle.jade_parser.specs.Machine.{Need, First, Second, Must, expr_in, and_in, compare_in, sum_in, product_in, unary_in};
+ghost use Rattle.jade_parser.specs.steps.Reads.{Known, Parsed, Whole, NoUnary, OnToken, closed, head_sign, kinds, place_at};
+ghost use Rattle.jade_parser.specs.steps.Machine.{Need, First, Second, Must, expr_in, and_in, compare_in, sum_in, product_in, unary_in};
 ghost use Rattle.jade_parser.specs.Spelled.{expr_parts, and_parts, compare_parts, sum_parts, product_parts, unary_parts, atom_parts, cell_parts, sign_part, Called, marked, fixed};
 ghost use Rattle.jade_parser.specs.declared.Sign.TheVariants.{LeftBracket, RightBracket};
 
@@ -173,7 +173,7 @@ fn parse_atom(alloc: Global, tokens: &[Seen<'_>], start: usize) -> Result<(Atom,
             Kind::Counted(value) => Ok((Atom::Whole(Number { value, pos }), start + 1)),
             Kind::Called(text) => parse_named(alloc, tokens, start, text),
             Kind::Fixed(sign) => parse_fixed(alloc, tokens, start, sign),
-            Kind::Odd => Err(Stop::Token(start)),
+            Kind::Unknown => Err(Stop::Token(start)),
         }
     } else {
         Err(Stop::Token(start))

@@ -1,11 +1,12 @@
 //! The items of a program, before its `main`.
 
 ghost use Rattle.std.specs.Prelude.{◌≡◌, ◌+◌, [], ◌∷◌, ◌++◌, ◌≤◌, length, MatchResult};
-ghost use Rattle.jade_parser.specs.Reads.{Known, Whole};
-ghost use Rattle.jade_parser.specs.Parts.{ParsedIn, Any};
-ghost use Rattle.jade_parser.specs.Machine.{Must, NameIs, NumberIs, Items as ItemsIn};
+ghost use Rattle.jade_parser.specs.steps.Reads.{Known, Whole};
+ghost use Rattle.jade_parser.specs.steps.Parts.{ParsedIn, Any};
+ghost use Rattle.jade_parser.specs.steps.Machine.{Must, NameIs, NumberIs, Items as ItemsIn};
 ghost use Rattle.jade_parser.specs.Spelled.{fixed};
-ghost use Rattle.jade_parser.specs.Programs.{between_parts, item_parts, head_parts, opening_of, OpeningAt, ItemAt, size_in, count_in, body_in};
+ghost use Rattle.jade_parser.specs.Programs.{between_parts, item_parts, head_parts};
+ghost use Rattle.jade_parser.specs.steps.Openings.{opening_of, OpeningAt, ItemAt, size_in, count_in, body_in};
 ghost use Rattle.jade_parser.specs.declared.Sign.TheVariants.{InputWord, ObjectWord, ObjectsWord, Semicolon};
 
 use crate::leaves::{expect, pos_at, sign_at};

@@ -1,43 +1,16 @@
 //! What a token of the text is: a sign, a name, a number, or none of them.
 
 ghost use Rattle.std.specs.Prelude.{◌≡◌, ◌+◌, ◌-◌, ◌*◌, ◌<◌, ◌≤◌, length, codes, true, false, not, ◌&&◌, IfOk, IfSome, MatchOption, map};
-ghost use Rattle.std.specs.List.{list_all};
-ghost use Rattle.jade_syntax.specs.Names.{is_letter_or_digit, is_spelled};
-ghost use Rattle.jade_parser.specs.Kinds.{is_kept, is_free, is_small_run, has_needless_zero, is_counted, token_of_bytes, IsValue, IsNumber, IsSeen};
-ghost use Rattle.jade_parser.specs.Reads.{token_of};
+ghost use Rattle.jade_parser.specs.Kinds.{is_kept, is_free, is_small_run, has_needless_zero, is_counted, token_of_bytes, IsValue, IsNumber};
+ghost use Rattle.jade_parser.specs.steps.Reads.{IsSeen};
+ghost use Rattle.jade_parser.specs.steps.Reads.{token_of};
 
 use crate::lexicon::sign_of;
 use crate::{Kind, Seen};
+use jade_alphabet::{GREATEST_NUMBER, WORD_LIMIT, is_word};
 use jade_lexer::Tokens;
-use jade_syntax::name::{is_letter, same_name};
+use jade_syntax::name::same_name;
 use std::alloc::{AllocError, Global};
-
-/// The most bytes of a name.
-const NAME_LIMIT: usize = 64;
-
-/// The greatest number.
-const GREATEST: u64 = 9223372036854775807;
-
-fn is_letter_or_digit(byte: u8) -> bool
-    ensures { result ≡ is_letter_or_digit byte }
-{
-    is_letter(byte) || byte.is_ascii_digit()
-}
-
-fn are_letters_or_digits(text: &[u8]) -> bool
-    ensures { result ≡ list_all is_letter_or_digit text.now }
-{
-    text.iter().all(|byte| is_letter_or_digit(*byte))
-}
-
-fn is_spelled(text: &[u8]) -> bool
-    ensures { result ≡ is_spelled text.now }
-{
-    match text {
-        [] => false,
-        [first, rest @ ..] => is_letter(*first) && are_letters_or_digits(rest),
-    }
-}
 
 /// Whether some bytes are a reserved word that stands in no form.
 fn is_kept(text: &[u8]) -> bool
@@ -50,7 +23,7 @@ fn is_kept(text: &[u8]) -> bool
 fn is_free(text: &[u8]) -> bool
     ensures { result ≡ is_free text.now }
 {
-    text.len() <= NAME_LIMIT && is_spelled(text) && !is_kept(text)
+    text.len() <= WORD_LIMIT && is_word(text) && !is_kept(text)
 }
 
 /// The value of some digits, where it is no greater than the greatest number.
@@ -66,7 +39,7 @@ fn value(text: &[u8]) -> Option<u64>
             return None;
         }
         let unit = u64::from(*byte - b'0');
-        if value > (GREATEST - unit) / 10 {
+        if value > (GREATEST_NUMBER - unit) / 10 {
             return None;
         }
         value = 10 * value + unit;
@@ -109,7 +82,7 @@ pub fn kind_of(text: &[u8]) -> Kind<'_>
     }
     match number_of(text) {
         Some(value) => Kind::Counted(value),
-        None => Kind::Odd,
+        None => Kind::Unknown,
     }
 }
 

@@ -3,7 +3,6 @@
 ghost use Rattle.std.specs.Prelude.{◌≡◌};
 ghost use Rattle.jade_lexer.specs.Lexemes.{TokenList};
 ghost use Rattle.jade_syntax.specs.declared.tree.Program.{Program};
-ghost use Rattle.jade_layout.specs.Spelling.{spelling};
 ghost use Rattle.jade_parser.specs.Grammar.{IsReading, IsRefusal, bytes_of};
 ghost use Rattle.jade_parser.specs.Programs.{program_parts};
 ghost use Rattle.jade_parser.specs.OneReading.{SameRefusal, IsMemory};
@@ -16,10 +15,4 @@ pub fn one_reading()
     ensures spelling { (tokens : TokenList) (p q : Program) → IsReading tokens p → IsReading tokens q → bytes_of (program_parts p) ≡ bytes_of (program_parts q) }
     ensures refusal { (tokens : TokenList) (e f : ParseError) → IsRefusal tokens e → IsRefusal tokens f → SameRefusal e f }
     ensures apart { (tokens : TokenList) (p : Program) (e : ParseError) → IsReading tokens p → IsRefusal tokens e → IsMemory e }
-{}
-
-/// A law of programs, which does nothing: the tokens that the grammar gives a program are those of
-/// its printed layout.
-pub fn spelled_alike()
-    ensures { (p : Program) → bytes_of (program_parts p) ≡ spelling p }
 {}

@@ -1,7 +1,7 @@
 ghost use Rattle.std.specs.Prelude.{◌≡◌, ◌+◌, ◌++◌, [], ◌∷◌, drop, MatchOption, MatchResult, IsTrue, IsFalse, IfSome, length, ◌<◌};
-ghost use Rattle.jade_parser.specs.Reads.{head_sign, kinds, place_at, Passes, Whole, OnOther, NoUnary};
-ghost use Rattle.jade_parser.specs.Ops.{sum_of as sum_spec, product_of as product_spec, relation_of as relation_spec, unary_of as unary_spec};
-ghost use Rattle.jade_parser.specs.Machine.{Rest, Need, First, Second, Must, sum_in, product_in, expr_in, and_in, same_sign};
+ghost use Rattle.jade_parser.specs.steps.Reads.{head_sign, kinds, place_at, Passes, Whole, OnOther, NoUnary};
+ghost use Rattle.jade_parser.specs.steps.Ops.{sum_of as sum_spec, product_of as product_spec, relation_of as relation_spec, unary_of as unary_spec};
+ghost use Rattle.jade_parser.specs.steps.Machine.{Rest, Need, First, Second, Must, sum_in, product_in, expr_in, and_in, same_sign};
 ghost use Rattle.jade_parser.specs.Spelled.{sum_sign, product_sign, relation_sign, unary_sign, Fixed, fixed, marked};
 ghost use Rattle.jade_parser.specs.declared.Sign.TheVariants.{OrSign, AndSign, LeftBracket, RightBracket};
 
@@ -29,7 +29,7 @@ pub fn sign_at(tokens: &[Seen<'_>], at: usize) -> Option<Sign>
             Kind::Fixed(sign) => Some(sign),
             Kind::Called(_) => None,
             Kind::Counted(_) => None,
-            Kind::Odd => None,
+            Kind::Unknown => None,
         }
     } else {
         None

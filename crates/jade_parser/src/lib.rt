@@ -75,13 +75,13 @@ pub enum Sign {
     Colon,
 }
 
-/// What a token is. `Odd` is what stands in no program.
+/// What a token is. `Unknown` is what stands in no program.
 #[derive(Clone, Copy)]
 pub(crate) enum Kind<'t> {
     Fixed(Sign),
     Called(&'t [u8]),
     Counted(i64),
-    Odd,
+    Unknown,
 }
 
 /// A token as what it is, and its place.

@@ -1,6 +1,6 @@
 ghost use Rattle.std.specs.Prelude.{◌≡◌, ◌+◌, [], ◌∷◌, MatchResult};
-ghost use Rattle.jade_parser.specs.Reads.{Known, Whole, OnOther, place_at};
-ghost use Rattle.jade_parser.specs.Machine.{NameIs, NumberIs};
+ghost use Rattle.jade_parser.specs.steps.Reads.{Known, Whole, OnOther, place_at};
+ghost use Rattle.jade_parser.specs.steps.Machine.{NameIs, NumberIs};
 ghost use Rattle.jade_parser.specs.Spelled.{Called, marked, number_part};
 
 use crate::{Kind, Seen, Stop};
@@ -24,7 +24,7 @@ pub fn name_at(alloc: Global, tokens: &[Seen<'_>], at: usize) -> Result<Name, St
         },
         Kind::Fixed(_) => Err(Stop::Token(at)),
         Kind::Counted(_) => Err(Stop::Token(at)),
-        Kind::Odd => Err(Stop::Token(at)),
+        Kind::Unknown => Err(Stop::Token(at)),
     }
 }
 
@@ -40,6 +40,6 @@ pub fn number_at(tokens: &[Seen<'_>], at: usize) -> Result<Number, Stop>
         Kind::Counted(value) => Ok(Number { value, pos }),
         Kind::Fixed(_) => Err(Stop::Token(at)),
         Kind::Called(_) => Err(Stop::Token(at)),
-        Kind::Odd => Err(Stop::Token(at)),
+        Kind::Unknown => Err(Stop::Token(at)),
     }
 }

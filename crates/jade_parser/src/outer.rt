@@ -1,14 +1,12 @@
 ghost use Rattle.std.specs.Prelude.{◌≤◌, length};
-ghost use Rattle.jade_parser.specs.Reads.{Known};
-ghost use Rattle.jade_parser.specs.Parts.{ParsedOuter};
+ghost use Rattle.jade_parser.specs.steps.Reads.{Known};
+ghost use Rattle.jade_parser.specs.steps.Parts.{ParsedOuter};
 
 use crate::expressions::parse_expr;
 use crate::{Seen, Stop};
+use jade_alphabet::EXPRESSION_LIMIT;
 use jade_syntax::tree::Expr;
 use std::alloc::Global;
-
-/// The most tokens of an expression that lies in no other.
-const EXPRESSION_LIMIT: usize = 256;
 
 /// An expression that lies in no other.
 pub fn parse_outer(alloc: Global, tokens: &[Seen<'_>], start: usize) -> Result<(Expr, usize), Stop>

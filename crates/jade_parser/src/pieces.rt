@@ -1,10 +1,10 @@
 //! The pieces of statements: expressions with what ends them, indexes, objects and lists of names.
 
 ghost use Rattle.std.specs.Prelude.{◌≡◌, ◌+◌, ◌≤◌, ◌<◌, [], ◌∷◌, ◌++◌, drop, length, Some, IsTrue, IsFalse};
-ghost use Rattle.jade_parser.specs.Reads.{Known, head_sign, kinds, Whole};
-ghost use Rattle.jade_parser.specs.Machine.{Must, NameIs, Names, Second, expr_in};
+ghost use Rattle.jade_parser.specs.steps.Reads.{Known, head_sign, kinds, Whole};
+ghost use Rattle.jade_parser.specs.steps.Machine.{Must, NameIs, Names, Second, expr_in};
 ghost use Rattle.jade_parser.specs.Statements.{object_parts};
-ghost use Rattle.jade_parser.specs.Forms.{ParsedAs, NoHead, ended, indexes, declared, named_list};
+ghost use Rattle.jade_parser.specs.steps.Forms.{ParsedAs, NoHead, ended, indexes, declared, named_list};
 ghost use Rattle.jade_parser.specs.declared.Sign.TheVariants.{LeftParen, RightParen, RightBracket, Semicolon};
 
 use crate::leaves::{bracket, expect, pos_at, same, sign_at};

@@ -2,8 +2,8 @@
 
 ghost use Rattle.std.specs.Prelude.{◌≡◌, MatchResult, IfOk, IfErr};
 ghost use Rattle.jade_parser.specs.Grammar.{IsReading, IsRefusal, place_of};
-ghost use Rattle.jade_parser.specs.Refused.{ReadAll, RefusedAt, TooLongAt};
-ghost use Rattle.jade_parser.specs.Reads.{Known, OnStop};
+ghost use Rattle.jade_parser.specs.steps.Refused.{ReadAll, RefusedAt, TooLongAt};
+ghost use Rattle.jade_parser.specs.steps.Reads.{Known, OnStop};
 
 use crate::compound::parse_block;
 use crate::items::parse_items;

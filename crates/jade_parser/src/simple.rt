@@ -1,13 +1,14 @@
 //! Statements that hold no others: locals, assignments, stores and declarations.
 
 ghost use Rattle.std.specs.Prelude.{◌≡◌, ◌+◌, ◌≤◌, [], ◌∷◌, ◌++◌, drop, length, true, None};
-ghost use Rattle.jade_parser.specs.Reads.{Known, head_sign, kinds, place_at, Whole};
+ghost use Rattle.jade_parser.specs.steps.Reads.{Known, head_sign, kinds, place_at, Whole};
 ghost use Rattle.jade_syntax.specs.Shapes.{declares, is_main};
-ghost use Rattle.jade_parser.specs.Machine.{Must, NameIs, Second, Body, expr_in};
+ghost use Rattle.jade_parser.specs.steps.Machine.{Must, NameIs, Second, Body, expr_in};
 ghost use Rattle.jade_parser.specs.Spelled.{Called, plain, marked, fixed};
 ghost use Rattle.jade_parser.specs.Statements.{statement_parts, kind_word, declare_word};
-ghost use Rattle.jade_parser.specs.Parts.{ParsedIn, Fits};
-ghost use Rattle.jade_parser.specs.Forms.{Came};
+ghost use Rattle.jade_parser.specs.steps.Parts.{ParsedIn};
+ghost use Rattle.jade_parser.specs.Programs.{Fits};
+ghost use Rattle.jade_parser.specs.steps.Forms.{Came};
 ghost use Rattle.jade_syntax.specs.declared.shapes.place.BlockKind.TheVariants.{Main};
 ghost use Rattle.jade_parser.specs.declared.Sign.TheVariants.{LeftParen, RightParen, LeftBracket, RightBracket, Semicolon, Becomes};
 
@@ -17,7 +18,7 @@ use crate::pieces::{is_at, parse_declared, parse_ended, parse_indexes};
 use crate::{Seen, Sign, Stop};
 use jade_base::Pos;
 use jade_syntax::Name;
-use jade_syntax::shapes::place::BlockKind;
+use jade_syntax::shapes::place::{BlockKind, is_main};
 use jade_syntax::tree::{CellRef, DeclareWord, Statement, ValueKind};
 use std::alloc::Global;
 
@@ -133,17 +134,6 @@ fn parse_store(
             Ok((Statement::Store { target, value }, end))
         }
         Err(e) => Err(e),
-    }
-}
-
-/// Whether stores stand there.
-fn is_main(place: BlockKind) -> bool
-    ensures { result ≡ is_main place }
-{
-    match place {
-        BlockKind::Main => true,
-        BlockKind::Section => false,
-        BlockKind::Amends => false,
     }
 }
 

@@ -64,8 +64,11 @@ pub nested_trail : {x : Extent} {ts : Tokens} (k : ℕ) → Nested x ts → Nest
 nested_trail {x} k f = record { by = λ h. less (max x.depth 0) (omega arith) (f.by (and_parts x.sound true h).0) }
 
 -- a chain of one level
-pub nested_chain : {P : Type 0} {x : Extent} {first : Tokens} (g : P → Extent) (f : P → Tokens) (op : P → Token) → ((p : P) → IsSign (op p)) → ((p : P) → Nested (g p) (f p)) → Nested x first → (ps : List P) → Nested (x ⊕ all_of (map (λ p. signs 1 ⊕ g p) ps)) (first ++ flat_map (λ p. op p ∷ f p) ps)
-nested_chain g f op is each begun ps = nested_join begun (nested_all (λ p. signs 1 ⊕ g p) (λ p. op p ∷ f p) ps (λ p. nested_join (nested_sign 1 (op p) (is p)) (each p)))
+pub nested_chain : {P : Type 0} {x : Extent} {first : Tokens} (g : P → Extent) (f : P → Tokens) (op : P → Token) → ((p : P) → IsSign (op p))
+    → ((p : P) → Nested (g p) (f p)) → Nested x first → (ps : List P)
+    → Nested (x ⊕ all_of (map (λ p. signs 1 ⊕ g p) ps)) (first ++ flat_map (λ p. op p ∷ f p) ps)
+nested_chain g f op is each begun ps =
+    nested_join begun (nested_all (λ p. signs 1 ⊕ g p) (λ p. op p ∷ f p) ps (λ p. nested_join (nested_sign 1 (op p) (is p)) (each p)))
 
 pub sum_is_sign : (o : SumOp) → IsSign (sum_sign o)
 sum_is_sign Plus = λ depth. refl
@@ -93,7 +96,8 @@ signs_nest [] = nests_nothing
 signs_nest (s ∷ ss) = join (sign (unary_sign s.0) (unary_is_sign s.0)) (signs_nest ss)
 
 -- signs before an operand
-pub nested_signs : {x : Extent} {ts : Tokens} (ss : List (UnaryOp × Pos)) → Nested x ts → Nested (signs (length ss) ⊕ x) (flat_map (λ (p : UnaryOp × Pos). unary_sign p.0 ∷ []) ss ++ ts)
+pub nested_signs : {x : Extent} {ts : Tokens} (ss : List (UnaryOp × Pos)) → Nested x ts
+    → Nested (signs (length ss) ⊕ x) (flat_map (λ (p : UnaryOp × Pos). unary_sign p.0 ∷ []) ss ++ ts)
 nested_signs ss f = record { by = λ h. join (signs_nest ss) (f.by h) }
 
 number_nests : (z : ℤ) → is_natural z ≡ true → Nests 0 (signed_decimal z ∷ [])
@@ -118,10 +122,13 @@ nested_bracketed f = record { by = λ h. square (f.by h) }
 
 -- a name with one index or two
 pub nested_single : {x : Extent} {ts : Tokens} (n : Token) → Nested x ts → Nested (name_extent n ⊕ nothing ⊕ in_brackets x) (n ∷ ([] ++ bracketed ts))
-nested_single {x} {ts} n f = nested_regroup (name_extent n) nothing (in_brackets x) _ (nested_join (nested_name n) (nested_join nested_nothing (nested_bracketed f)))
+nested_single {x} {ts} n f = nested_regroup (name_extent n) nothing (in_brackets x) _
+    (nested_join (nested_name n) (nested_join nested_nothing (nested_bracketed f)))
 
-pub nested_member : {x y : Extent} {a b : Tokens} (n : Token) → Nested x a → Nested y b → Nested (name_extent n ⊕ in_brackets x ⊕ in_brackets y) (n ∷ (bracketed a ++ bracketed b))
-nested_member {x} {y} n f g = nested_regroup (name_extent n) (in_brackets x) (in_brackets y) _ (nested_join (nested_name n) (nested_join (nested_bracketed f) (nested_bracketed g)))
+pub nested_member : {x y : Extent} {a b : Tokens} (n : Token) → Nested x a → Nested y b
+    → Nested (name_extent n ⊕ in_brackets x ⊕ in_brackets y) (n ∷ (bracketed a ++ bracketed b))
+nested_member {x} {y} n f g = nested_regroup (name_extent n) (in_brackets x) (in_brackets y) _
+    (nested_join (nested_name n) (nested_join (nested_bracketed f) (nested_bracketed g)))
 
 -- one operand, or two with a relation between them
 pub nested_alone : {x : Extent} {ts : Tokens} → Nested x ts → Nested (x ⊕ nothing) (ts ++ [])

@@ -1,5 +1,7 @@
 -- Where the tokens of a text stand, at most 64 brackets are open, and the text has a byte for each of them.
-use Rattle.std.proofs.Common.{◌≡◌, ℕ, ◌+◌, ◌-◌, ◌<◌, ◌≤◌, max, Bool, true, false, not, ◌&&◌, List, [], ◌∷◌, ◌++◌, length, map, get_or, codes, refl, ap, subst, ◌∙◌, arith, append_assoc, length-append, if◌then◌else◌}
+use Rattle.std.proofs.Common.{◌≡◌, ℕ, ◌+◌, ◌-◌, ◌<◌, ◌≤◌, max, Bool, true, false, not, ◌&&◌, List, [], ◌∷◌}
+use Rattle.std.proofs.Common.{◌++◌, length, map, get_or, codes, refl, ap, subst, ◌∙◌, arith, append_assoc}
+use Rattle.std.proofs.Common.{length-append, if◌then◌else◌}
 use Rattle.std.proofs.Math.Dec.{eqb}
 use Rattle.std.proofs.lemmas.Bool.{and_parts, not-true}
 use Rattle.jade_base.specs.declared.place.Pos.{Pos}
@@ -54,14 +56,16 @@ sign t same = record {
 }
 
 -- tokens in brackets
-enclosed : {k : ℕ} {ts : Tokens} (opening closing : Token) → ((depth : ℕ) → past depth opening ≡ depth + 1) → ((depth : ℕ) → past (depth + 1) closing ≡ depth) → Nests k ts → Nests (k + 1) (opening ∷ (ts ++ closing ∷ []))
+enclosed : {k : ℕ} {ts : Tokens} (opening closing : Token) → ((depth : ℕ) → past depth opening ≡ depth + 1)
+    → ((depth : ℕ) → past (depth + 1) closing ≡ depth) → Nests k ts → Nests (k + 1) (opening ∷ (ts ++ closing ∷ []))
 enclosed {k} {ts} opening closing opens closes n = record {
   room = λ depth rest s. let r = n.room (depth + 1) (closing ∷ rest) (inner depth rest s) in omega arith;
   left = λ depth rest s. subst (λ d. Shallow d rest) (closes depth) (n.left (depth + 1) (closing ∷ rest) (inner depth rest s)).1;
 }
   where
     inner : (depth : ℕ) (rest : Tokens) → Shallow depth ((opening ∷ (ts ++ closing ∷ [])) ++ rest) → Shallow (depth + 1) (ts ++ closing ∷ rest)
-    inner depth rest s = subst (λ l. Shallow (depth + 1) l) (append_assoc ts (closing ∷ []) rest) (subst (λ d. Shallow d ((ts ++ closing ∷ []) ++ rest)) (opens depth) s.1)
+    inner depth rest s = subst (λ l. Shallow (depth + 1) l) (append_assoc ts (closing ∷ []) rest)
+        (subst (λ d. Shallow d ((ts ++ closing ∷ []) ++ rest)) (opens depth) s.1)
 
 pub round : {k : ℕ} {ts : Tokens} → Nests k ts → Nests (k + 1) (codes "(" ∷ (ts ++ codes ")" ∷ []))
 round n = enclosed (codes "(") (codes ")") (λ depth. refl) (λ depth. omega arith) n
@@ -79,14 +83,16 @@ no_bracket depth b opens closes = (λ i. if opens i then depth + 1 else (if clos
 -- words, names and numbers are no brackets
 pub plain : (t : Token) → is_plain t ≡ true → Nests 0 (t ∷ [])
 plain t h =
-    let p = and_parts (is_sound t && not (is_opener (get_or t 0 0)) && not (is_closer (get_or t 0 0)) && not (eqb (get_or t 0 0) 61)) (not (is_bang t)) h in
+    let p = and_parts (is_sound t && not (is_opener (get_or t 0 0)) && not (is_closer (get_or t 0 0)) && not (eqb (get_or t 0 0) 61)) (not (is_bang t))
+    h in
     let q = and_parts (is_sound t && not (is_opener (get_or t 0 0)) && not (is_closer (get_or t 0 0))) (not (eqb (get_or t 0 0) 61)) p.0 in
     let r = and_parts (is_sound t && not (is_opener (get_or t 0 0))) (not (is_closer (get_or t 0 0))) q.0 in
     let s = and_parts (is_sound t) (not (is_opener (get_or t 0 0))) r.0 in
     sign t (λ depth. no_bracket depth (get_or t 0 0) (not-true (is_opener (get_or t 0 0)) s.1) (not-true (is_closer (get_or t 0 0)) r.1))
 
 -- after a token at most 64 brackets are open, if fewer are before one that opens
-past_bounded : (opens closes : Bool) (depth : ℕ) → depth ≤ 64 → (opens ≡ true → depth < 64) → (if opens then depth + 1 else (if closes then depth - 1 else depth)) ≤ 64
+past_bounded : (opens closes : Bool) (depth : ℕ) → depth ≤ 64 → (opens ≡ true → depth < 64)
+    → (if opens then depth + 1 else (if closes then depth - 1 else depth)) ≤ 64
 past_bounded true closes depth le room = let lt = room refl in omega arith
 past_bounded false true depth le room = omega arith
 past_bounded false false depth le room = le
@@ -99,14 +105,17 @@ abbrev pub bytes_of : List TokenAt → Tokens
 bytes_of tokens = map (λ t. t.bytes) tokens
 
 -- where a text is cut into tokens, at most 64 brackets are open
-pub cut_shallow : (end pos : Pos) (start depth : ℕ) (bytes : List ℕ) (tokens : List TokenAt) → depth ≤ 64 → Cut end (record { start = start; pos = pos; depth = depth }) bytes tokens → Shallow depth (bytes_of tokens)
+pub cut_shallow : (end pos : Pos) (start depth : ℕ) (bytes : List ℕ) (tokens : List TokenAt) → depth ≤ 64
+    → Cut end (record { start = start; pos = pos; depth = depth }) bytes tokens → Shallow depth (bytes_of tokens)
 cut_shallow end pos start depth [] [] le (nothing is) = le
-cut_shallow end pos start depth bytes tokens le (blank front after is is_blank rest) = cut_shallow end (pos_after pos front) (start + length front) depth after tokens le rest
+cut_shallow end pos start depth bytes tokens le (blank front after is is_blank rest) =
+    cut_shallow end (pos_after pos front) (start + length front) depth after tokens le rest
 cut_shallow end pos start depth bytes (t ∷ tokens) le (token after is starts stands first sound rest) =
     (le, cut_shallow end (pos_after pos t.bytes) (start + length t.bytes) (past depth t.bytes) after tokens (past_sound depth t.bytes after le sound) rest)
 
 -- a text that is cut into tokens has a byte for each
-pub cut_count : (end pos : Pos) (start depth : ℕ) (bytes : List ℕ) (tokens : List TokenAt) → Cut end (record { start = start; pos = pos; depth = depth }) bytes tokens → length tokens ≤ length bytes
+pub cut_count : (end pos : Pos) (start depth : ℕ) (bytes : List ℕ) (tokens : List TokenAt)
+    → Cut end (record { start = start; pos = pos; depth = depth }) bytes tokens → length tokens ≤ length bytes
 cut_count end pos start depth [] [] (nothing is) = omega arith
 cut_count end pos start depth bytes tokens (blank front after is is_blank rest) =
     let later = cut_count end (pos_after pos front) (start + length front) depth after tokens rest in

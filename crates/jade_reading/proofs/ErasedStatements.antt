@@ -8,8 +8,9 @@ use Rattle.jade_syntax.specs.declared.tree.Statement.{Statement, map-Statement, 
 use Rattle.jade_syntax.specs.declared.tree.Statement.TheOpen.{Statement-F}
 use Rattle.jade_syntax.specs.declared.tree.Program.{Program}
 use Rattle.jade_syntax.specs.Abstract as abstract
-use Rattle.jade_syntax.specs.Abstract.{Action, Actions, Place}
+use Rattle.jade_syntax.specs.Abstract.{Action}
 use Rattle.jade_syntax.specs.Placed.{Phrase}
+use Rattle.jade_syntax.specs.Forms as general
 use Rattle.jade_syntax.specs.PlacedImage as placed
 use Rattle.jade_syntax.specs.PlacedImage.{term, phrase, phrases, placed_program}
 use Rattle.jade_syntax.specs.Image as image
@@ -36,20 +37,27 @@ module _ {S : Type 0} (one : S → Phrase) (two : S → Action) (same : (s : S) 
   block_erased : (xs : List S) → erased_phrases (phrases (map one xs)) ≡ actions (map two xs)
   block_erased xs = phrases_erased (map one xs) ∙ ap actions (map-map erased_phrase one xs ∙ map_same (λ x. erased_phrase (one x)) two same xs)
 
-  if_erased : (x : Expr) (xs : List S) (o : Option (List S)) → erased_phrase (placed.branched (term x) (map one xs) (omap one o)) ≡ image.branched (expression x) (map two xs) (omap two o)
-  if_erased x xs None = ap (λ k. abstract.If k (erased_phrases (phrases (map one xs)))) (expr_erased x) ∙ ap (λ k. abstract.If (expression x) k) (block_erased xs)
+  if_erased : (x : Expr) (xs : List S) (o : Option (List S)) → erased_phrase (placed.branched (term x) (map one xs) (omap one o))
+      ≡ image.branched (expression x) (map two xs) (omap two o)
+  if_erased x xs None = ap (λ k. abstract.If k (erased_phrases (phrases (map one xs)))) (expr_erased x)
+      ∙ ap (λ k. abstract.If (expression x) k) (block_erased xs)
   if_erased x xs (Some ys) =
       ap (λ k. abstract.IfElse k (erased_phrases (phrases (map one xs))) (erased_phrases (phrases (map one ys)))) (expr_erased x)
-      ∙ ap (λ k. abstract.IfElse (expression x) k (erased_phrases (phrases (map one ys)))) (block_erased xs) ∙ ap (λ k. abstract.IfElse (expression x) (actions (map two xs)) k) (block_erased ys)
+      ∙ ap (λ k. abstract.IfElse (expression x) k (erased_phrases (phrases (map one ys)))) (block_erased xs)
+      ∙ ap (λ k. abstract.IfElse (expression x) (actions (map two xs)) k) (block_erased ys)
 
-store_erased : (c : CellRef) (x : Expr) → erased_phrase (placed.at_statement (Statement-F.Store c x)) ≡ image.at_statement (Statement-F.Store c x)
-store_erased c x = ap (λ (k : Plain). abstract.Store k.place k.cell (erased (term x))) (cell_erased c) ∙ ap (λ k. abstract.Store (image.reference c).place (image.reference c).cell k) (expr_erased x)
+store_erased : (c : CellRef) (x : Expr) → erased_phrase ((general.at_statement placed.forms placed.statement_forms) (Statement-F.Store c x))
+    ≡ (general.at_statement image.forms image.statement_forms) (Statement-F.Store c x)
+store_erased c x = ap (λ (k : Plain). abstract.Store k.place k.cell (erased (term x))) (cell_erased c)
+    ∙ ap (λ k. abstract.Store (image.reference c).place (image.reference c).cell k) (expr_erased x)
 
 module _ {S : Type 0} (val : S → Statement) (same : (s : S) → erased_phrase (phrase (val s)) ≡ action (val s)) where
   block : (xs : List S) → erased_phrases (phrases (map (λ s. phrase (val s)) xs)) ≡ actions (map (λ s. action (val s)) xs)
   block = block_erased (λ s. phrase (val s)) (λ s. action (val s)) same
 
-  layer : (y : Statement-F S) → erased_phrase (placed.at_statement (map-Statement Statement Phrase phrase (map-Statement S Statement val y))) ≡ image.at_statement (map-Statement Statement Action action (map-Statement S Statement val y))
+  layer : (y : Statement-F S) → erased_phrase
+      ((general.at_statement placed.forms placed.statement_forms) (map-Statement Statement Phrase phrase (map-Statement S Statement val y)))
+      ≡ (general.at_statement image.forms image.statement_forms) (map-Statement Statement Action action (map-Statement S Statement val y))
   layer (Statement-F.Local k n p x) = ap (abstract.Local k n) (expr_erased x)
   layer (Statement-F.Assign n p x) = ap (abstract.Assign n) (expr_erased x)
   layer (Statement-F.Store t x) = store_erased t x
@@ -57,7 +65,8 @@ module _ {S : Type 0} (val : S → Statement) (same : (s : S) → erased_phrase 
   layer (Statement-F.If x then (Some o)) = simp map-map (if_erased (λ (z : S). phrase (val z)) (λ (z : S). action (val z)) same x then (Some o))
   layer (Statement-F.For n p l h b) = simp map-map (
       ap (λ k. abstract.For n k (erased (term h)) (erased_phrases (phrases (map (λ s. phrase (val s)) b)))) (expr_erased l)
-      ∙ ap (λ k. abstract.For n (expression l) k (erased_phrases (phrases (map (λ s. phrase (val s)) b)))) (expr_erased h) ∙ ap (abstract.For n (expression l) (expression h)) (block b))
+      ∙ ap (λ k. abstract.For n (expression l) k (erased_phrases (phrases (map (λ s. phrase (val s)) b)))) (expr_erased h)
+      ∙ ap (abstract.For n (expression l) (expression h)) (block b))
   layer (Statement-F.Withonly p ss ns b) = simp map-map (
       ap (λ k. abstract.Withonly p k (map (λ n. n.name) ns) (erased_phrases (phrases (map (λ s. phrase (val s)) b)))) (block ss)
       ∙ ap (λ k. abstract.Withonly p (actions (map (λ s. action (val s)) ss)) (map (λ n. n.name) ns) k) (block b))
@@ -66,7 +75,11 @@ module _ {S : Type 0} (val : S → Statement) (same : (s : S) → erased_phrase 
 
 statement_erased : (s : Statement) → erased_phrase (phrase s) ≡ action s
 statement_erased s = ind-Statement (λ s. erased_phrase (phrase s) ≡ action s)
-    (λ x y k. rw (← k) (rw (fold-roll-Statement Phrase placed.at_statement, fold-roll-Statement Action image.at_statement) (layer (λ z. z.0) (λ z. z.1) y))) s
+    (λ x y k. rw (← k) (rw (
+      fold-roll-Statement Phrase (general.at_statement placed.forms placed.statement_forms),
+      fold-roll-Statement Action
+          (general.at_statement image.forms image.statement_forms),
+    ) (layer (λ z. z.0) (λ z. z.1) y))) s
 
 pub program_erased : (p : Program) → erased_program (placed_program p) ≡ program p
 program_erased p = ap (λ k. record { items = p.items; main = k }) (block_erased phrase action statement_erased p.main)

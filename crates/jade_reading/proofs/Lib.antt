@@ -1,3 +1,5 @@
+pub mod Alike
+pub mod Same
 pub mod ErasedTerms
 pub mod ErasedStatements
 pub mod Likeness
@@ -10,7 +12,6 @@ pub mod Unmoved
 pub mod OneTree
 pub mod DepthOfTokens
 pub mod DepthOfParts
-pub mod DepthOfTerms
 pub mod DepthOfStatements
 pub mod DepthOfText
 pub mod ShapeOfParts

@@ -2,7 +2,7 @@
 use Rattle.std.proofs.Common.{◌≡◌, ℕ, ◌+◌, ◌<◌, ◌≤◌, [], ◌∷◌, ◌++◌, Option, Some, None, refl, ap, sym, ◌∙◌, subst, arith, append_assoc}
 use Rattle.jade_base.specs.declared.place.Pos.{Pos}
 use Rattle.jade_parser.specs.Spelled.{Parts, numbered}
-use Rattle.jade_parser.specs.Machine.{rank}
+use Rattle.jade_parser.specs.steps.Machine.{rank}
 
 -- the rest does not go on at this level or below
 abbrev pub Follows : ℕ → Parts → Type 0
@@ -88,7 +88,8 @@ module _ (to : Pos → Pos) where
   -- parts that differ in their numbers alone are alike to the same
   pub like_bare : (ps us qs vs r s : Parts) → bare ps ≡ bare us → bare qs ≡ bare vs → Like (ps ++ r) (qs ++ s) → Like (us ++ r) (vs ++ s)
   like_bare ps us qs vs r s e f h =
-      like_sym (vs ++ s) (us ++ r) (bare_left (qs ++ s) (vs ++ s) (us ++ r) (more qs vs s f) (like_sym (us ++ r) (qs ++ s) (bare_left (ps ++ r) (us ++ r) (qs ++ s) (more ps us r e) h)))
+      like_sym (vs ++ s) (us ++ r) (bare_left (qs ++ s) (vs ++ s) (us ++ r) (more qs vs s f)
+      (like_sym (us ++ r) (qs ++ s) (bare_left (ps ++ r) (us ++ r) (qs ++ s) (more ps us r e) h)))
     where
       more : (a b c : Parts) → bare a ≡ bare b → bare (a ++ c) ≡ bare (b ++ c)
       more a b c e = bare_append a c ∙ ap (λ (l : Parts). l ++ bare c) e ∙ sym (bare_append b c)

@@ -7,11 +7,12 @@ use Rattle.jade_syntax.specs.Placed as syntax
 use Rattle.jade_syntax.specs.Placed.{Term}
 use Rattle.jade_syntax.specs.PlacedImage.{Linked, links, chained}
 use Rattle.jade_parser.specs.Spelled.{Token, Part, Parts, marked}
-use Rattle.jade_parser.specs.Machine.{rank}
+use Rattle.jade_parser.specs.steps.Machine.{rank}
 use Rattle.jade_reading.specs.Unplaced.{moved, moved_links}
 use Rattle.jade_reading.proofs.Likeness.{Like, Same, Follows, follows_less, One, regroup}
 
-link_same : (o p : Operator) (i j : Pos) (x y : Term) (ks ls : List Linked) → o ≡ p → i ≡ j → x ≡ y → ks ≡ ls → record { operator = o; at = i; operand = x } ∷ ks ≡ record { operator = p; at = j; operand = y } ∷ ls
+link_same : (o p : Operator) (i j : Pos) (x y : Term) (ks ls : List Linked) → o ≡ p → i ≡ j → x ≡ y → ks ≡ ls
+    → record { operator = o; at = i; operand = x } ∷ ks ≡ record { operator = p; at = j; operand = y } ∷ ls
 link_same o p i j x y ks ls a b c d = λ k. record { operator = a k; at = b k; operand = c k } ∷ d k
 
 -- `to` gives another place for each
@@ -28,9 +29,11 @@ module _ (to : Pos → Pos) where
   chain_moved e (l ∷ ls) = ap (syntax.Chain (moved to e)) (links_moved (l ∷ ls))
 
   -- O are the operators of the level n, X the trees of the level m below, Y those of the level
-  module _ {O X Y : Type 0} (m n : ℕ) (less : m < n) (sign : O → Token) (operator : O → Operator) (ranked : (o : O) → rank (sign o) ≡ n) (told : (o p : O) → sign o ≡ sign p → operator o ≡ operator p)
+  module _ {O X Y : Type 0} (m n : ℕ) (less : m < n) (sign : O → Token) (operator : O → Operator) (ranked : (o : O) → rank (sign o) ≡ n)
+      (told : (o p : O) → sign o ≡ sign p → operator o ≡ operator p)
       (parts : X → Parts) (image : X → Term) (whole : Y → Parts) (whole_image : Y → Term) where
-    module _ {A B : Type 0} (by : A → O) (at : A → Pos) (body : A → Parts) (told_as : A → Term) (one : (x : A) → One to (moved to) m parts image (body x) (told_as x)) (by_two : B → O) (at_two : B → Pos) (tree : B → X) where
+    module _ {A B : Type 0} (by : A → O) (at : A → Pos) (body : A → Parts) (told_as : A → Term)
+        (one : (x : A) → One to (moved to) m parts image (body x) (told_as x)) (by_two : B → O) (at_two : B → Pos) (tree : B → X) where
       abbrev part : A → Parts
       part x = marked (sign (by x)) (at x) ∷ body x
 
@@ -55,28 +58,39 @@ module _ (to : Pos → Pos) where
       ended : (o : O) (p : Part) → n < rank p.token → sign o ≡ p.token → ⊥
       ended o p f e = let k : rank p.token ≡ n = ap rank (sym e) ∙ ranked o in omega (arith, k, f)
 
-      links_same : (xs : List A) (ys : List B) (r s : Parts) → Follows n r → Follows n s → Like to (flat_map part xs ++ r) (flat_map part_two ys ++ s) → Same to (map moved_link) (map link xs) (map link_two ys) r s
+      links_same : (xs : List A) (ys : List B) (r s : Parts) → Follows n r → Follows n s → Like to (flat_map part xs ++ r) (flat_map part_two ys ++ s)
+          → Same to (map moved_link) (map link xs) (map link_two ys) r s
       links_same [] [] r s f g h = record { image = refl; rest = h }
       links_same [] (y ∷ ys) [] s f g h = absurd h
       links_same [] (y ∷ ys) (p ∷ r) s f g h = absurd (ended (by_two y) p f (sym h.0))
       links_same (x ∷ xs) [] r [] f g h = absurd h
       links_same (x ∷ xs) [] r (p ∷ s) f g h = absurd (ended (by x) p g h.0)
       links_same (x ∷ xs) (y ∷ ys) r s f g h =
-          let k = (one x).by (tree y) (flat_map part xs ++ r) (flat_map part_two ys ++ s) (follows_links xs r f) (follows_two ys s g) (regroup to (body x) (flat_map part xs) r (parts (tree y)) (flat_map part_two ys) s h.2) in
+          let k = (one x).by (tree y) (flat_map part xs ++ r) (flat_map part_two ys ++ s) (follows_links xs r f) (follows_two ys s g)
+          (regroup to (body x) (flat_map part xs) r (parts (tree y)) (flat_map part_two ys) s h.2) in
           let t = links_same xs ys r s f g k.rest in
           record { image = link_same _ _ _ _ _ _ _ _ (told (by x) (by_two y) h.0) h.1 k.image t.image; rest = t.rest }
 
-      chain_same : (ps : Parts) (e : Term) → One to (moved to) m parts image ps e → (xs : List A) (y : X) (ys : List B) (r s : Parts) → Follows n r → Follows n s → Like to ((ps ++ flat_map part xs) ++ r) ((parts y ++ flat_map part_two ys) ++ s)
+      chain_same : (ps : Parts) (e : Term) → One to (moved to) m parts image ps e → (xs : List A) (y : X) (ys : List B) (r s : Parts) → Follows n r
+          → Follows n s → Like to ((ps ++ flat_map part xs) ++ r) ((parts y ++ flat_map part_two ys) ++ s)
           → Same to (moved to) (chained e (map link xs)) (chained (image y) (map link_two ys)) r s
       chain_same ps e o xs y ys r s f g h =
-          let k = o.by y (flat_map part xs ++ r) (flat_map part_two ys ++ s) (follows_links xs r f) (follows_two ys s g) (regroup to ps (flat_map part xs) r (parts y) (flat_map part_two ys) s h) in
+          let k = o.by y (flat_map part xs ++ r) (flat_map part_two ys ++ s) (follows_links xs r f) (follows_two ys s g)
+          (regroup to ps (flat_map part xs) r (parts y) (flat_map part_two ys) s h) in
           let t = links_same xs ys r s f g k.rest in
-          record { image = chain_moved e (map link xs) ∙ (λ i. chained (k.image i) (t.image i)) ∙ sym (chain_moved (image y) (map link_two ys)); rest = t.rest }
+          record {
+            image = chain_moved e (map link xs) ∙ (λ i. chained (k.image i) (t.image i)) ∙ sym (chain_moved (image y) (map link_two ys));
+            rest =
+                t.rest;
+          }
 
-      pub one_chain : (first : Y → X) (rest : Y → List B) → ((y : Y) → whole y ≡ parts (first y) ++ flat_map part_two (rest y)) → ((y : Y) → whole_image y ≡ chained (image (first y)) (map link_two (rest y)))
-          → (ps : Parts) (e : Term) → One to (moved to) m parts image ps e → (xs : List A) → One to (moved to) n whole whole_image (ps ++ flat_map part xs) (chained e (map link xs))
+      pub one_chain : (first : Y → X) (rest : Y → List B) → ((y : Y) → whole y ≡ parts (first y) ++ flat_map part_two (rest y))
+          → ((y : Y) → whole_image y ≡ chained (image (first y)) (map link_two (rest y)))
+          → (ps : Parts) (e : Term) → One to (moved to) m parts image ps e → (xs : List A)
+          → One to (moved to) n whole whole_image (ps ++ flat_map part xs) (chained e (map link xs))
       one_chain first rest opens shows ps e o xs = record {
         by = λ y r s f g h.
-            let k = chain_same ps e o xs (first y) (rest y) r s f g (subst (λ (l : Parts). Like to ((ps ++ flat_map part xs) ++ r) (l ++ s)) (opens y) h) in
+            let k = chain_same ps e o xs (first y) (rest y) r s f g
+            (subst (λ (l : Parts). Like to ((ps ++ flat_map part xs) ++ r) (l ++ s)) (opens y) h) in
             record { image = k.image ∙ ap (moved to) (sym (shows y)); rest = k.rest };
       }

@@ -14,13 +14,21 @@ use Rattle.jade_syntax.specs.declared.tree.Statement.{Statement, out-Statement, 
 use Rattle.jade_syntax.specs.declared.tree.Statement.TheOpen.{Statement-F}
 use Rattle.jade_syntax.specs.Placed as syntax
 use Rattle.jade_syntax.specs.Placed.{Term, Mention, Phrase, Phrases}
+use Rattle.jade_syntax.specs.Forms as general
 use Rattle.jade_syntax.specs.PlacedImage as placed
-use Rattle.jade_syntax.specs.PlacedImage.{term, reference, member, object, mentioned, phrase, phrases}
+use Rattle.jade_syntax.specs.PlacedImage.{term, member, object, mentioned, phrase, phrases}
 use Rattle.jade_parser.specs.declared.Sign.{Sign}
-use Rattle.jade_parser.specs.declared.Sign.TheVariants.{LeftBracket, RightBracket, LeftParen, RightParen, RightBrace, Becomes, Semicolon, Comma, DotDot, IfWord, ElseWord, ForWord, IntWord, BoolWord, WithonlyWord, WithWord, DoWord, ContWord, RdWord, WrWord, RdWrWord, DfRdWord, DfWrWord, DfRdWrWord, NoRdWord, NoWrWord, NoRdWrWord}
-use Rattle.jade_parser.specs.Spelled.{Token, Fixed, Called, Counted, Odd, Parts, fixed, bracketed, outer}
-use Rattle.jade_parser.specs.Statements.{kind_word, declare_word, outer_index, object_parts, target_parts, braced, name_parts, more_names, else_parts, at_statement, statement_parts, block_parts}
-use Rattle.jade_parser.specs.Machine.{sign_rank}
+use Rattle.jade_parser.specs.declared.Sign.TheVariants.{LeftBracket, RightBracket, LeftParen, RightParen}
+use Rattle.jade_parser.specs.declared.Sign.TheVariants.{RightBrace, Becomes, Semicolon, Comma, DotDot, IfWord}
+use Rattle.jade_parser.specs.declared.Sign.TheVariants.{ElseWord, ForWord, IntWord, BoolWord, WithonlyWord}
+use Rattle.jade_parser.specs.declared.Sign.TheVariants.{WithWord, DoWord, ContWord, RdWord, WrWord, RdWrWord}
+use Rattle.jade_parser.specs.declared.Sign.TheVariants.{DfRdWord, DfWrWord, DfRdWrWord, NoRdWord, NoWrWord}
+use Rattle.jade_parser.specs.declared.Sign.TheVariants.{NoRdWrWord}
+use Rattle.jade_parser.specs.Spelled.{Token, Fixed, Called, Counted, Unknown, Parts, fixed, bracketed, outer}
+use Rattle.jade_parser.specs.Statements.{kind_word, declare_word, outer_index, object_parts, target_parts}
+use Rattle.jade_parser.specs.Statements.{braced, name_parts, more_names, else_parts, at_statement}
+use Rattle.jade_parser.specs.Statements.{statement_parts, block_parts}
+use Rattle.jade_parser.specs.steps.Machine.{sign_rank}
 use Rattle.jade_reading.specs.Unplaced.{moved, moved_object, moved_mention, moved_phrase, moved_phrases}
 use Rattle.jade_reading.proofs.Likeness.{Like, Same, regroup, regroup_left, regroup_right, like_sym}
 use Rattle.jade_reading.proofs.OneTerm.{apart, called_is, outer_same, target_same}
@@ -47,7 +55,7 @@ begins (Fixed RightBrace) = 8
 begins (Fixed ElseWord) = 9
 begins (Fixed s) = 7
 begins (Counted v) = 7
-begins Odd = 7
+begins Unknown = 7
 
 abbrev pub beginning : Parts → ℕ
 beginning [] = 7
@@ -110,12 +118,14 @@ module _ (to : Pos → Pos) where
   -- ---- the pieces of a statement
 
   -- an expression and the sign after it
-  ended_same : (k : Sign) → 5 < sign_rank k → (x y : Expr) (r s : Parts) → Like to ((outer x ++ fixed k ∷ []) ++ r) ((outer y ++ fixed k ∷ []) ++ s) → Same to (moved to) (term x) (term y) r s
+  ended_same : (k : Sign) → 5 < sign_rank k → (x y : Expr) (r s : Parts) → Like to ((outer x ++ fixed k ∷ []) ++ r) ((outer y ++ fixed k ∷ []) ++ s)
+      → Same to (moved to) (term x) (term y) r s
   ended_same k lt x y r s h =
       let w = outer_same to x y (fixed k ∷ r) (fixed k ∷ s) lt lt (regroup to (outer x) (fixed k ∷ []) r (outer y) (fixed k ∷ []) s h) in
       record { image = w.image; rest = w.rest.2 }
 
-  value_same : (x y : Expr) (r s : Parts) → Like to ((outer x ++ fixed Semicolon ∷ []) ++ r) ((outer y ++ fixed Semicolon ∷ []) ++ s) → Same to (moved to) (term x) (term y) r s
+  value_same : (x y : Expr) (r s : Parts) → Like to ((outer x ++ fixed Semicolon ∷ []) ++ r) ((outer y ++ fixed Semicolon ∷ []) ++ s)
+      → Same to (moved to) (term x) (term y) r s
   value_same = ended_same Semicolon (omega arith)
 
   abbrev moved_member : Option Term → Option Term
@@ -126,23 +136,31 @@ module _ (to : Pos → Pos) where
   object_moved n p None = refl
   object_moved n p (Some e) = refl
 
-  member_same : (m k : Option Expr) (r s : Parts) → Like to ((outer_index m ++ fixed RightParen ∷ []) ++ r) ((outer_index k ++ fixed RightParen ∷ []) ++ s) → Same to moved_member (member m) (member k) r s
+  member_same : (m k : Option Expr) (r s : Parts) → Like to ((outer_index m ++ fixed RightParen ∷ []) ++ r) ((outer_index k ++ fixed RightParen ∷ []) ++ s)
+      → Same to moved_member (member m) (member k) r s
   member_same None None r s h = record { image = refl; rest = h.2 }
   member_same None (Some y) r s h = let e : Fixed RightParen ≡ Fixed LeftBracket = h.0 in absurd (cc)
   member_same (Some x) None r s h = let e : Fixed LeftBracket ≡ Fixed RightParen = h.0 in absurd (cc)
   member_same (Some x) (Some y) r s h =
-      let w = ended_same RightBracket (omega arith) x y (fixed RightParen ∷ r) (fixed RightParen ∷ s) (regroup to (outer x ++ fixed RightBracket ∷ []) (fixed RightParen ∷ []) r (outer y ++ fixed RightBracket ∷ []) (fixed RightParen ∷ []) s h.2) in
+      let w = ended_same RightBracket (omega arith) x y (fixed RightParen ∷ r) (fixed RightParen ∷ s)
+      (regroup to (outer x ++ fixed RightBracket ∷ []) (fixed RightParen ∷ []) r (outer y ++ fixed RightBracket ∷ []) (fixed RightParen ∷ []) s h.2) in
       record { image = ap Some w.image; rest = w.rest.2 }
 
-  object_same : (o u : ObjectRef) (r s : Parts) → Like to ((object_parts o ++ fixed RightParen ∷ []) ++ r) ((object_parts u ++ fixed RightParen ∷ []) ++ s) → Same to (moved_object to) (object o) (object u) r s
+  object_same : (o u : ObjectRef) (r s : Parts) → Like to ((object_parts o ++ fixed RightParen ∷ []) ++ r) ((object_parts u ++ fixed RightParen ∷ []) ++ s)
+      → Same to (moved_object to) (object o) (object u) r s
   object_same o u r s h =
       let w = member_same o.member u.member r s h.2 in
-      record { image = object_moved o.name o.pos (member o.member) ∙ (λ i. placed.named_object (called_is o.name u.name h.0 i) (h.1 i) (w.image i)) ∙ sym (object_moved u.name u.pos (member u.member)); rest = w.rest }
+      record {
+        image = object_moved o.name o.pos (member o.member) ∙ (λ i. placed.named_object (called_is o.name u.name h.0 i) (h.1 i) (w.image i))
+            ∙ sym (object_moved u.name u.pos (member u.member));
+        rest = w.rest;
+      }
 
   abbrev mention_at : (n : List ℕ) (p : Pos) → Mention
   mention_at n p = record { name = n; at = p }
 
-  more_same : (ns ms : List Named) (r s : Parts) → Like to (more_names ns ++ (fixed RightParen ∷ r)) (more_names ms ++ (fixed RightParen ∷ s)) → Same to (map (moved_mention to)) (map mentioned ns) (map mentioned ms) r s
+  more_same : (ns ms : List Named) (r s : Parts) → Like to (more_names ns ++ (fixed RightParen ∷ r)) (more_names ms ++ (fixed RightParen ∷ s))
+      → Same to (map (moved_mention to)) (map mentioned ns) (map mentioned ms) r s
   more_same [] [] r s h = record { image = refl; rest = h.2 }
   more_same [] (m ∷ ms) r s h = let e : Fixed RightParen ≡ Fixed Comma = h.0 in absurd (cc)
   more_same (n ∷ ns) [] r s h = let e : Fixed Comma ≡ Fixed RightParen = h.0 in absurd (cc)
@@ -150,7 +168,8 @@ module _ (to : Pos → Pos) where
       let w = more_same ns ms r s h.2.2 in
       record { image = λ i. mention_at (called_is n.name m.name h.2.0 i) (h.2.1 i) ∷ w.image i; rest = w.rest }
 
-  names_same : (ns ms : List Named) (r s : Parts) → Like to (name_parts ns ++ (fixed RightParen ∷ r)) (name_parts ms ++ (fixed RightParen ∷ s)) → Same to (map (moved_mention to)) (map mentioned ns) (map mentioned ms) r s
+  names_same : (ns ms : List Named) (r s : Parts) → Like to (name_parts ns ++ (fixed RightParen ∷ r)) (name_parts ms ++ (fixed RightParen ∷ s))
+      → Same to (map (moved_mention to)) (map mentioned ns) (map mentioned ms) r s
   names_same [] [] r s h = record { image = refl; rest = h.2 }
   names_same [] (m ∷ ms) r s h = let e : Fixed RightParen ≡ Called m.name = h.0 in absurd (cc)
   names_same (n ∷ ns) [] r s h = let e : Called n.name ≡ Fixed RightParen = h.0 in absurd (cc)
@@ -187,22 +206,29 @@ module _ (to : Pos → Pos) where
 
   run_goes : (xs : List Statement) (r : Parts) → NoElse (run xs ++ (fixed RightBrace ∷ r))
   run_goes [] r = omega arith
-  run_goes (x ∷ xs) r = let k = statement_low x (run xs ++ (fixed RightBrace ∷ r)) in subst (λ (l : Parts). beginning l < 9) (sym (append_assoc (statement_parts x) (run xs) (fixed RightBrace ∷ r))) (omega (arith, k))
+  run_goes (x ∷ xs) r = let k = statement_low x (run xs ++ (fixed RightBrace ∷ r)) in
+      subst (λ (l : Parts). beginning l < 9) (sym (append_assoc (statement_parts x) (run xs) (fixed RightBrace ∷ r))) (omega (arith, k))
 
   no_end : (x : Statement) (r s : Parts) → Like to (fixed RightBrace ∷ r) (statement_parts x ++ s) → ⊥
-  no_end x r s h = let k : 8 ≡ beginning (statement_parts x ++ s) = beginnings (fixed RightBrace ∷ r) (statement_parts x ++ s) h in let l = statement_low x s in omega (arith, k, l)
+  no_end x r s h = let k : 8 ≡ beginning (statement_parts x ++ s) = beginnings (fixed RightBrace ∷ r) (statement_parts x ++ s) h in let l =
+      statement_low x s in omega (arith, k, l)
 
   no_else : (r s : Parts) → NoElse r → Like to r (fixed ElseWord ∷ s) → ⊥
   no_else r s f h = let k : beginning r ≡ 9 = beginnings r (fixed ElseWord ∷ s) h in omega (arith, k, f)
 
   module _ {S : Type 0} (val : S → Statement) (ok : (x : S) → Stated (statement_parts (val x)) (phrase (val x))) where
-    run_same : (xs : List S) (ys : List Statement) (r s : Parts) → Like to (run (map val xs) ++ (fixed RightBrace ∷ r)) (run ys ++ (fixed RightBrace ∷ s)) → Same to (moved_phrases to) (phrases (map phrase (map val xs))) (phrases (map phrase ys)) r s
+    run_same : (xs : List S) (ys : List Statement) (r s : Parts) → Like to (run (map val xs) ++ (fixed RightBrace ∷ r)) (run ys ++ (fixed RightBrace ∷ s))
+        → Same to (moved_phrases to) (phrases (map phrase (map val xs))) (phrases (map phrase ys)) r s
     run_same [] [] r s h = record { image = refl; rest = h.2 }
-    run_same [] (y ∷ ys) r s h = absurd (no_end y r (run ys ++ (fixed RightBrace ∷ s)) (regroup_right to (fixed RightBrace ∷ r) (statement_parts y) (run ys) (fixed RightBrace ∷ s) h))
+    run_same [] (y ∷ ys) r s h = absurd
+        (no_end y r (run ys ++ (fixed RightBrace ∷ s)) (regroup_right to (fixed RightBrace ∷ r) (statement_parts y) (run ys) (fixed RightBrace ∷ s) h))
     run_same (x ∷ xs) [] r s h =
-        absurd (no_end (val x) s (run (map val xs) ++ (fixed RightBrace ∷ r)) (like_sym to (statement_parts (val x) ++ (run (map val xs) ++ (fixed RightBrace ∷ r))) (fixed RightBrace ∷ s) (regroup_left to (statement_parts (val x)) (run (map val xs)) (fixed RightBrace ∷ r) (fixed RightBrace ∷ s) h)))
+        absurd (no_end (val x) s (run (map val xs) ++ (fixed RightBrace ∷ r))
+        (like_sym to (statement_parts (val x) ++ (run (map val xs) ++ (fixed RightBrace ∷ r))) (fixed RightBrace ∷ s)
+        (regroup_left to (statement_parts (val x)) (run (map val xs)) (fixed RightBrace ∷ r) (fixed RightBrace ∷ s) h)))
     run_same (x ∷ xs) (y ∷ ys) r s h =
-        let k = (ok x).by y (run (map val xs) ++ (fixed RightBrace ∷ r)) (run ys ++ (fixed RightBrace ∷ s)) (run_goes (map val xs) r) (run_goes ys s) (regroup to (statement_parts (val x)) (run (map val xs)) (fixed RightBrace ∷ r) (statement_parts y) (run ys) (fixed RightBrace ∷ s) h) in
+        let k = (ok x).by y (run (map val xs) ++ (fixed RightBrace ∷ r)) (run ys ++ (fixed RightBrace ∷ s)) (run_goes (map val xs) r) (run_goes ys s)
+        (regroup to (statement_parts (val x)) (run (map val xs)) (fixed RightBrace ∷ r) (statement_parts y) (run ys) (fixed RightBrace ∷ s) h) in
         let w = run_same xs ys r s k.rest in
         record { image = λ i. syntax.Then (k.image i) (w.image i); rest = w.rest }
 
@@ -212,7 +238,8 @@ module _ (to : Pos → Pos) where
     abbrev block_two : List Statement → Parts
     block_two ys = braced (map statement_parts ys)
 
-    pub block_same : (xs : List S) (ys : List Statement) (r s : Parts) → Like to (block xs ++ r) (block_two ys ++ s) → Same to (moved_phrases to) (phrases (map phrase (map val xs))) (phrases (map phrase ys)) r s
+    pub block_same : (xs : List S) (ys : List Statement) (r s : Parts) → Like to (block xs ++ r) (block_two ys ++ s)
+        → Same to (moved_phrases to) (phrases (map phrase (map val xs))) (phrases (map phrase ys)) r s
     block_same xs ys r s h = run_same xs ys r s (regroup to (run (map val xs)) (fixed RightBrace ∷ []) r (run ys) (fixed RightBrace ∷ []) s h.2)
 
     abbrev spelt : Statement-F S → Parts
@@ -222,13 +249,15 @@ module _ (to : Pos → Pos) where
     spelt_two z = at_statement (map-Statement Statement Parts statement_parts z)
 
     abbrev shown : Statement-F S → Phrase
-    shown y = placed.at_statement (map-Statement Statement Phrase phrase (map-Statement S Statement val y))
+    shown y = (general.at_statement placed.forms placed.statement_forms) (map-Statement Statement Phrase phrase (map-Statement S Statement val y))
 
     abbrev shown_two : Statement-F Statement → Phrase
-    shown_two z = placed.at_statement (map-Statement Statement Phrase phrase z)
+    shown_two z = (general.at_statement placed.forms placed.statement_forms) (map-Statement Statement Phrase phrase z)
 
     -- an expression and a block
-    headed_same : (x y : Expr) (xs : List S) (ys : List Statement) (r s : Parts) → Like to (outer x ++ (block xs ++ r)) (outer y ++ (block_two ys ++ s)) → Same to {T = Term × Phrases} (λ p. (moved to p.0, moved_phrases to p.1)) (term x, phrases (map phrase (map val xs))) (term y, phrases (map phrase ys)) r s
+    headed_same : (x y : Expr) (xs : List S) (ys : List Statement) (r s : Parts) → Like to (outer x ++ (block xs ++ r)) (outer y ++ (block_two ys ++ s))
+        → Same to {T = Term × Phrases} (λ p. (moved to p.0, moved_phrases to p.1)) (term x, phrases (map phrase (map val xs)))
+        (term y, phrases (map phrase ys)) r s
     headed_same x y xs ys r s h =
         let k = outer_same to x y (block xs ++ r) (block_two ys ++ s) (omega arith) (omega arith) h in
         let w = block_same xs ys r s k.rest in
@@ -250,15 +279,20 @@ module _ (to : Pos → Pos) where
     branch_two None = None
     branch_two (Some b) = Some (map phrase b)
 
-    if_same : (x : Expr) (xs : List S) (o : Option (List S)) (y : Expr) (ys : List Statement) (u : Option (List Statement)) (r s : Parts) → NoElse r → NoElse s
+    if_same : (x : Expr) (xs : List S) (o : Option (List S)) (y : Expr) (ys : List Statement) (u : Option (List Statement)) (r s : Parts) → NoElse r
+        → NoElse s
         → Like to (((outer x ++ block xs) ++ else_parts (alternative o)) ++ r) (((outer y ++ block_two ys) ++ else_parts (alternative_two u)) ++ s)
-        → Same to (moved_phrase to) (placed.branched (term x) (map phrase (map val xs)) (branch o)) (placed.branched (term y) (map phrase ys) (branch_two u)) r s
+        → Same to (moved_phrase to) (placed.branched (term x) (map phrase (map val xs)) (branch o))
+        (placed.branched (term y) (map phrase ys) (branch_two u)) r s
     if_same x xs o y ys u r s f g h = of o u (headed_same x y xs ys (else_parts (alternative o) ++ r) (else_parts (alternative_two u) ++ s)
         (regroup to (outer x) (block xs) (else_parts (alternative o) ++ r) (outer y) (block_two ys) (else_parts (alternative_two u) ++ s)
         (regroup to (outer x ++ block xs) (else_parts (alternative o)) r (outer y ++ block_two ys) (else_parts (alternative_two u)) s h)))
       where
-        of : (o : Option (List S)) (u : Option (List Statement)) → Same to {T = Term × Phrases} (λ p. (moved to p.0, moved_phrases to p.1)) (term x, phrases (map phrase (map val xs))) (term y, phrases (map phrase ys)) (else_parts (alternative o) ++ r) (else_parts (alternative_two u) ++ s)
-            → Same to (moved_phrase to) (placed.branched (term x) (map phrase (map val xs)) (branch o)) (placed.branched (term y) (map phrase ys) (branch_two u)) r s
+        of : (o : Option (List S)) (u : Option (List Statement))
+            → Same to {T = Term × Phrases} (λ p. (moved to p.0, moved_phrases to p.1)) (term x, phrases (map phrase (map val xs)))
+            (term y, phrases (map phrase ys)) (else_parts (alternative o) ++ r) (else_parts (alternative_two u) ++ s)
+            → Same to (moved_phrase to) (placed.branched (term x) (map phrase (map val xs)) (branch o))
+            (placed.branched (term y) (map phrase ys) (branch_two u)) r s
         of None None k = record { image = λ i. syntax.If (k.image i).0 (k.image i).1; rest = k.rest }
         of None (Some b) k = absurd (no_else r (block_two b ++ s) f k.rest)
         of (Some a) None k = absurd (no_else s (block a ++ r) g (like_sym to (fixed ElseWord ∷ (block a ++ r)) s k.rest))
@@ -266,7 +300,8 @@ module _ (to : Pos → Pos) where
             let w = block_same a b r s k.rest.2 in
             record { image = λ i. syntax.IfElse (k.image i).0 (k.image i).1 (w.image i); rest = w.rest }
 
-    for_same : (n : List ℕ) (p : Pos) (l h : Expr) (xs : List S) (m : List ℕ) (q : Pos) (a b : Expr) (ys : List Statement) (r s : Parts) → Like to (spelt (Statement-F.For n p l h xs) ++ r) (spelt_two (Statement-F.For m q a b ys) ++ s)
+    for_same : (n : List ℕ) (p : Pos) (l h : Expr) (xs : List S) (m : List ℕ) (q : Pos) (a b : Expr) (ys : List Statement) (r s : Parts)
+        → Like to (spelt (Statement-F.For n p l h xs) ++ r) (spelt_two (Statement-F.For m q a b ys) ++ s)
         → Same to (moved_phrase to) (shown (Statement-F.For n p l h xs)) (shown_two (Statement-F.For m q a b ys)) r s
     for_same n p l h xs m q a b ys r s k =
         let c = regroup to ((outer l ++ fixed DotDot ∷ []) ++ outer h) (block xs) r ((outer a ++ fixed DotDot ∷ []) ++ outer b) (block_two ys) s k.2.2.2 in
@@ -275,14 +310,17 @@ module _ (to : Pos → Pos) where
         let w = headed_same h b xs ys r s low.rest in
         record { image = λ i. syntax.For (called_is n m k.2.0 i) (k.2.1 i) (low.image i) (w.image i).0 (w.image i).1; rest = w.rest }
 
-    withonly_same : (p : Pos) (ss : List S) (ns : List Named) (xs : List S) (q : Pos) (us : List Statement) (ms : List Named) (ys : List Statement) (r s : Parts)
-        → Like to (spelt (Statement-F.Withonly p ss ns xs) ++ r) (spelt_two (Statement-F.Withonly q us ms ys) ++ s) → Same to (moved_phrase to) (shown (Statement-F.Withonly p ss ns xs)) (shown_two (Statement-F.Withonly q us ms ys)) r s
+    withonly_same : (p : Pos) (ss : List S) (ns : List Named) (xs : List S) (q : Pos) (us : List Statement) (ms : List Named) (ys : List Statement)
+        (r s : Parts)
+        → Like to (spelt (Statement-F.Withonly p ss ns xs) ++ r) (spelt_two (Statement-F.Withonly q us ms ys) ++ s)
+        → Same to (moved_phrase to) (shown (Statement-F.Withonly p ss ns xs)) (shown_two (Statement-F.Withonly q us ms ys)) r s
     withonly_same p ss ns xs q us ms ys r s k =
         let do_one : Parts = block ss ++ fixed DoWord ∷ [] in let do_two : Parts = block_two us ++ fixed DoWord ∷ [] in
         let open_one : Parts = do_one ++ fixed LeftParen ∷ [] in let open_two : Parts = do_two ++ fixed LeftParen ∷ [] in
         let body : Parts = block xs ++ r in let body_two : Parts = block_two ys ++ s in
         let rest : Parts = name_parts ns ++ (fixed RightParen ∷ body) in let rest_two : Parts = name_parts ms ++ (fixed RightParen ∷ body_two) in
-        let a = regroup to ((open_one ++ name_parts ns) ++ fixed RightParen ∷ []) (block xs) r ((open_two ++ name_parts ms) ++ fixed RightParen ∷ []) (block_two ys) s k.2 in
+        let a = regroup to ((open_one ++ name_parts ns) ++ fixed RightParen ∷ []) (block xs) r ((open_two ++ name_parts ms) ++ fixed RightParen ∷ [])
+        (block_two ys) s k.2 in
         let b = regroup to (open_one ++ name_parts ns) (fixed RightParen ∷ []) body (open_two ++ name_parts ms) (fixed RightParen ∷ []) body_two a in
         let c = regroup to open_one (name_parts ns) (fixed RightParen ∷ body) open_two (name_parts ms) (fixed RightParen ∷ body_two) b in
         let d = regroup to do_one (fixed LeftParen ∷ []) rest do_two (fixed LeftParen ∷ []) rest_two c in
@@ -292,31 +330,42 @@ module _ (to : Pos → Pos) where
         let w = block_same xs ys r s names.rest in
         record { image = λ i. syntax.Withonly (k.1 i) (section.image i) (names.image i) (w.image i); rest = w.rest }
 
-    with_same : (p : Pos) (ss : List S) (q : Pos) (us : List Statement) (r s : Parts) → Like to (spelt (Statement-F.With p ss) ++ r) (spelt_two (Statement-F.With q us) ++ s) → Same to (moved_phrase to) (shown (Statement-F.With p ss)) (shown_two (Statement-F.With q us)) r s
+    with_same : (p : Pos) (ss : List S) (q : Pos) (us : List Statement) (r s : Parts)
+        → Like to (spelt (Statement-F.With p ss) ++ r) (spelt_two (Statement-F.With q us) ++ s)
+        → Same to (moved_phrase to) (shown (Statement-F.With p ss)) (shown_two (Statement-F.With q us)) r s
     with_same p ss q us r s k =
         let a = regroup to (block ss ++ fixed ContWord ∷ []) (fixed Semicolon ∷ []) r (block_two us ++ fixed ContWord ∷ []) (fixed Semicolon ∷ []) s k.2 in
         let b = regroup to (block ss) (fixed ContWord ∷ []) (fixed Semicolon ∷ r) (block_two us) (fixed ContWord ∷ []) (fixed Semicolon ∷ s) a in
         let w = block_same ss us (fixed ContWord ∷ fixed Semicolon ∷ r) (fixed ContWord ∷ fixed Semicolon ∷ s) b in
         record { image = λ i. syntax.With (k.1 i) (w.image i); rest = w.rest.2.2 }
 
-    store_is : (t : CellRef) (x : Expr) (u : CellRef) (y : Expr) (r s : Parts) → Like to (spelt (Statement-F.Store t x) ++ r) (spelt_two (Statement-F.Store u y) ++ s) → Same to (moved_phrase to) (shown (Statement-F.Store t x)) (shown_two (Statement-F.Store u y)) r s
+    store_is : (t : CellRef) (x : Expr) (u : CellRef) (y : Expr) (r s : Parts)
+        → Like to (spelt (Statement-F.Store t x) ++ r) (spelt_two (Statement-F.Store u y) ++ s)
+        → Same to (moved_phrase to) (shown (Statement-F.Store t x)) (shown_two (Statement-F.Store u y)) r s
     store_is t x u y r s k =
-        let a = regroup to ((target_parts t ++ fixed Becomes ∷ []) ++ outer x) (fixed Semicolon ∷ []) r ((target_parts u ++ fixed Becomes ∷ []) ++ outer y) (fixed Semicolon ∷ []) s k in
-        let b = regroup to (target_parts t ++ fixed Becomes ∷ []) (outer x) (fixed Semicolon ∷ r) (target_parts u ++ fixed Becomes ∷ []) (outer y) (fixed Semicolon ∷ s) a in
-        let c = regroup to (target_parts t) (fixed Becomes ∷ []) (outer x ++ (fixed Semicolon ∷ r)) (target_parts u) (fixed Becomes ∷ []) (outer y ++ (fixed Semicolon ∷ s)) b in
-        let cell = target_same to t u (fixed Becomes ∷ (outer x ++ (fixed Semicolon ∷ r))) (fixed Becomes ∷ (outer y ++ (fixed Semicolon ∷ s))) (omega arith) (omega arith) c in
+        let a = regroup to ((target_parts t ++ fixed Becomes ∷ []) ++ outer x) (fixed Semicolon ∷ []) r ((target_parts u ++ fixed Becomes ∷ []) ++ outer y)
+        (fixed Semicolon ∷ []) s k in
+        let b = regroup to (target_parts t ++ fixed Becomes ∷ []) (outer x) (fixed Semicolon ∷ r) (target_parts u ++ fixed Becomes ∷ []) (outer y)
+        (fixed Semicolon ∷ s) a in
+        let c = regroup to (target_parts t) (fixed Becomes ∷ []) (outer x ++ (fixed Semicolon ∷ r)) (target_parts u) (fixed Becomes ∷ [])
+        (outer y ++ (fixed Semicolon ∷ s)) b in
+        let cell = target_same to t u (fixed Becomes ∷ (outer x ++ (fixed Semicolon ∷ r))) (fixed Becomes ∷ (outer y ++ (fixed Semicolon ∷ s)))
+        (omega arith) (omega arith) c in
         let w = outer_same to x y (fixed Semicolon ∷ r) (fixed Semicolon ∷ s) (omega arith) (omega arith) cell.rest.2 in
-        record { image = λ i. syntax.Store (cell.image i).object (cell.image i).cell (w.image i); rest = w.rest.2 }
+        record { image = λ i. syntax.Store (cell.image i).place (cell.image i).cell (w.image i); rest = w.rest.2 }
 
-    declare_same : (v : DeclareWord) (p : Pos) (o : ObjectRef) (w : DeclareWord) (q : Pos) (u : ObjectRef) (r s : Parts) → Like to (spelt (Statement-F.Declare v p o) ++ r) (spelt_two (Statement-F.Declare w q u) ++ s)
+    declare_same : (v : DeclareWord) (p : Pos) (o : ObjectRef) (w : DeclareWord) (q : Pos) (u : ObjectRef) (r s : Parts)
+        → Like to (spelt (Statement-F.Declare v p o) ++ r) (spelt_two (Statement-F.Declare w q u) ++ s)
         → Same to (moved_phrase to) (shown (Statement-F.Declare v p o)) (shown_two (Statement-F.Declare w q u)) r s
     declare_same v p o w q u r s k =
-        let a = regroup to (object_parts o ++ fixed RightParen ∷ []) (fixed Semicolon ∷ []) r (object_parts u ++ fixed RightParen ∷ []) (fixed Semicolon ∷ []) s k.2.2 in
+        let a = regroup to (object_parts o ++ fixed RightParen ∷ []) (fixed Semicolon ∷ []) r (object_parts u ++ fixed RightParen ∷ [])
+        (fixed Semicolon ∷ []) s k.2.2 in
         let b = object_same o u (fixed Semicolon ∷ r) (fixed Semicolon ∷ s) a in
         record { image = λ i. syntax.Declare (word_is v w k.0 i) (k.1 i) (b.image i); rest = b.rest.2 }
 
     -- a store is no assignment
-    not_becomes : (o : Option Expr) (c v : Parts) (t : Parts) (r : Parts) → Like to (fixed Becomes ∷ r) (((((outer_index o ++ bracketed c) ++ fixed Becomes ∷ []) ++ v) ++ fixed Semicolon ∷ []) ++ t) → ⊥
+    not_becomes : (o : Option Expr) (c v : Parts) (t : Parts) (r : Parts)
+        → Like to (fixed Becomes ∷ r) (((((outer_index o ++ bracketed c) ++ fixed Becomes ∷ []) ++ v) ++ fixed Semicolon ∷ []) ++ t) → ⊥
     not_becomes None c v t r h = let e : Fixed Becomes ≡ Fixed LeftBracket = h.0 in absurd (cc)
     not_becomes (Some x) c v t r h = let e : Fixed Becomes ≡ Fixed LeftBracket = h.0 in absurd (cc)
 
@@ -354,29 +403,41 @@ module _ (to : Pos → Pos) where
     other : (y : Statement-F S) (z : Statement-F Statement) (r s : Parts) → Like to (spelt y ++ r) (spelt_two z ++ s) → eqb (form y) (form z) ≡ false → ⊥
     other y z r s k = apart (form y) (form z) (sym (forms y r) ∙ beginnings (spelt y ++ r) (spelt_two z ++ s) k ∙ forms_two z s)
 
-    one_local : (k : ValueKind) (n : List ℕ) (p : Pos) (x : Expr) (z : Statement-F Statement) (r s : Parts) → NoElse r → NoElse s → Like to (spelt (Statement-F.Local k n p x) ++ r) (spelt_two z ++ s) → Same to (moved_phrase to) (shown (Statement-F.Local k n p x)) (shown_two z) r s
-    one_local k n p x (Statement-F.Local j m q y) r s fr fs c = let d = value_same x y r s c.2.2.2 in record { image = λ i. syntax.Local (kind_is k j c.0 i) (called_is n m c.2.0 i) (c.2.1 i) (d.image i); rest = d.rest }
+    one_local : (k : ValueKind) (n : List ℕ) (p : Pos) (x : Expr) (z : Statement-F Statement) (r s : Parts) → NoElse r → NoElse s
+        → Like to (spelt (Statement-F.Local k n p x) ++ r) (spelt_two z ++ s)
+        → Same to (moved_phrase to) (shown (Statement-F.Local k n p x)) (shown_two z) r s
+    one_local k n p x (Statement-F.Local j m q y) r s fr fs c = let d = value_same x y r s c.2.2.2 in
+        record { image = λ i. syntax.Local (kind_is k j c.0 i) (called_is n m c.2.0 i) (c.2.1 i) (d.image i); rest = d.rest }
     one_local k n p x (Statement-F.Assign m q y) r s fr fs c = absurd (other (Statement-F.Local k n p x) (Statement-F.Assign m q y) r s c refl)
     one_local k n p x (Statement-F.Store u y) r s fr fs c = absurd (other (Statement-F.Local k n p x) (Statement-F.Store u y) r s c refl)
     one_local k n p x (Statement-F.If y ys u) r s fr fs c = absurd (other (Statement-F.Local k n p x) (Statement-F.If y ys u) r s c refl)
     one_local k n p x (Statement-F.For m q a b ys) r s fr fs c = absurd (other (Statement-F.Local k n p x) (Statement-F.For m q a b ys) r s c refl)
-    one_local k n p x (Statement-F.Withonly q us ms ys) r s fr fs c = absurd (other (Statement-F.Local k n p x) (Statement-F.Withonly q us ms ys) r s c refl)
+    one_local k n p x (Statement-F.Withonly q us ms ys) r s fr fs c =
+        absurd (other (Statement-F.Local k n p x) (Statement-F.Withonly q us ms ys) r s c refl)
     one_local k n p x (Statement-F.With q us) r s fr fs c = absurd (other (Statement-F.Local k n p x) (Statement-F.With q us) r s c refl)
     one_local k n p x (Statement-F.Declare w q u) r s fr fs c = absurd (other (Statement-F.Local k n p x) (Statement-F.Declare w q u) r s c refl)
 
-    one_assign : (n : List ℕ) (p : Pos) (x : Expr) (z : Statement-F Statement) (r s : Parts) → NoElse r → NoElse s → Like to (spelt (Statement-F.Assign n p x) ++ r) (spelt_two z ++ s) → Same to (moved_phrase to) (shown (Statement-F.Assign n p x)) (shown_two z) r s
+    one_assign : (n : List ℕ) (p : Pos) (x : Expr) (z : Statement-F Statement) (r s : Parts) → NoElse r → NoElse s
+        → Like to (spelt (Statement-F.Assign n p x) ++ r) (spelt_two z ++ s)
+        → Same to (moved_phrase to) (shown (Statement-F.Assign n p x)) (shown_two z) r s
     one_assign n p x (Statement-F.Local j m q y) r s fr fs c = absurd (other (Statement-F.Assign n p x) (Statement-F.Local j m q y) r s c refl)
-    one_assign n p x (Statement-F.Assign m q y) r s fr fs c = let d = value_same x y r s c.2.2 in record { image = λ i. syntax.Assign (called_is n m c.0 i) (c.1 i) (d.image i); rest = d.rest }
-    one_assign n p x (Statement-F.Store u y) r s fr fs c = absurd (not_becomes (out-CellRef u).family (outer (out-CellRef u).cell) (outer y) s ((outer x ++ fixed Semicolon ∷ []) ++ r) c.2)
+    one_assign n p x (Statement-F.Assign m q y) r s fr fs c = let d = value_same x y r s c.2.2 in
+        record { image = λ i. syntax.Assign (called_is n m c.0 i) (c.1 i) (d.image i); rest = d.rest }
+    one_assign n p x (Statement-F.Store u y) r s fr fs c =
+        absurd (not_becomes (out-CellRef u).family (outer (out-CellRef u).cell) (outer y) s ((outer x ++ fixed Semicolon ∷ []) ++ r) c.2)
     one_assign n p x (Statement-F.If y ys u) r s fr fs c = absurd (other (Statement-F.Assign n p x) (Statement-F.If y ys u) r s c refl)
     one_assign n p x (Statement-F.For m q a b ys) r s fr fs c = absurd (other (Statement-F.Assign n p x) (Statement-F.For m q a b ys) r s c refl)
     one_assign n p x (Statement-F.Withonly q us ms ys) r s fr fs c = absurd (other (Statement-F.Assign n p x) (Statement-F.Withonly q us ms ys) r s c refl)
     one_assign n p x (Statement-F.With q us) r s fr fs c = absurd (other (Statement-F.Assign n p x) (Statement-F.With q us) r s c refl)
     one_assign n p x (Statement-F.Declare w q u) r s fr fs c = absurd (other (Statement-F.Assign n p x) (Statement-F.Declare w q u) r s c refl)
 
-    one_store : (t : CellRef) (x : Expr) (z : Statement-F Statement) (r s : Parts) → NoElse r → NoElse s → Like to (spelt (Statement-F.Store t x) ++ r) (spelt_two z ++ s) → Same to (moved_phrase to) (shown (Statement-F.Store t x)) (shown_two z) r s
+    one_store : (t : CellRef) (x : Expr) (z : Statement-F Statement) (r s : Parts) → NoElse r → NoElse s
+        → Like to (spelt (Statement-F.Store t x) ++ r) (spelt_two z ++ s) → Same to (moved_phrase to) (shown (Statement-F.Store t x)) (shown_two z) r s
     one_store t x (Statement-F.Local j m q y) r s fr fs c = absurd (other (Statement-F.Store t x) (Statement-F.Local j m q y) r s c refl)
-    one_store t x (Statement-F.Assign m q y) r s fr fs c = absurd (not_becomes (out-CellRef t).family (outer (out-CellRef t).cell) (outer x) r ((outer y ++ fixed Semicolon ∷ []) ++ s) (like_sym to (((((outer_index (out-CellRef t).family ++ bracketed (outer (out-CellRef t).cell)) ++ fixed Becomes ∷ []) ++ outer x) ++ fixed Semicolon ∷ []) ++ r) (fixed Becomes ∷ ((outer y ++ fixed Semicolon ∷ []) ++ s)) c.2))
+    one_store t x (Statement-F.Assign m q y) r s fr fs c =
+        absurd (not_becomes (out-CellRef t).family (outer (out-CellRef t).cell) (outer x) r ((outer y ++ fixed Semicolon ∷ []) ++ s)
+        (like_sym to (((((outer_index (out-CellRef t).family ++ bracketed (outer (out-CellRef t).cell)) ++ fixed Becomes ∷ []) ++ outer x)
+        ++ fixed Semicolon ∷ []) ++ r) (fixed Becomes ∷ ((outer y ++ fixed Semicolon ∷ []) ++ s)) c.2))
     one_store t x (Statement-F.Store u y) r s fr fs c = store_is t x u y r s c
     one_store t x (Statement-F.If y ys u) r s fr fs c = absurd (other (Statement-F.Store t x) (Statement-F.If y ys u) r s c refl)
     one_store t x (Statement-F.For m q a b ys) r s fr fs c = absurd (other (Statement-F.Store t x) (Statement-F.For m q a b ys) r s c refl)
@@ -384,7 +445,8 @@ module _ (to : Pos → Pos) where
     one_store t x (Statement-F.With q us) r s fr fs c = absurd (other (Statement-F.Store t x) (Statement-F.With q us) r s c refl)
     one_store t x (Statement-F.Declare w q u) r s fr fs c = absurd (other (Statement-F.Store t x) (Statement-F.Declare w q u) r s c refl)
 
-    one_if : (x : Expr) (xs : List S) (o : Option (List S)) (z : Statement-F Statement) (r s : Parts) → NoElse r → NoElse s → Like to (spelt (Statement-F.If x xs o) ++ r) (spelt_two z ++ s) → Same to (moved_phrase to) (shown (Statement-F.If x xs o)) (shown_two z) r s
+    one_if : (x : Expr) (xs : List S) (o : Option (List S)) (z : Statement-F Statement) (r s : Parts) → NoElse r → NoElse s
+        → Like to (spelt (Statement-F.If x xs o) ++ r) (spelt_two z ++ s) → Same to (moved_phrase to) (shown (Statement-F.If x xs o)) (shown_two z) r s
     one_if x xs o (Statement-F.Local j m q y) r s fr fs c = absurd (other (Statement-F.If x xs o) (Statement-F.Local j m q y) r s c refl)
     one_if x xs o (Statement-F.Assign m q y) r s fr fs c = absurd (other (Statement-F.If x xs o) (Statement-F.Assign m q y) r s c refl)
     one_if x xs o (Statement-F.Store u y) r s fr fs c = absurd (other (Statement-F.If x xs o) (Statement-F.Store u y) r s c refl)
@@ -397,27 +459,36 @@ module _ (to : Pos → Pos) where
     one_if x xs o (Statement-F.With q us) r s fr fs c = absurd (other (Statement-F.If x xs o) (Statement-F.With q us) r s c refl)
     one_if x xs o (Statement-F.Declare w q u) r s fr fs c = absurd (other (Statement-F.If x xs o) (Statement-F.Declare w q u) r s c refl)
 
-    one_for : (n : List ℕ) (p : Pos) (l h : Expr) (xs : List S) (z : Statement-F Statement) (r s : Parts) → NoElse r → NoElse s → Like to (spelt (Statement-F.For n p l h xs) ++ r) (spelt_two z ++ s) → Same to (moved_phrase to) (shown (Statement-F.For n p l h xs)) (shown_two z) r s
+    one_for : (n : List ℕ) (p : Pos) (l h : Expr) (xs : List S) (z : Statement-F Statement) (r s : Parts) → NoElse r → NoElse s
+        → Like to (spelt (Statement-F.For n p l h xs) ++ r) (spelt_two z ++ s)
+        → Same to (moved_phrase to) (shown (Statement-F.For n p l h xs)) (shown_two z) r s
     one_for n p l h xs (Statement-F.Local j m q y) r s fr fs c = absurd (other (Statement-F.For n p l h xs) (Statement-F.Local j m q y) r s c refl)
     one_for n p l h xs (Statement-F.Assign m q y) r s fr fs c = absurd (other (Statement-F.For n p l h xs) (Statement-F.Assign m q y) r s c refl)
     one_for n p l h xs (Statement-F.Store u y) r s fr fs c = absurd (other (Statement-F.For n p l h xs) (Statement-F.Store u y) r s c refl)
     one_for n p l h xs (Statement-F.If y ys u) r s fr fs c = absurd (other (Statement-F.For n p l h xs) (Statement-F.If y ys u) r s c refl)
     one_for n p l h xs (Statement-F.For m q a b ys) r s fr fs c = for_same n p l h xs m q a b ys r s c
-    one_for n p l h xs (Statement-F.Withonly q us ms ys) r s fr fs c = absurd (other (Statement-F.For n p l h xs) (Statement-F.Withonly q us ms ys) r s c refl)
+    one_for n p l h xs (Statement-F.Withonly q us ms ys) r s fr fs c =
+        absurd (other (Statement-F.For n p l h xs) (Statement-F.Withonly q us ms ys) r s c refl)
     one_for n p l h xs (Statement-F.With q us) r s fr fs c = absurd (other (Statement-F.For n p l h xs) (Statement-F.With q us) r s c refl)
     one_for n p l h xs (Statement-F.Declare w q u) r s fr fs c = absurd (other (Statement-F.For n p l h xs) (Statement-F.Declare w q u) r s c refl)
 
-    one_withonly : (p : Pos) (ss : List S) (ns : List Named) (xs : List S) (z : Statement-F Statement) (r s : Parts) → NoElse r → NoElse s → Like to (spelt (Statement-F.Withonly p ss ns xs) ++ r) (spelt_two z ++ s) → Same to (moved_phrase to) (shown (Statement-F.Withonly p ss ns xs)) (shown_two z) r s
-    one_withonly p ss ns xs (Statement-F.Local j m q y) r s fr fs c = absurd (other (Statement-F.Withonly p ss ns xs) (Statement-F.Local j m q y) r s c refl)
+    one_withonly : (p : Pos) (ss : List S) (ns : List Named) (xs : List S) (z : Statement-F Statement) (r s : Parts) → NoElse r → NoElse s
+        → Like to (spelt (Statement-F.Withonly p ss ns xs) ++ r) (spelt_two z ++ s)
+        → Same to (moved_phrase to) (shown (Statement-F.Withonly p ss ns xs)) (shown_two z) r s
+    one_withonly p ss ns xs (Statement-F.Local j m q y) r s fr fs c =
+        absurd (other (Statement-F.Withonly p ss ns xs) (Statement-F.Local j m q y) r s c refl)
     one_withonly p ss ns xs (Statement-F.Assign m q y) r s fr fs c = absurd (other (Statement-F.Withonly p ss ns xs) (Statement-F.Assign m q y) r s c refl)
     one_withonly p ss ns xs (Statement-F.Store u y) r s fr fs c = absurd (other (Statement-F.Withonly p ss ns xs) (Statement-F.Store u y) r s c refl)
     one_withonly p ss ns xs (Statement-F.If y ys u) r s fr fs c = absurd (other (Statement-F.Withonly p ss ns xs) (Statement-F.If y ys u) r s c refl)
-    one_withonly p ss ns xs (Statement-F.For m q a b ys) r s fr fs c = absurd (other (Statement-F.Withonly p ss ns xs) (Statement-F.For m q a b ys) r s c refl)
+    one_withonly p ss ns xs (Statement-F.For m q a b ys) r s fr fs c =
+        absurd (other (Statement-F.Withonly p ss ns xs) (Statement-F.For m q a b ys) r s c refl)
     one_withonly p ss ns xs (Statement-F.Withonly q us ms ys) r s fr fs c = withonly_same p ss ns xs q us ms ys r s c
     one_withonly p ss ns xs (Statement-F.With q us) r s fr fs c = absurd (other (Statement-F.Withonly p ss ns xs) (Statement-F.With q us) r s c refl)
-    one_withonly p ss ns xs (Statement-F.Declare w q u) r s fr fs c = absurd (other (Statement-F.Withonly p ss ns xs) (Statement-F.Declare w q u) r s c refl)
+    one_withonly p ss ns xs (Statement-F.Declare w q u) r s fr fs c =
+        absurd (other (Statement-F.Withonly p ss ns xs) (Statement-F.Declare w q u) r s c refl)
 
-    one_with : (p : Pos) (ss : List S) (z : Statement-F Statement) (r s : Parts) → NoElse r → NoElse s → Like to (spelt (Statement-F.With p ss) ++ r) (spelt_two z ++ s) → Same to (moved_phrase to) (shown (Statement-F.With p ss)) (shown_two z) r s
+    one_with : (p : Pos) (ss : List S) (z : Statement-F Statement) (r s : Parts) → NoElse r → NoElse s
+        → Like to (spelt (Statement-F.With p ss) ++ r) (spelt_two z ++ s) → Same to (moved_phrase to) (shown (Statement-F.With p ss)) (shown_two z) r s
     one_with p ss (Statement-F.Local j m q y) r s fr fs c = absurd (other (Statement-F.With p ss) (Statement-F.Local j m q y) r s c refl)
     one_with p ss (Statement-F.Assign m q y) r s fr fs c = absurd (other (Statement-F.With p ss) (Statement-F.Assign m q y) r s c refl)
     one_with p ss (Statement-F.Store u y) r s fr fs c = absurd (other (Statement-F.With p ss) (Statement-F.Store u y) r s c refl)
@@ -427,17 +498,21 @@ module _ (to : Pos → Pos) where
     one_with p ss (Statement-F.With q us) r s fr fs c = with_same p ss q us r s c
     one_with p ss (Statement-F.Declare w q u) r s fr fs c = absurd (other (Statement-F.With p ss) (Statement-F.Declare w q u) r s c refl)
 
-    one_declare : (v : DeclareWord) (p : Pos) (o : ObjectRef) (z : Statement-F Statement) (r s : Parts) → NoElse r → NoElse s → Like to (spelt (Statement-F.Declare v p o) ++ r) (spelt_two z ++ s) → Same to (moved_phrase to) (shown (Statement-F.Declare v p o)) (shown_two z) r s
+    one_declare : (v : DeclareWord) (p : Pos) (o : ObjectRef) (z : Statement-F Statement) (r s : Parts) → NoElse r → NoElse s
+        → Like to (spelt (Statement-F.Declare v p o) ++ r) (spelt_two z ++ s)
+        → Same to (moved_phrase to) (shown (Statement-F.Declare v p o)) (shown_two z) r s
     one_declare v p o (Statement-F.Local j m q y) r s fr fs c = absurd (other (Statement-F.Declare v p o) (Statement-F.Local j m q y) r s c refl)
     one_declare v p o (Statement-F.Assign m q y) r s fr fs c = absurd (other (Statement-F.Declare v p o) (Statement-F.Assign m q y) r s c refl)
     one_declare v p o (Statement-F.Store u y) r s fr fs c = absurd (other (Statement-F.Declare v p o) (Statement-F.Store u y) r s c refl)
     one_declare v p o (Statement-F.If y ys u) r s fr fs c = absurd (other (Statement-F.Declare v p o) (Statement-F.If y ys u) r s c refl)
     one_declare v p o (Statement-F.For m q a b ys) r s fr fs c = absurd (other (Statement-F.Declare v p o) (Statement-F.For m q a b ys) r s c refl)
-    one_declare v p o (Statement-F.Withonly q us ms ys) r s fr fs c = absurd (other (Statement-F.Declare v p o) (Statement-F.Withonly q us ms ys) r s c refl)
+    one_declare v p o (Statement-F.Withonly q us ms ys) r s fr fs c =
+        absurd (other (Statement-F.Declare v p o) (Statement-F.Withonly q us ms ys) r s c refl)
     one_declare v p o (Statement-F.With q us) r s fr fs c = absurd (other (Statement-F.Declare v p o) (Statement-F.With q us) r s c refl)
     one_declare v p o (Statement-F.Declare w q u) r s fr fs c = declare_same v p o w q u r s c
 
-    statement_same : (y : Statement-F S) (z : Statement-F Statement) (r s : Parts) → NoElse r → NoElse s → Like to (spelt y ++ r) (spelt_two z ++ s) → Same to (moved_phrase to) (shown y) (shown_two z) r s
+    statement_same : (y : Statement-F S) (z : Statement-F Statement) (r s : Parts) → NoElse r → NoElse s → Like to (spelt y ++ r) (spelt_two z ++ s)
+        → Same to (moved_phrase to) (shown y) (shown_two z) r s
     statement_same (Statement-F.Local k n p x) = one_local k n p x
     statement_same (Statement-F.Assign n p x) = one_assign n p x
     statement_same (Statement-F.Store t x) = one_store t x
@@ -450,13 +525,21 @@ module _ (to : Pos → Pos) where
     layer : (y : Statement-F S) → Stated (spelt y) (shown y)
     layer y = record {
       by = λ z r s f g h.
-          let k = statement_same y (out-Statement z) r s f g (subst (λ (l : Parts). Like to (spelt y ++ r) (l ++ s)) (fold_out-Statement Parts at_statement z) h) in
-          record { image = k.image ∙ ap (moved_phrase to) (sym (fold_out-Statement Phrase placed.at_statement z)); rest = k.rest };
+          let k = statement_same y (out-Statement z) r s f g
+          (subst (λ (l : Parts). Like to (spelt y ++ r) (l ++ s)) (fold_out-Statement Parts at_statement z) h) in
+          record {
+            image = k.image ∙ ap (moved_phrase to) (sym (fold_out-Statement Phrase (general.at_statement placed.forms placed.statement_forms) z));
+            rest = k.rest;
+          };
     }
 
   pub statement_one : (x : Statement) → Stated (statement_parts x) (phrase x)
   statement_one x = ind-Statement (λ x. Stated (statement_parts x) (phrase x))
-      (λ x y k. rw (← k) (rw (fold-roll-Statement Parts at_statement, fold-roll-Statement Phrase placed.at_statement) (layer (λ z. z.0) (λ z. z.1) y))) x
+      (λ x y k. rw (← k) (rw (
+        fold-roll-Statement Parts at_statement,
+        fold-roll-Statement Phrase
+            (general.at_statement placed.forms placed.statement_forms),
+      ) (layer (λ z. z.0) (λ z. z.1) y))) x
 
   map_self : {A : Type 0} (xs : List A) → map (λ (x : A). x) xs ≡ xs
   map_self [] = refl
@@ -467,7 +550,8 @@ module _ (to : Pos → Pos) where
   spread (x ∷ xs) = ap (λ (l : Parts). statement_parts x ++ l) (spread xs)
 
   -- a whole block, and what follows it
-  pub whole_block_same : (a b : List Statement) (r s : Parts) → Like to (block_parts a ++ r) (block_parts b ++ s) → Same to (moved_phrases to) (placed.block a) (placed.block b) r s
+  pub whole_block_same : (a b : List Statement) (r s : Parts) → Like to (block_parts a ++ r) (block_parts b ++ s)
+      → Same to (moved_phrases to) (placed.block a) (placed.block b) r s
   whole_block_same a b r s h =
       let one : flat_map statement_parts a ≡ run (map (λ (x : Statement). x) a) = spread a ∙ ap run (sym (map_self a)) in
       let k = regroup to (flat_map statement_parts a) (fixed RightBrace ∷ []) r (flat_map statement_parts b) (fixed RightBrace ∷ []) s h.2 in

@@ -11,7 +11,7 @@ use Rattle.jade_syntax.specs.PlacedImage.{placed_program}
 use Rattle.jade_parser.specs.declared.Sign.TheVariants.{InputWord, ObjectWord, ObjectsWord, MainWord}
 use Rattle.jade_parser.specs.Spelled.{Fixed, Counted, Part, Parts, tokens_of, fixed, is_valid}
 use Rattle.jade_parser.specs.Kinds.{token_bytes, token_of_bytes}
-use Rattle.jade_parser.specs.Reads.{KeptAt, Agrees, pos_in}
+use Rattle.jade_parser.specs.Spelled.{KeptAt, Agrees, pos_in}
 use Rattle.jade_parser.specs.Statements.{block_parts}
 use Rattle.jade_parser.specs.Programs.{item_parts, program_parts}
 use Rattle.jade_parser.specs.Grammar.{bytes_of, positions, IsProgram, IsReading}
@@ -52,20 +52,28 @@ module _ (to : Pos → Pos) where
   abbrev all_items : List Item → Parts
   all_items xs = flat_map item_parts xs
 
-  items_same : (xs ys : List Item) (r s : Parts) → Like to (all_items xs ++ (fixed MainWord ∷ r)) (all_items ys ++ (fixed MainWord ∷ s)) → Same to (map (moved_item to)) xs ys r s
+  items_same : (xs ys : List Item) (r s : Parts) → Like to (all_items xs ++ (fixed MainWord ∷ r)) (all_items ys ++ (fixed MainWord ∷ s))
+      → Same to (map (moved_item to)) xs ys r s
   items_same [] [] r s h = record { image = refl; rest = h.2 }
-  items_same [] (y ∷ ys) r s h = absurd (not_main y r (all_items ys ++ (fixed MainWord ∷ s)) (regroup_right to (fixed MainWord ∷ r) (item_parts y) (all_items ys) (fixed MainWord ∷ s) h))
+  items_same [] (y ∷ ys) r s h = absurd
+      (not_main y r (all_items ys ++ (fixed MainWord ∷ s)) (regroup_right to (fixed MainWord ∷ r) (item_parts y) (all_items ys) (fixed MainWord ∷ s) h))
   items_same (x ∷ xs) [] r s h =
-      absurd (not_main x s (all_items xs ++ (fixed MainWord ∷ r)) (like_sym to (item_parts x ++ (all_items xs ++ (fixed MainWord ∷ r))) (fixed MainWord ∷ s) (regroup_left to (item_parts x) (all_items xs) (fixed MainWord ∷ r) (fixed MainWord ∷ s) h)))
+      absurd (not_main x s (all_items xs ++ (fixed MainWord ∷ r))
+      (like_sym to (item_parts x ++ (all_items xs ++ (fixed MainWord ∷ r))) (fixed MainWord ∷ s)
+      (regroup_left to (item_parts x) (all_items xs) (fixed MainWord ∷ r) (fixed MainWord ∷ s) h)))
   items_same (x ∷ xs) (y ∷ ys) r s h =
-      let k = item_same x y (all_items xs ++ (fixed MainWord ∷ r)) (all_items ys ++ (fixed MainWord ∷ s)) (regroup to (item_parts x) (all_items xs) (fixed MainWord ∷ r) (item_parts y) (all_items ys) (fixed MainWord ∷ s) h) in
+      let k = item_same x y (all_items xs ++ (fixed MainWord ∷ r)) (all_items ys ++ (fixed MainWord ∷ s))
+      (regroup to (item_parts x) (all_items xs) (fixed MainWord ∷ r) (item_parts y) (all_items ys) (fixed MainWord ∷ s) h) in
       let w = items_same xs ys r s k.rest in
       record { image = λ i. k.image i ∷ w.image i; rest = w.rest }
 
-  program_same : (p q : Program) → Like to (program_parts p ++ []) (program_parts q ++ []) → moved_program to (placed_program p) ≡ moved_program to (placed_program q)
+  program_same : (p q : Program) → Like to (program_parts p ++ []) (program_parts q ++ []) → moved_program to (placed_program p)
+      ≡ moved_program to (placed_program q)
   program_same p q h =
-      let a = regroup to (all_items p.items ++ fixed MainWord ∷ []) (block_parts p.main) [] (all_items q.items ++ fixed MainWord ∷ []) (block_parts q.main) [] h in
-      let b = regroup to (all_items p.items) (fixed MainWord ∷ []) (block_parts p.main ++ []) (all_items q.items) (fixed MainWord ∷ []) (block_parts q.main ++ []) a in
+      let a = regroup to (all_items p.items ++ fixed MainWord ∷ []) (block_parts p.main) [] (all_items q.items ++ fixed MainWord ∷ []) (block_parts q.main)
+      [] h in
+      let b = regroup to (all_items p.items) (fixed MainWord ∷ []) (block_parts p.main ++ []) (all_items q.items) (fixed MainWord ∷ [])
+      (block_parts q.main ++ []) a in
       let items = items_same p.items q.items (block_parts p.main ++ []) (block_parts q.main ++ []) b in
       let main = whole_block_same to p.main q.main [] [] items.rest in
       λ i. record { items = items.image i; main = main.image i }
@@ -91,13 +99,16 @@ tokens_back (p ∷ ps) e =
     let b = both_true (is_valid p.token) (list_all (λ (q : Part). is_valid q.token) ps) e in
     ap (λ t. t ∷ tokens_of ps) (sym (back p.token b.0)) ∙ ap (λ ts. token_of_bytes (token_bytes p.token) ∷ ts) (tokens_back ps b.1)
 
-tokens_same : (p q : Program) → IsProgram p → IsProgram q → bytes_of (program_parts p) ≡ bytes_of (program_parts q) → tokens_of (program_parts p) ≡ tokens_of (program_parts q)
+tokens_same : (p q : Program) → IsProgram p → IsProgram q → bytes_of (program_parts p) ≡ bytes_of (program_parts q) → tokens_of (program_parts p)
+    ≡ tokens_of (program_parts q)
 tokens_same p q h k e = tokens_back (program_parts p) h.valid.is ∙ ap (map token_of_bytes) e ∙ sym (tokens_back (program_parts q) k.valid.is)
 
 pub readings_same : (tokens : TokenList) (p q : Program) → IsReading tokens p → IsReading tokens q → placed_program p ≡ placed_program q
 readings_same tokens p q h k =
     let e = tokens_same p q h.sound k.sound (h.spelled ∙ sym k.spelled) in
-    sym (program_unmoved (placed_program p)) ∙ program_same (λ at. at) p q (agreed (positions tokens) 0 (program_parts p) (program_parts q) e h.placed k.placed) ∙ program_unmoved (placed_program q)
+    sym (program_unmoved (placed_program p))
+    ∙ program_same (λ at. at) p q (agreed (positions tokens) 0 (program_parts p) (program_parts q) e h.placed k.placed)
+    ∙ program_unmoved (placed_program q)
 
 -- ---- two programs of the same tokens
 
@@ -112,5 +123,6 @@ alike [] (q ∷ qs) e = absurd (cc)
 alike (p ∷ ps) [] e = absurd (cc)
 alike (p ∷ ps) (q ∷ qs) e = let a : p.token ≡ q.token = cc in let b : tokens_of ps ≡ tokens_of qs = cc in (a, any_same p.at q.at, alike ps qs b)
 
-pub spelled_same : (p q : Program) → IsProgram p → IsProgram q → bytes_of (program_parts p) ≡ bytes_of (program_parts q) → unplaced (placed_program p) ≡ unplaced (placed_program q)
+pub spelled_same : (p q : Program) → IsProgram p → IsProgram q → bytes_of (program_parts p) ≡ bytes_of (program_parts q) → unplaced (placed_program p)
+    ≡ unplaced (placed_program q)
 spelled_same p q h k e = program_same first_place p q (alike (program_parts p) (program_parts q) (tokens_same p q h k e))

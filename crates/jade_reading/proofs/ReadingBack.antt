@@ -7,7 +7,7 @@ use Rattle.jade_layout.specs.Readable.{ReadsAs}
 use Rattle.jade_layout.specs.Spelling.{spelling}
 use Rattle.jade_parser.specs.Programs.{program_parts}
 use Rattle.jade_parser.specs.Grammar.{bytes_of, texts}
-use Rattle.jade_parser.proofs.Same.{program_alike}
+use Rattle.jade_reading.proofs.Same.{program_alike}
 use Rattle.jade_reading.specs.ReadingBack.{ReadsBack}
 use Rattle.jade_reading.proofs.OneTree.{spelled_same}
 use Rattle.jade_reading.proofs.ShapeNotRefused.{not_refused}

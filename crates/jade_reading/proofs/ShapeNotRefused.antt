@@ -17,7 +17,8 @@ nowhere_refused ts p k sound e r =
     let w = r.within in
     ⊎_elim (λ lt. read_or_refused ts p k sound e r lt) (λ ge. r.no_end p sound e) (cases_lt k (length ts))
 
-pub not_refused : (tokens : TokenList) (p : Program) (e : ParseError) → IsProgram p → AllShort (program_parts p) → bytes_of (program_parts p) ≡ texts tokens → IsRefusal tokens e → IsMemory e
+pub not_refused : (tokens : TokenList) (p : Program) (e : ParseError) → IsProgram p → AllShort (program_parts p) → bytes_of (program_parts p)
+    ≡ texts tokens → IsRefusal tokens e → IsMemory e
 not_refused tokens p (AtToken at) sound short s r = nowhere_refused (texts tokens) p r.number sound s r.refused
 not_refused tokens p (Long at) sound short s r = read_or_long (texts tokens) p r.number sound short s r.too_long
 not_refused tokens p Memory sound short s r = tt

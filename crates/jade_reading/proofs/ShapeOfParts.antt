@@ -1,5 +1,6 @@
 -- An extent tells of parts: how many they are, and whether each of them passes a test.
-use Rattle.std.proofs.Common.{◌≡◌, ℕ, suc, ◌+◌, ◌≤◌, Bool, true, false, ◌&&◌, nat_le, List, [], ◌∷◌, ◌++◌, ⊎_elim, refl, ap, sym, ◌∙◌, map, length, arith, length-append}
+use Rattle.std.proofs.Common.{◌≡◌, ℕ, suc, ◌+◌, ◌≤◌, Bool, true, false, ◌&&◌, nat_le, List, [], ◌∷◌, ◌++◌}
+use Rattle.std.proofs.Common.{⊎_elim, refl, ap, sym, ◌∙◌, map, length, arith, length-append}
 use Rattle.std.specs.List.{flat_map, list_all}
 use Rattle.std.proofs.lemmas.Bool.{cases_lt}
 use Rattle.std.proofs.lemmas.Bool.Decides.{nat_tests}
@@ -47,13 +48,16 @@ and_true : (b : Bool) → (b && true) ≡ b
 and_true true = refl
 and_true false = refl
 
-pub tells_brackets : {q : Part → Bool} {e : Extent} {ps : Parts} (p r : Part) → q p ≡ true → q r ≡ true → Tells q e ps → Tells q (in_brackets e) (p ∷ (ps ++ r ∷ []))
+pub tells_brackets : {q : Part → Bool} {e : Extent} {ps : Parts} (p r : Part) → q p ≡ true → q r ≡ true → Tells q e ps
+    → Tells q (in_brackets e) (p ∷ (ps ++ r ∷ []))
 tells_brackets {q} {e} {ps} p r h k t = record {
-  sound = t.sound ∙ sym (and_true (list_all q ps)) ∙ ap (λ b. list_all q ps && (b && true)) (sym k) ∙ sym (list_all-append q ps (r ∷ [])) ∙ ap (λ b. b && list_all q (ps ++ r ∷ [])) (sym h);
+  sound = t.sound ∙ sym (and_true (list_all q ps)) ∙ ap (λ b. list_all q ps && (b && true)) (sym k) ∙ sym (list_all-append q ps (r ∷ []))
+      ∙ ap (λ b. b && list_all q (ps ++ r ∷ [])) (sym h);
   tokens = omega (arith, t.tokens, length-append ps (r ∷ []));
 }
 
-pub tells_all : {q : Part → Bool} {A : Type 0} (f : A → Extent) (g : A → Parts) → ((x : A) → Tells q (f x) (g x)) → (xs : List A) → Tells q (all_of (map f xs)) (flat_map g xs)
+pub tells_all : {q : Part → Bool} {A : Type 0} (f : A → Extent) (g : A → Parts) → ((x : A) → Tells q (f x) (g x)) → (xs : List A)
+    → Tells q (all_of (map f xs)) (flat_map g xs)
 tells_all f g h [] = tells_none
 tells_all f g h (x ∷ xs) = tells_on (h x) (tells_all f g h xs)
 
@@ -109,7 +113,8 @@ good_numbered n (p ∷ ps) le =
     (λ ge.
     let e : n + length ps + 1 ≡ n + suc (length ps) = omega arith in
     false_left (nat_le (n + 1) 256) (valid p) (list_all good (numbered (n + 1) ps)) (many n ge)
-    ∙ sym (false_right (list_all valid (p ∷ ps)) (nat_le (n + suc (length ps)) 256) (ap (λ k. nat_le k 256) (sym e) ∙ many (n + length ps) (omega (arith, ge)))))
+    ∙ sym (false_right (list_all valid (p ∷ ps)) (nat_le (n + suc (length ps)) 256)
+    (ap (λ k. nat_le k 256) (sym e) ∙ many (n + length ps) (omega (arith, ge)))))
     (cases_lt n 256)
 
 pub good_outer : (ps : Parts) → list_all good (numbered 0 ps) ≡ (list_all valid ps && nat_le (length ps) 256)

@@ -25,13 +25,17 @@ between_form c d t = tells_on (tells_on (sign_tells c) t) (sign_tells d)
 input_form : {a : Extent} {ps : Parts} → Tells good a ps → Tells good (signs 2 ⊕ a) (fixed InputWord ∷ [] ++ ps ++ fixed Semicolon ∷ [])
 input_form {a} t = tells_same (signs 2 ⊕ a) (grind arith) (omega arith) (between_form InputWord Semicolon t)
 
-single_form : {a b : Extent} {ps qs : Parts} → Tells good a ps → Tells good b qs → Tells good (signs 3 ⊕ a ⊕ b) (fixed ObjectWord ∷ [] ++ ps ++ (fixed Colon ∷ [] ++ qs ++ fixed Semicolon ∷ []))
-single_form {a} {b} s t = tells_same (signs 3 ⊕ a ⊕ b) (grind arith) (omega arith) (tells_on (tells_on (sign_tells ObjectWord) s) (between_form Colon Semicolon t))
+single_form : {a b : Extent} {ps qs : Parts} → Tells good a ps → Tells good b qs
+    → Tells good (signs 3 ⊕ a ⊕ b) (fixed ObjectWord ∷ [] ++ ps ++ (fixed Colon ∷ [] ++ qs ++ fixed Semicolon ∷ []))
+single_form {a} {b} s t = tells_same (signs 3 ⊕ a ⊕ b) (grind arith) (omega arith)
+    (tells_on (tells_on (sign_tells ObjectWord) s) (between_form Colon Semicolon t))
 
 family_form : {a b c : Extent} {ps qs rs : Parts} → Tells good a ps → Tells good b qs → Tells good c rs
-    → Tells good (signs 3 ⊕ a ⊕ in_brackets b ⊕ c) (fixed ObjectsWord ∷ [] ++ ps ++ ((fixed LeftBracket ∷ [] ++ qs ++ fixed RightBracket ∷ []) ++ (fixed Colon ∷ [] ++ rs ++ fixed Semicolon ∷ [])))
+    → Tells good (signs 3 ⊕ a ⊕ in_brackets b ⊕ c)
+    (fixed ObjectsWord ∷ [] ++ ps ++ ((fixed LeftBracket ∷ [] ++ qs ++ fixed RightBracket ∷ []) ++ (fixed Colon ∷ [] ++ rs ++ fixed Semicolon ∷ [])))
 family_form {a} {b} {c} s t u =
-    tells_same (signs 3 ⊕ a ⊕ in_brackets b ⊕ c) (grind arith) (omega arith) (tells_on (tells_on (sign_tells ObjectsWord) s) (tells_on (between_form LeftBracket RightBracket t) (between_form Colon Semicolon u)))
+    tells_same (signs 3 ⊕ a ⊕ in_brackets b ⊕ c) (grind arith) (omega arith)
+    (tells_on (tells_on (sign_tells ObjectsWord) s) (tells_on (between_form LeftBracket RightBracket t) (between_form Colon Semicolon u)))
 
 item_tells : (i : Item) → Tells good (item_extent i) (item_parts i)
 item_tells (Input name at) = input_form (good_name name at)
@@ -55,7 +59,8 @@ good_short (p ∷ ps) e =
     let b = both_true (nat_le p.nth 256) (is_valid p.token) a.0 in
     rw b.0 (good_short ps a.1)
 
-good_from : (ps : Parts) → list_all (λ (p : Part). is_valid p.token) ps ≡ true → list_all (λ (p : Part). nat_le p.nth 256) ps ≡ true → list_all good ps ≡ true
+good_from : (ps : Parts) → list_all (λ (p : Part). is_valid p.token) ps ≡ true → list_all (λ (p : Part). nat_le p.nth 256) ps ≡ true → list_all good ps
+    ≡ true
 good_from [] v s = refl
 good_from (p ∷ ps) v s =
     let a = both_true (is_valid p.token) (list_all (λ (p : Part). is_valid p.token) ps) v in

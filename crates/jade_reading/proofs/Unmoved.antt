@@ -2,7 +2,9 @@
 use Rattle.std.proofs.Common.{◌≡◌, List, [], ◌∷◌, refl, map}
 use Rattle.jade_syntax.specs.declared.tree.Item.{Item}
 use Rattle.jade_syntax.specs.declared.tree.Item.TheVariants.{Input, Single, Family}
-use Rattle.jade_syntax.specs.Placed.{Term, Whole, Truth, Variable, Group, Signed, Chain, Cell, Links, Last, Link, Object, Alone, Member, Mention, Phrase, Local, Assign, Store, If, IfElse, For, Withonly, With, Declare, Phrases, Done, Then, PlacedProgram}
+use Rattle.jade_syntax.specs.Placed.{Term, Whole, Truth, Variable, Group, Signed, Chain, Cell, Links, Last}
+use Rattle.jade_syntax.specs.Placed.{Link, Object, Alone, Member, Mention, Phrase, Local, Assign, Store, If}
+use Rattle.jade_syntax.specs.Placed.{IfElse, For, Withonly, With, Declare, Phrases, Done, Then, PlacedProgram}
 use Rattle.jade_reading.specs.Unplaced.{moved, moved_links, moved_object, moved_mention, moved_phrase, moved_phrases, moved_item, moved_program}
 
 mutual

@@ -4,7 +4,9 @@ use Rattle.jade_base.specs.declared.place.Pos.{Pos}
 use Rattle.jade_syntax.specs.declared.tree.Number.{Number}
 use Rattle.jade_syntax.specs.declared.tree.Item.{Item}
 use Rattle.jade_syntax.specs.declared.tree.Item.TheVariants.{Input, Single, Family}
-use Rattle.jade_syntax.specs.Placed.{Term, Whole, Truth, Variable, Group, Signed, Chain, Cell, Links, Last, Link, Object, Alone, Member, Mention, Phrase, Local, Assign, Store, If, IfElse, For, Withonly, With, Declare, Phrases, Done, Then, PlacedProgram}
+use Rattle.jade_syntax.specs.Placed.{Term, Whole, Truth, Variable, Group, Signed, Chain, Cell, Links, Last}
+use Rattle.jade_syntax.specs.Placed.{Link, Object, Alone, Member, Mention, Phrase, Local, Assign, Store, If}
+use Rattle.jade_syntax.specs.Placed.{IfElse, For, Withonly, With, Declare, Phrases, Done, Then, PlacedProgram}
 
 -- each place is replaced by what `to` gives for it
 abbrev mutual

@@ -8,6 +8,7 @@ ghost use Rattle.jade_syntax.specs.Erased.{erased_program};
 ghost use Rattle.jade_syntax.specs.Image.{program};
 ghost use Rattle.jade_syntax.specs.PlacedImage.{placed_program};
 ghost use Rattle.jade_syntax.specs.Shapes.{program_extent, is_shaped};
+ghost use Rattle.jade_layout.specs.Spelling.{spelling};
 ghost use Rattle.jade_parser.specs.declared.ParseError.{ParseError};
 ghost use Rattle.jade_parser.specs.Spelled.{AllValid, AllShort};
 ghost use Rattle.jade_parser.specs.Programs.{program_parts};
@@ -23,6 +24,12 @@ use jade_lexer::laws::reading_is_cut;
 /// meaning does not need, is its abstract syntax.
 pub fn erased_is_program()
     ensures { (p : Program) → erased_program (placed_program p) ≡ program p }
+{}
+
+/// A law of programs, which does nothing: the tokens that the grammar gives a program are those of
+/// its printed layout.
+pub fn spelled_alike()
+    ensures { (p : Program) → bytes_of (program_parts p) ≡ spelling p }
 {}
 
 /// A law of readings, which does nothing: the programs that tokens read as have one abstract

@@ -1,5 +1,27 @@
 -- A program without static faults keeps the limits of what it declares.
-use Rattle.std.proofs.Common.{◌≡◌, ℕ, Bool, true, false, not, ◌&&◌, List, [], ◌∷◌, ◌++◌, Option, Some, None, refl, ap, sym, ◌∙◌, subst, append_assoc, append-nil}
+use Rattle.std.proofs.Common.{
+  ◌≡◌,
+  ℕ,
+  Bool,
+  true,
+  false,
+  not,
+  ◌&&◌,
+  List,
+  [],
+  ◌∷◌,
+  ◌++◌,
+  Option,
+  Some,
+  None,
+  refl,
+  ap,
+  sym,
+  ◌∙◌,
+  subst,
+  append_assoc,
+  append-nil,
+}
 use Rattle.std.specs.List.{list_all, cons_option}
 use Rattle.std.proofs.lemmas.List.Folds.{list_all-append}
 use Rattle.std.proofs.lemmas.List.Elements.{filter_map-append}
@@ -14,7 +36,26 @@ use Rattle.jade_syntax.specs.declared.static_fault.StaticFault.{StaticFault}
 use Rattle.jade_syntax.specs.Objects.{input_names, sizes}
 use Rattle.jade_syntax.specs.Limits.{is_amount, is_within, few_inputs, few_cells, within_limits}
 use Rattle.jade_syntax.specs.PlacedImage.{placed_program}
-use Rattle.jade_syntax.specs.StaticFaults.{Site, Amounts, Counts, Declares, item_known, item_place, amount_sites, item_sites, item_names, block_sites, counted, keeps_totals, exceeds, when, faulty, fault_at, faults_of, static_faults}
+use Rattle.jade_syntax.specs.StaticFaults.{
+  Site,
+  Amounts,
+  Counts,
+  Declares,
+  item_known,
+  item_place,
+  amount_sites,
+  item_sites,
+  item_names,
+  block_sites,
+  counted,
+  keeps_totals,
+  exceeds,
+  when,
+  faulty,
+  fault_at,
+  faults_of,
+  static_faults,
+}
 use Rattle.jade_syntax.proofs.Limits.{both, inputs_first, sizes_first}
 
 -- where nothing is wrong at some places, nothing is wrong at the first and at the others

@@ -8,7 +8,7 @@ use Rattle.jade_syntax.specs.Abstract.{Name, Action, Actions, Local, Assign, Sto
 use Rattle.jade_syntax.specs.Image.{action, block}
 use Rattle.jade_syntax.specs.Numbering.{Scope, slotted, parameters, name_stands, numbered_all}
 use Rattle.jade_syntax.proofs.Limits.{drop_item}
-use Rattle.jade_types.specs.Bodies.{InBody, Puts, Goes, GoesAll, names_in, created_in, numbered_in, all_in, variables_after}
+use Rattle.jade_types.specs.steps.Bodies.{InBody, Puts, Goes, GoesAll, names_in, created_in, numbered_in, all_in, variables_after}
 use Rattle.jade_types.proofs.Putting.{after, told}
 
 pub created_names : (xs : List Name) (n : ℕ) (above items : Scope) → parameters n xs above ++ items ≡ parameters n xs (above ++ items)
@@ -16,14 +16,16 @@ created_names [] n above items = refl
 created_names (x ∷ xs) n above items = created_names xs (suc n) (slotted x n above) items
 
 -- the names that a task is handed, and then its body
-pub task_puts : {task end : InBody} {s0 s1 s2 : List Stand} (body : InBody) (names : List Name) (statements : Actions) → Puts s0 s1 (name_stands (names_in body) names) → task ≡ created_in body names → GoesAll task end s1 s2 statements
+pub task_puts : {task end : InBody} {s0 s1 s2 : List Stand} (body : InBody) (names : List Name) (statements : Actions)
+    → Puts s0 s1 (name_stands (names_in body) names) → task ≡ created_in body names → GoesAll task end s1 s2 statements
     → Puts s0 s2 (name_stands (names_in body) names ++ (all_in (created_in body names) statements).stands)
 task_puts {task} {end} {s0} {s1} {s2} body names statements p e g =
     let P : InBody → Type 0 = λ b. GoesAll b end s1 s2 statements in
     after p (let t : GoesAll (created_in body names) end s1 s2 statements = subst P e g in t).stands
 
 pub withonly_goes : {old mid : InBody} {s0 s1 s2 : List Stand} (at : Pos) (section : Actions) (names : List Name) (body : Actions)
-    → GoesAll old mid s0 s1 section → Puts s1 s2 (name_stands (names_in mid) names ++ (all_in (created_in mid names) body).stands) → Goes old mid s0 s2 (Withonly at section names body)
+    → GoesAll old mid s0 s1 section → Puts s1 s2 (name_stands (names_in mid) names ++ (all_in (created_in mid names) body).stands)
+    → Goes old mid s0 s2 (Withonly at section names body)
 withonly_goes {old} {mid} {s0} {s1} {s2} at section names body p q =
     let P : InBody → Type 0 = λ b. Puts s1 s2 (name_stands (names_in b) names ++ (all_in (created_in b names) body).stands) in
     let handed = name_stands (names_in old) names in
@@ -32,7 +34,8 @@ withonly_goes {old} {mid} {s0} {s1} {s2} at section names body p q =
     record { stands = told (sym (append_assoc (all_in old section).stands handed _)) (after p.stands (told all task)); body = p.body }
 
 -- the arm of one kind of statement
-pub arm : {old new : InBody} {s0 s1 : List Stand} (s t : Statement) (a : Action) → s ≡ t → action t ≡ a → Goes old new s0 s1 a → Goes old new s0 s1 (action s)
+pub arm : {old new : InBody} {s0 s1 : List Stand} (s t : Statement) (a : Action) → s ≡ t → action t ≡ a → Goes old new s0 s1 a
+    → Goes old new s0 s1 (action s)
 arm {old} {new} {s0} {s1} s t a e k g = let P : Action → Type 0 = λ b. Goes old new s0 s1 b in subst P (sym (ap action e ∙ k)) g
 
 -- ---- blocks
@@ -79,7 +82,8 @@ pub record Going (old now : InBody) (before so_far : List Stand) (whole rest : A
   pub newer : Scope
   pub variables : now.variables ≡ newer ++ old.variables
 
-pub goes_on : {old now next : InBody} {before so_far more : List Stand} {whole rest : Actions} (a : Action) → Going old now before so_far whole (Then a rest) → Goes now next so_far more a → Going old next before more whole rest
+pub goes_on : {old now next : InBody} {before so_far more : List Stand} {whole rest : Actions} (a : Action)
+    → Going old now before so_far whole (Then a rest) → Goes now next so_far more a → Going old next before more whole rest
 goes_on {old} {now} {next} {before} {so_far} {more} {whole} {rest} a g s =
     let b = numbered_in now a in
     let d = numbered_all now.items b.scope b.slots rest in
@@ -89,12 +93,15 @@ goes_on {old} {now} {next} {before} {so_far} {more} {whole} {rest} a g s =
       slots = ap (λ n. n.slots) left ∙ g.slots;
       items = ap (λ n. n.items) s.body ∙ g.items;
       newer = above now a ++ g.newer;
-      variables = ap (λ n. n.variables) s.body ∙ above_is now a ∙ ap (λ vs. above now a ++ vs) g.variables ∙ sym (append_assoc (above now a) g.newer old.variables);
+      variables = ap (λ n. n.variables) s.body ∙ above_is now a ∙ ap (λ vs. above now a ++ vs) g.variables
+          ∙ sym (append_assoc (above now a) g.newer old.variables);
     }
 
 -- one more statement of a block
-pub one_more : {old now next : InBody} {before so_far more : List Stand} {whole : Actions} (ss : List Statement) (i : ℕ) (s : Statement) → slice_get ss i ≡ Some s
-    → Going old now before so_far whole (block (drop i ss)) → Goes now next so_far more (action s) → Going old next before more whole (block (drop (i + 1) ss))
+pub one_more : {old now next : InBody} {before so_far more : List Stand} {whole : Actions} (ss : List Statement) (i : ℕ) (s : Statement) → slice_get ss i
+    ≡ Some s
+    → Going old now before so_far whole (block (drop i ss)) → Goes now next so_far more (action s)
+    → Going old next before more whole (block (drop (i + 1) ss))
 one_more {old} {now} {next} {before} {so_far} {more} {whole} ss i s e g h =
     let P : List Statement → Type 0 = λ xs. Going old now before so_far whole (block xs) in
     goes_on (action s) (let t : P (s ∷ drop (i + 1) ss) = subst P (drop_item ss i s e) g in t) h

@@ -1,25 +1,15 @@
 -- Places of names, found by the names.
-use Rattle.std.proofs.Common.{◌≡◌, ℕ, List, [], ◌∷◌, ◌++◌, Bool, true, false, cond, ◌&&◌, Bor, length, map, get_or, Option, Some, None, is_some, nat_eq, refl, ap, sym, ◌∙◌, subst, arith, length-append}
+use Rattle.std.proofs.Common.{◌≡◌, ℕ, List, [], ◌∷◌, ◌++◌, Bool, true, false, cond, Bor, length, map, get_or, Option, Some, None, is_some, nat_eq, refl, ap, sym, ◌∙◌, subst, arith, length-append}
 use Rattle.std.specs.Option.{option_or}
 use Rattle.std.specs.Prelude.{MatchOption}
-use Rattle.std.specs.Cmp.Lexicographic.{pointwise, bytes_decides}
+use Rattle.std.specs.Cmp.Lexicographic.{pointwise}
 use Rattle.std.specs.Map.{lookup}
 use Rattle.std.proofs.Math.Seq.{get_or-append_seam}
-use Rattle.std.proofs.lemmas.Cmp.{nat_list_eq_equiv}
 use Rattle.std.proofs.lemmas.List.{get_or_append_left}
 use Rattle.std.proofs.lemmas.Option.{slice_get-get_or, get_or_from_slice_get}
-use Rattle.jade_syntax.specs.Abstract.{Name}
 use Rattle.jade_syntax.specs.Numbering.{same_name}
-use Rattle.jade_types.specs.ItemMap.{named, StandsAt, IsIndexed}
-
-same_bytes : (x y : Name) → same_name x y ≡ pointwise nat_eq x y
-same_bytes [] [] = refl
-same_bytes [] (b ∷ y) = refl
-same_bytes (a ∷ x) [] = refl
-same_bytes (a ∷ x) (b ∷ y) = ap (λ t. nat_eq a b && t) (same_bytes x y)
-
-same_from : (x y : Name) → same_name x y ≡ true → x ≡ y
-same_from x y h = (bytes_decides x y).0 (sym (same_bytes x y) ∙ h)
+use Rattle.name_scope.proofs.Kept.{same_from, same_turned}
+use Rattle.jade_types.specs.steps.ItemMap.{named, StandsAt, IsIndexed}
 
 abbrev Key : Type 0
 Key = Bor (List ℕ)
@@ -32,12 +22,14 @@ module _ {V : Type 0} where
   first_of x pairs = lookup (same_name x.now) (map named pairs)
 
   -- the place that was found of a name
-  pub at_place : {pairs : List (Key × V)} {places : List (Key × ℕ)} (x : Key) (j : ℕ) → IsIndexed pairs places → Some j ≡ place_of x places → StandsAt pairs (first_of x pairs) j
+  pub at_place : {pairs : List (Key × V)} {places : List (Key × ℕ)} (x : Key) (j : ℕ) → IsIndexed pairs places → Some j ≡ place_of x places
+      → StandsAt pairs (first_of x pairs) j
   at_place {pairs} {places} x j h e =
       let P : Option ℕ → Type 0 = λ o. MatchOption o (first_of x pairs ≡ None) (StandsAt pairs (first_of x pairs)) in
       subst P (sym e) (h.at x)
 
-  pub value_there : {pairs : List (Key × V)} {places : List (Key × ℕ)} (x : Key) (j : ℕ) (p : Key × V) → IsIndexed pairs places → Some j ≡ place_of x places → p ≡ get_or pairs j p → Some p.1 ≡ first_of x pairs
+  pub value_there : {pairs : List (Key × V)} {places : List (Key × ℕ)} (x : Key) (j : ℕ) (p : Key × V) → IsIndexed pairs places → Some j
+      ≡ place_of x places → p ≡ get_or pairs j p → Some p.1 ≡ first_of x pairs
   value_there {pairs} x j p h e g =
       let there = at_place x j h e in
       sym (there.is p (slice_get-get_or pairs j p there.within ∙ ap Some (sym g)))
@@ -48,7 +40,8 @@ module _ {V : Type 0} where
 
   first_both : (x : Key) (pairs : List (Key × V)) (p : Key × V) → first_of x (pairs ++ p ∷ []) ≡ option_or (first_of x pairs) (first_of x (p ∷ []))
   first_both x [] p = refl
-  first_both x (q ∷ pairs) p = ap (λ r. cond (same_name x.now q.0.now) (Some q.1) r) (first_both x pairs p) ∙ sym (or_first (same_name x.now q.0.now) q.1 (first_of x pairs) (first_of x (p ∷ [])))
+  first_both x (q ∷ pairs) p = ap (λ r. cond (same_name x.now q.0.now) (Some q.1) r) (first_both x pairs p)
+      ∙ sym (or_first (same_name x.now q.0.now) q.1 (first_of x pairs) (first_of x (p ∷ [])))
 
   -- one more pair, after the others
   module _ (pairs : List (Key × V)) (p : Key × V) where
@@ -81,27 +74,35 @@ module _ {V : Type 0} where
       there x (Some j) e g = still_there x j g
 
       by_test : (x : Key) (b : Bool) → same_name x.now p.0.now ≡ b → Found x (place_of x places) grown
-      by_test x true e = there x (place_of x places) (ap (λ y. is_some (lookup (λ k. pointwise nat_eq y k.now) places)) (same_from x.now p.0.now e) ∙ known) (h.at x)
+      by_test x true e = there x (place_of x places)
+          (ap (λ y. is_some (lookup (λ k. pointwise nat_eq y k.now) places)) (same_from x.now p.0.now e) ∙ known) (h.at x)
       by_test x false e = beside x (place_of x places) e (h.at x)
 
     -- a new name, whose place is the last
-    pub indexed_more : {places more : List (Key × ℕ)} (n : ℕ) → n ≡ length pairs → is_some (place_of p.0 places) ≡ false → ((x : Key) → place_of x more ≡ cond (pointwise nat_eq p.0.now x.now) (Some n) (place_of x places))
+    pub indexed_more : {places more : List (Key × ℕ)} (n : ℕ) → n ≡ length pairs → is_some (place_of p.0 places) ≡ false
+        → ((x : Key) → place_of x more ≡ cond (pointwise nat_eq p.0.now x.now) (Some n) (place_of x places))
         → IsIndexed pairs places → IsIndexed grown more
-    indexed_more {places} {more} n last new u h = record { at = λ x. let P : Option ℕ → Type 0 = λ o. Found x o grown in subst P (sym (u x)) (by_test x (pointwise nat_eq p.0.now x.now) (turned x)) } where
-      turned : (x : Key) → same_name x.now p.0.now ≡ pointwise nat_eq p.0.now x.now
-      turned x = same_bytes x.now p.0.now ∙ nat_list_eq_equiv.symm x.now p.0.now
+    indexed_more {places} {more} n last new u h =
+        record {
+          at = λ x. let P : Option ℕ → Type 0 = λ o. Found x o grown in
+              subst P (sym (u x)) (by_test x (pointwise nat_eq p.0.now x.now) (turned x));
+        } where
+          turned : (x : Key) → same_name x.now p.0.now ≡ pointwise nat_eq p.0.now x.now
+          turned x = same_turned x.now p.0.now
 
-      nowhere : (x : Key) (o : Option ℕ) → is_some o ≡ false → Found x o pairs → first_of x pairs ≡ None
-      nowhere x None e g = g
-      nowhere x (Some j) e g = absurd (cc)
+          nowhere : (x : Key) (o : Option ℕ) → is_some o ≡ false → Found x o pairs → first_of x pairs ≡ None
+          nowhere x None e g = g
+          nowhere x (Some j) e g = absurd (cc)
 
-      by_test : (x : Key) (b : Bool) → same_name x.now p.0.now ≡ b → Found x (cond b (Some n) (place_of x places)) grown
-      by_test x true e =
-          let absent : first_of x pairs ≡ None = nowhere x (place_of x places) (ap (λ y. is_some (lookup (λ k. pointwise nat_eq y k.now) places)) (same_from x.now p.0.now e) ∙ new) (h.at x) in
-          let at_last : get_or grown n p ≡ p = ap (λ k. get_or grown k p) last ∙ get_or-append_seam pairs p [] p in
-          record {
-            within = omega (arith, length-append pairs (p ∷ []), last);
-            is = λ r f. first_both x pairs p ∙ ap (λ o. option_or o (first_of x (p ∷ []))) absent ∙ ap (λ b. cond b (Some p.1) None) e
-                ∙ ap (λ y. Some y.1) (sym at_last ∙ get_or_from_slice_get grown n r p f);
-          }
-      by_test x false e = beside x (place_of x places) e (h.at x)
+          by_test : (x : Key) (b : Bool) → same_name x.now p.0.now ≡ b → Found x (cond b (Some n) (place_of x places)) grown
+          by_test x true e =
+              let absent : first_of x pairs ≡ None =
+              nowhere x (place_of x places) (ap (λ y. is_some (lookup (λ k. pointwise nat_eq y k.now) places)) (same_from x.now p.0.now e) ∙ new)
+              (h.at x) in
+              let at_last : get_or grown n p ≡ p = ap (λ k. get_or grown k p) last ∙ get_or-append_seam pairs p [] p in
+              record {
+                within = omega (arith, length-append pairs (p ∷ []), last);
+                is = λ r f. first_both x pairs p ∙ ap (λ o. option_or o (first_of x (p ∷ []))) absent ∙ ap (λ b. cond b (Some p.1) None) e
+                    ∙ ap (λ y. Some y.1) (sym at_last ∙ get_or_from_slice_get grown n r p f);
+              }
+          by_test x false e = beside x (place_of x places) e (h.at x)

@@ -4,7 +4,7 @@ use Rattle.std.proofs.lemmas.List.Elements.{filter_map-append}
 use Rattle.jade_syntax.specs.declared.static_fault.StaticFault.{StaticFault}
 use Rattle.jade_syntax.specs.StaticFaults.{Site, keep, kept, faults_of, fault_at}
 use Rattle.jade_types.specs.declared.faults.notes.Notes.{Notes}
-use Rattle.jade_types.specs.Noted.{Noted}
+use Rattle.jade_types.specs.steps.Noted.{Noted}
 
 kept_both : (f : Option StaticFault) (a b : List StaticFault) → kept f (a ++ b) ≡ kept (kept f a) b
 kept_both f [] b = refl

@@ -1,9 +1,2 @@
-pub mod Bodies
 pub mod Check
-pub mod Counted
-pub mod ItemMap
-pub mod Meanings
-pub mod Noted
-pub mod Passed
-pub mod Scoped
-pub mod Variables
+pub mod steps

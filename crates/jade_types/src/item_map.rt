@@ -25,7 +25,7 @@ impl<'p, V: Drop> Model for ItemMap<'p, V> {
 
     ghost coded = { coded_list (coded× (coded_list coded_ℕ) V.code) };
 
-    ghost use Rattle.jade_types.specs.ItemMap.{named, IsIndexed};
+    ghost use Rattle.jade_types.specs.steps.ItemMap.{named, IsIndexed};
 
     ghost view = { λ m. map named m.pairs.items };
 

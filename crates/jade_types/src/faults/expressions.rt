@@ -4,9 +4,9 @@ ghost use Rattle.std.specs.Prelude.{◌≡◌, [], ◌∷◌, Some};
 ghost use Rattle.jade_syntax.specs.PlacedImage.{term, and_term, compare_term, sum_term, product_term, unary_term, atom_term, reference, named_object, member};
 ghost use Rattle.jade_syntax.specs.Placed.{Cell};
 ghost use Rattle.jade_syntax.specs.StaticFaults.{Uses, found, object_sites, needed, sign_kind};
-ghost use Rattle.jade_types.specs.Meanings.{used};
-ghost use Rattle.jade_types.specs.Noted.{Noted, Visited};
-ghost use Rattle.jade_types.specs.Scoped.{in_scope};
+ghost use Rattle.jade_types.specs.steps.Meanings.{used};
+ghost use Rattle.jade_types.specs.steps.Noted.{Noted, Visited};
+ghost use Rattle.jade_types.specs.steps.Scoped.{in_scope};
 
 use crate::faults::names::{Scope, Use, kind_of_name, wrong_use};
 use crate::faults::notes::{Notes, Seen};
@@ -184,7 +184,7 @@ fn visit_atom(notes: &mut Notes, scope: &Scope<'_, '_>, e: &Atom) -> Seen
 
 #[cycle(expr)]
 pub(crate) fn visit_cell(notes: &mut Notes, scope: &Scope<'_, '_>, e: &CellRef) -> Seen
-    ensures { Visited notes.old notes.new result (in_scope scope.now) (Cell (reference e.now).object (reference e.now).cell) }
+    ensures { Visited notes.old notes.new result (in_scope scope.now) (Cell (reference e.now).place (reference e.now).cell) }
 {
     visit_object(notes, scope, &e.name, e.pos, &e.family);
     let index = visit_expr(notes, scope, &e.cell);

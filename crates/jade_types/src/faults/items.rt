@@ -5,32 +5,18 @@ ghost use Rattle.jade_syntax.specs.declared.tree.Item.{Item as ItemOf};
 ghost use Rattle.jade_syntax.specs.Limits.{is_amount, is_within};
 ghost use Rattle.jade_syntax.specs.Objects.{amount};
 ghost use Rattle.jade_syntax.specs.StaticFaults.{Amounts, amount_sites, item_names, item_place, item_sites, counted, keeps_totals, exceeds};
-ghost use Rattle.jade_types.specs.Counted.{left_of, Leaves, Behind, PassedItem};
-ghost use Rattle.jade_types.specs.Noted.{Noted};
-ghost use Rattle.jade_types.specs.Scoped.{as_names};
+ghost use Rattle.jade_types.specs.steps.Counted.{left_of, Leaves, Behind, PassedItem};
+ghost use Rattle.jade_types.specs.steps.Noted.{Noted};
+ghost use Rattle.jade_types.specs.steps.Scoped.{as_names};
 
 use crate::faults::names::{Meaning, meaning_of, name_of};
 use crate::faults::notes::Notes;
 use crate::item_map::ItemMap;
 use jade_base::{Memory, Pos};
 use jade_syntax::StaticKind;
+use jade_syntax::objects::{CELL_LIMIT, INPUT_LIMIT, OBJECT_LIMIT, SIZE_LIMIT};
 use jade_syntax::tree::{Item, Items, Number};
 use std::alloc::Global;
-
-/// The most inputs.
-const INPUT_LIMIT: u32 = 64;
-
-/// The most objects.
-const OBJECT_LIMIT: u32 = 4096;
-
-/// The most cells of all objects.
-const CELL_LIMIT: u32 = 1_048_576;
-
-/// The most members of a family.
-const MEMBER_LIMIT: u32 = 4096;
-
-/// The most cells of one object.
-const SIZE_LIMIT: u32 = 65_536;
 
 /// How many more inputs, objects and cells a program may declare; none of a kind of which there
 /// are too many already.
@@ -55,27 +41,27 @@ fn is_within(item: &Item) -> bool
 {
     match item {
         Item::Input { .. } => true,
-        Item::Single { size, .. } => is_amount(SIZE_LIMIT, size),
+        Item::Single { size, .. } => is_amount(SIZE_LIMIT as u32, size),
         Item::Family { count, size, .. } => {
-            is_amount(MEMBER_LIMIT, count) && is_amount(SIZE_LIMIT, size)
+            is_amount(OBJECT_LIMIT as u32, count) && is_amount(SIZE_LIMIT as u32, size)
         }
     }
 }
 
 /// An amount of cells.
 fn cells_of(number: &Number) -> u32
-    requires { is_amount 65536 number.now.value ≡ true }
+    requires { is_amount SIZE_LIMIT number.now.value ≡ true }
     ensures value { result ≡ amount number.now.value }
-    ensures bounded { result ≤ 65536 }
+    ensures bounded { result ≤ SIZE_LIMIT }
 {
     number.value as u32
 }
 
 /// An amount of members.
 fn members_of(number: &Number) -> u32
-    requires { is_amount 4096 number.now.value ≡ true }
+    requires { is_amount OBJECT_LIMIT number.now.value ≡ true }
     ensures value { result ≡ amount number.now.value }
-    ensures bounded { result ≤ 4096 }
+    ensures bounded { result ≤ OBJECT_LIMIT }
 {
     number.value as u32
 }
@@ -105,9 +91,9 @@ impl Room {
         ensures { Leaves [] result }
     {
         Room {
-            inputs: Some(INPUT_LIMIT),
-            objects: Some(OBJECT_LIMIT),
-            cells: Some(CELL_LIMIT),
+            inputs: Some(INPUT_LIMIT as u32),
+            objects: Some(OBJECT_LIMIT as u32),
+            cells: Some(CELL_LIMIT as u32),
         }
     }
 
@@ -176,10 +162,10 @@ fn visit_amounts(notes: &mut Notes, item: &Item)
 {
     match item {
         Item::Input { .. } => {}
-        Item::Single { size, .. } => visit_amount(notes, SIZE_LIMIT, size),
+        Item::Single { size, .. } => visit_amount(notes, SIZE_LIMIT as u32, size),
         Item::Family { count, size, .. } => {
-            visit_amount(notes, MEMBER_LIMIT, count);
-            visit_amount(notes, SIZE_LIMIT, size);
+            visit_amount(notes, OBJECT_LIMIT as u32, count);
+            visit_amount(notes, SIZE_LIMIT as u32, size);
         }
     }
 }

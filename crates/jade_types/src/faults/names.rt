@@ -3,14 +3,14 @@
 ghost use Rattle.std.specs.Prelude.{◌≡◌, [], ◌∷◌, ◌-◌, length, drop, OnOk};
 ghost use Rattle.std.specs.Option.{option_map};
 ghost use Rattle.jade_syntax.specs.StaticFaults.{known, found, misuse, wrong_use, kind_of_name, item_known};
-ghost use Rattle.jade_types.specs.Meanings.{meant, used};
-ghost use Rattle.jade_types.specs.Scoped.{as_names, in_scope};
+ghost use Rattle.jade_types.specs.steps.Meanings.{meant, used};
+ghost use Rattle.jade_types.specs.steps.Scoped.{as_names, in_scope};
 
 use crate::item_map::ItemMap;
 use jade_base::Memory;
-use jade_syntax::name::same_name;
 use jade_syntax::tree::{Item, ValueKind};
 use jade_syntax::{Name, StaticKind};
+use name_scope::NameScope;
 use std::alloc::Global;
 use std::marker::Model;
 
@@ -109,27 +109,20 @@ pub(crate) fn meaning_of(item: &Item) -> Meaning
     }
 }
 
-/// A local name and what it stands for.
-#[derive(Clone, Copy)]
-pub(crate) struct Bound<'p> {
-    name: &'p Name,
-    meaning: Meaning,
-}
-
 /// The names in scope: the locals, of which the newest of a name counts, and behind them the names
 /// of all items. Contracts see the locals with the newest first.
 #[derive(Drop)]
 pub(crate) struct Scope<'p, 'k> {
-    locals: Vec<Bound<'p>>,
+    locals: NameScope<'p, Meaning>,
     items: &'k ItemMap<'p, Meaning>,
 }
 
 impl<'p, 'k> Model for Scope<'p, 'k> {
-    ghost use Rattle.jade_types.specs.Scoped.{Scoped, local_names, as_names};
+    ghost use Rattle.jade_types.specs.steps.Scoped.{Scoped, as_names};
 
     ghost Value = { Scoped };
 
-    ghost view = { λ s. record { locals = local_names s.locals.items; items = as_names s.items.now } };
+    ghost view = { λ s. record { locals = as_names s.locals; items = as_names s.items.now } };
 }
 
 impl<'p, 'k> Scope<'p, 'k> {
@@ -138,7 +131,7 @@ impl<'p, 'k> Scope<'p, 'k> {
         ensures { result ≡ record { locals = []; items = as_names items.now } }
     {
         Scope {
-            locals: Vec::new(alloc),
+            locals: NameScope::none(alloc),
             items,
         }
     }
@@ -148,7 +141,7 @@ impl<'p, 'k> Scope<'p, 'k> {
         ensures { result ≡ record { locals = []; items = self.now.items } }
     {
         Scope {
-            locals: Vec::new(*self.locals.allocator()),
+            locals: self.locals.without_names(),
             items: self.items,
         }
     }
@@ -164,32 +157,21 @@ impl<'p, 'k> Scope<'p, 'k> {
     pub(crate) fn bind(&mut self, name: &'p Name, meaning: Meaning) -> Result<(), Memory>
         ensures { OnOk result (self.new ≡ record { locals = known name.now (meant meaning) ∷ self.old.locals; items = self.old.items }) }
     {
-        match self.locals.push(Bound { name, meaning }) {
-            Ok(()) => Ok(()),
-            Err(_) => Err(Memory),
-        }
+        self.locals.declare(name.bytes(), meaning)
     }
 
     /// Ends the newest locals, so that `len` stay, if there are more.
     pub(crate) fn leave(&mut self, len: usize)
         ensures { self.new ≡ record { locals = drop (length self.old.locals - len) self.old.locals; items = self.old.items } }
     {
-        self.locals.truncate(len);
+        self.locals.leave(len);
     }
 
     /// What a name stands for as a local.
     pub(crate) fn found_local(&self, name: &Name) -> Option<Meaning>
         ensures { option_map meant result ≡ found name.now self.now.locals }
     {
-        let mut left = self.locals.len();
-        while left > 0 {
-            left -= 1;
-            let bound = &self.locals[left];
-            if same_name(name.bytes(), bound.name.bytes()) {
-                return Some(bound.meaning);
-            }
-        }
-        None
+        self.locals.get(name.bytes())
     }
 
     /// What a name stands for.

@@ -4,7 +4,7 @@ ghost use Rattle.std.specs.Prelude.{◌≡◌, [], ◌∷◌, None, Some};
 ghost use Rattle.jade_syntax.specs.Abstract.{Name};
 ghost use Rattle.jade_syntax.specs.Placed.{Term};
 ghost use Rattle.jade_syntax.specs.StaticFaults.{Site, Names, Declares, Needs, keep, site_place, fault_kind, found, is_known, same_kind, suits, when};
-ghost use Rattle.jade_types.specs.Noted.{Noted, Sees};
+ghost use Rattle.jade_types.specs.steps.Noted.{Noted, Sees};
 
 use jade_base::Pos;
 use jade_syntax::tree::ValueKind;

@@ -5,9 +5,9 @@ ghost use Rattle.jade_syntax.specs.declared.tree.ValueKind.TheVariants.{Int};
 ghost use Rattle.jade_syntax.specs.Placed.{Local, Assign, Store};
 ghost use Rattle.jade_syntax.specs.PlacedImage.{term, reference, phrase, block, mentioned};
 ghost use Rattle.jade_syntax.specs.StaticFaults.{Turns, Declares, known, given, needed, mention_sites, parameters, block_sites};
-ghost use Rattle.jade_types.specs.Noted.{Noted};
-ghost use Rattle.jade_types.specs.Passed.{Passed, PassedBlock};
-ghost use Rattle.jade_types.specs.Scoped.{in_scope};
+ghost use Rattle.jade_types.specs.steps.Noted.{Noted};
+ghost use Rattle.jade_types.specs.steps.Passed.{Passed, PassedBlock};
+ghost use Rattle.jade_types.specs.steps.Scoped.{in_scope};
 
 use crate::faults::expressions::{visit_expr, visit_needed, visit_object, visit_use};
 use crate::faults::names::{Meaning, Scope, Use, kind_of_name};
@@ -43,7 +43,7 @@ fn visit_assign(notes: &mut Notes, scope: &Scope<'_, '_>, name: &Name, pos: Pos,
 }
 
 fn visit_store(notes: &mut Notes, scope: &Scope<'_, '_>, target: &CellRef, value: &Expr)
-    ensures { Passed notes.old notes.new scope.now scope.now (Store (reference target.now).object (reference target.now).cell (term value.now)) }
+    ensures { Passed notes.old notes.new scope.now scope.now (Store (reference target.now).place (reference target.now).cell (term value.now)) }
 {
     visit_object(notes, scope, &target.name, target.pos, &target.family);
     visit_needed(notes, scope, ValueKind::Int, &target.cell);

@@ -3,39 +3,31 @@
 ghost use Rattle.std.specs.Prelude.{◌≡◌, [], ◌-◌, length, drop, map, IfOk, OnOk};
 ghost use Rattle.jade_syntax.specs.declared.stands.Stand.TheVariants.{Slot};
 ghost use Rattle.jade_syntax.specs.Numbering.{stand_of};
-ghost use Rattle.jade_types.specs.Bodies.{as_scope, names_in, with_variable, created_in};
+ghost use Rattle.jade_types.specs.steps.Bodies.{as_scope, names_in, with_variable, created_in};
 
 use crate::item_map::ItemMap;
 use jade_base::Memory;
-use jade_syntax::name::same_name;
 use jade_syntax::tree::NameList;
 use jade_syntax::{Name, Stand};
+use name_scope::NameScope;
 use std::alloc::Global;
 use std::marker::Model;
-
-/// A variable in scope, and its slot.
-#[derive(Clone, Copy)]
-struct Variable<'p> {
-    name: &'p Name,
-    slot: u32,
-}
 
 /// A body: its variables in scope, of which the newest of a name counts, behind them the items, and
 /// how many of its slots are taken. Contracts see the variables with the newest first.
 #[derive(Drop)]
 pub(crate) struct Body<'m, 'p> {
-    variables: Vec<Variable<'p>>,
+    variables: NameScope<'p, u32>,
     items: &'m ItemMap<'p, Stand>,
     slots: u32,
 }
 
 impl<'m, 'p> Model for Body<'m, 'p> {
-    ghost use Rattle.jade_types.specs.Bodies.{InBody, as_scope};
-    ghost use Rattle.jade_types.specs.Variables.{in_scope};
+    ghost use Rattle.jade_types.specs.steps.Bodies.{InBody, as_scope, in_slots};
 
     ghost Value = { InBody };
 
-    ghost view = { λ b. record { variables = in_scope b.variables.items; items = as_scope b.items.now; slots = b.slots } };
+    ghost view = { λ b. record { variables = in_slots b.variables; items = as_scope b.items.now; slots = b.slots } };
 }
 
 impl<'m, 'p> Body<'m, 'p> {
@@ -44,8 +36,19 @@ impl<'m, 'p> Body<'m, 'p> {
         ensures { result ≡ record { variables = []; items = as_scope items.now; slots = 0 } }
     {
         Body {
-            variables: Vec::new(alloc),
+            variables: NameScope::none(alloc),
             items,
+            slots: 0,
+        }
+    }
+
+    /// A body with the same items, no variables and no slots taken. It takes no memory.
+    fn emptied(&self) -> Body<'m, 'p>
+        ensures { result ≡ record { variables = []; items = self.now.items; slots = 0 } }
+    {
+        Body {
+            variables: self.variables.without_names(),
+            items: self.items,
             slots: 0,
         }
     }
@@ -70,7 +73,7 @@ impl<'m, 'p> Body<'m, 'p> {
     {
         let slot = self.slots;
         let taken = slot.checked_add(slots).ok_or(Memory)?;
-        self.variables.push(Variable { name, slot })?;
+        self.variables.declare(name.bytes(), slot)?;
         self.slots = taken;
         Ok(())
     }
@@ -79,29 +82,24 @@ impl<'m, 'p> Body<'m, 'p> {
     pub(crate) fn leave(&mut self, len: usize)
         ensures { self.new ≡ record self.old { variables = drop (length self.old.variables - len) self.old.variables } }
     {
-        self.variables.truncate(len);
+        self.variables.leave(len);
     }
 
     /// What a name stands for; the first slot where it is not in scope. It takes no memory.
     pub(crate) fn stand_of(&self, name: &Name) -> Stand
         ensures { result ≡ stand_of name.now (names_in self.now) }
     {
-        let mut left = self.variables.len();
-        while left > 0 {
-            left -= 1;
-            let variable = &self.variables[left];
-            if same_name(name.bytes(), variable.name.bytes()) {
-                return Stand::Slot(variable.slot);
-            }
+        match self.variables.get(name.bytes()) {
+            Some(slot) => Stand::Slot(slot),
+            None => self.items.get(name.bytes()).unwrap_or(Stand::Slot(0)),
         }
-        self.items.get(name.bytes()).unwrap_or(Stand::Slot(0))
     }
 
     /// The body of a task that is created here: these names are its variables.
     pub(crate) fn created(&self, names: &'p NameList) -> Result<Body<'m, 'p>, Memory>
         ensures { IfOk result (λ body. body ≡ created_in self.now (map (λ n. n.name) names.now)) }
     {
-        let mut body = Body::of(*self.variables.allocator(), self.items);
+        let mut body = self.emptied();
         for i in 0..names.len() {
             body.declare(&names.at(i).name, 1)?;
         }

@@ -5,7 +5,7 @@ ghost use Rattle.jade_syntax.specs.declared.tree.Item.{Item};
 ghost use Rattle.jade_syntax.specs.Numbering.{items_from, declared, stands_alone};
 ghost use Rattle.jade_syntax.specs.Objects.{amount};
 ghost use Rattle.jade_syntax.specs.StaticFaults.{item_known};
-ghost use Rattle.jade_types.specs.Bodies.{Puts, as_scope};
+ghost use Rattle.jade_types.specs.steps.Bodies.{Puts, as_scope};
 
 use crate::faults::name_of;
 use crate::item_map::ItemMap;

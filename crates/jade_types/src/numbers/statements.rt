@@ -6,7 +6,7 @@ ghost use Rattle.jade_syntax.specs.declared.tree.ValueKind.{ValueKind};
 ghost use Rattle.jade_syntax.specs.Abstract.{Local, Assign, Store};
 ghost use Rattle.jade_syntax.specs.Image.{expression, reference, action, block as actions_of, object as place_of};
 ghost use Rattle.jade_syntax.specs.Numbering.{expression_stands, name_stands, place_stands};
-ghost use Rattle.jade_types.specs.Bodies.{Puts, Goes, GoesRound, GoesAll, names_in, created_in, all_in};
+ghost use Rattle.jade_types.specs.steps.Bodies.{Puts, Goes, GoesRound, GoesAll, names_in, created_in, all_in};
 
 use crate::numbers::body::Body;
 use crate::numbers::expressions::{number_cell, number_expr, number_member, number_name, put};

@@ -4,7 +4,9 @@ use Rattle.jade_syntax.specs.declared.tree.Expr.{out-Expr}
 use Rattle.jade_syntax.specs.declared.tree.AndExpr.{out-AndExpr}
 use Rattle.jade_syntax.specs.declared.tree.Sum.{out-Sum}
 use Rattle.jade_syntax.specs.declared.tree.Product.{out-Product}
-use Rattle.jade_layout.proofs.Opened.{or_part, and_part, sum_part, product_part, sign_part, expr_opens, and_opens, sum_opens, product_opens, unary_opens, cell_opens, compare_opens, group_opens}
+use Rattle.jade_layout.proofs.Opened.{or_part, and_part, sum_part, product_part, sign_part, expr_opens}
+use Rattle.jade_layout.proofs.Opened.{and_opens, sum_opens, product_opens, unary_opens, cell_opens}
+use Rattle.jade_layout.proofs.Opened.{compare_opens, group_opens}
 use Rattle.jade_layout.proofs.Adding.{after, more, all}
 use Rattle.jade_layout.proofs.expressions.+expr.Goals as goal
 
@@ -26,7 +28,8 @@ put_and-returns t c =
 
 pub put_sum-loop-i-preserved : goal.put_sum-loop-i-preserved
 put_sum-loop-i-preserved t c =
-    more sum_part _ _ _ (out-Sum c.args.e.now).rest c.loop-i.i _ c.at.ensures c.loop-i.invariant (after c.in_ok-put_sum_sign.ensures c.in_ok-put_product-2.ensures)
+    more sum_part _ _ _ (out-Sum c.args.e.now).rest c.loop-i.i _ c.at.ensures c.loop-i.invariant
+    (after c.in_ok-put_sum_sign.ensures c.in_ok-put_product-2.ensures)
 
 pub put_sum-returns : goal.put_sum-returns
 put_sum-returns t c =
@@ -34,7 +37,8 @@ put_sum-returns t c =
 
 pub put_product-loop-i-preserved : goal.put_product-loop-i-preserved
 put_product-loop-i-preserved t c =
-    more product_part _ _ _ (out-Product c.args.e.now).rest c.loop-i.i _ c.at.ensures c.loop-i.invariant (after c.in_ok-put_product_sign.ensures c.in_ok-put_unary-2.ensures)
+    more product_part _ _ _ (out-Product c.args.e.now).rest c.loop-i.i _ c.at.ensures c.loop-i.invariant
+    (after c.in_ok-put_product_sign.ensures c.in_ok-put_unary-2.ensures)
 
 pub put_product-returns : goal.put_product-returns
 put_product-returns t c =

@@ -8,4 +8,5 @@ pub returns-clause-tokens : goal.returns-clause-tokens
 returns-clause-tokens c = λ ts h. reads_as (layout ts) ts (c.reading_is_cut.ensures.whole (layout ts)) (layout_is_cut ts h)
 
 pub returns-clause-program : goal.returns-clause-program
-returns-clause-program c = λ p h. reads_as (layout (spelling p)) (spelling p) (c.reading_is_cut.ensures.whole (layout (spelling p))) (layout_is_cut (spelling p) (spelling_readable p h))
+returns-clause-program c = λ p h. reads_as (layout (spelling p)) (spelling p) (c.reading_is_cut.ensures.whole (layout (spelling p)))
+    (layout_is_cut (spelling p) (spelling_readable p h))

@@ -2,11 +2,11 @@ use Rattle.std.proofs.Common.{◌-◌, ◌+◌, ◌*◌, ◌++◌, [], ◌∷◌
 use Rattle.std.specs.List.{flat_map}
 use Rattle.jade_parser.specs.Spelled.{fixed}
 use Rattle.jade_parser.specs.Statements.{statement_parts}
-use Rattle.jade_parser.specs.Machine.{Body}
+use Rattle.jade_parser.specs.steps.Machine.{Body}
 use Rattle.jade_parser.specs.declared.Sign.TheVariants.{LeftBrace}
-use Rattle.jade_parser.specs.Parts.{FitsAll}
-use Rattle.jade_parser.specs.Compound.{block_in}
-use Rattle.jade_parser.specs.Forms.{Came}
+use Rattle.jade_parser.specs.Programs.{FitsAll}
+use Rattle.jade_parser.specs.steps.Compound.{block_in}
+use Rattle.jade_parser.specs.steps.Forms.{Came}
 use Rattle.jade_parser.proofs.compound.+statement.Given as goal
 
 abbrev pub decreases-parse_block : goal.decreases-parse_block
@@ -28,7 +28,8 @@ abbrev pub decreases-parse_with : goal.decreases-parse_with
 decreases-parse_with l = 10 * (length l.tokens.now - l.start) + 1
 
 abbrev pub invariant-parse_block-statements : goal.invariant-parse_block-statements
-invariant-parse_block-statements l = Came l.tokens l.fn.start (block_in l.place) l.at (Body l.place ∷ []) (fixed LeftBrace ∷ [] ++ flat_map statement_parts l.all) × FitsAll l.place l.all
+invariant-parse_block-statements l =
+    Came l.tokens l.fn.start (block_in l.place) l.at (Body l.place ∷ []) (fixed LeftBrace ∷ [] ++ flat_map statement_parts l.all) × FitsAll l.place l.all
 
 abbrev pub decreases-parse_block-statements : goal.decreases-parse_block-statements
 decreases-parse_block-statements l = length l.tokens - l.at

@@ -1,8 +1,8 @@
 use Rattle.std.proofs.Common.{◌-◌, ◌+◌, ◌*◌, ◌++◌, [], ◌∷◌, length}
 use Rattle.std.specs.List.{flat_map}
 use Rattle.jade_parser.specs.Spelled.{and_parts, compare_parts, product_parts, unary_parts, or_part, and_part, sum_part, product_part}
-use Rattle.jade_parser.specs.Machine.{Rest, expr_in, and_in, sum_in, product_in}
-use Rattle.jade_parser.specs.Reads.{Whole}
+use Rattle.jade_parser.specs.steps.Machine.{Rest, expr_in, and_in, sum_in, product_in}
+use Rattle.jade_parser.specs.steps.Reads.{Whole}
 use Rattle.jade_parser.proofs.expressions.+expr.Given as goal
 
 abbrev pub decreases-parse_expr : goal.decreases-parse_expr

@@ -1,8 +1,8 @@
 use Rattle.std.proofs.Common.{◌-◌, length, [], ◌∷◌}
 use Rattle.std.specs.List.{flat_map}
 use Rattle.jade_parser.specs.Spelled.{sign_part}
-use Rattle.jade_parser.specs.Machine.{Need}
-use Rattle.jade_parser.specs.Reads.{Whole}
+use Rattle.jade_parser.specs.steps.Machine.{Need}
+use Rattle.jade_parser.specs.steps.Reads.{Whole}
 use Rattle.jade_parser.proofs.expressions.signs.Given as goal
 
 abbrev pub invariant-loop-op : goal.invariant-loop-op

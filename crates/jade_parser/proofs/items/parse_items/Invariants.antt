@@ -1,8 +1,8 @@
 use Rattle.std.proofs.Common.{◌-◌, length, [], ◌∷◌}
 use Rattle.std.specs.List.{flat_map}
 use Rattle.jade_parser.specs.Programs.{item_parts}
-use Rattle.jade_parser.specs.Machine.{Items}
-use Rattle.jade_parser.specs.Reads.{Whole}
+use Rattle.jade_parser.specs.steps.Machine.{Items}
+use Rattle.jade_parser.specs.steps.Reads.{Whole}
 use Rattle.jade_parser.proofs.items.parse_items.Given as goal
 
 abbrev pub invariant-items : goal.invariant-items

@@ -1,5 +1,5 @@
 use Rattle.std.proofs.Common.{take}
-use Rattle.jade_parser.specs.Kinds.{IsSeen}
+use Rattle.jade_parser.specs.steps.Reads.{IsSeen}
 use Rattle.jade_parser.proofs.kinds.classified.Given as goal
 
 abbrev pub invariant-loop-place : goal.invariant-loop-place

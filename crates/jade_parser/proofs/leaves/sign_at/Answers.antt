@@ -10,5 +10,5 @@ returns-in-Called c = head_called _ _ _ _ c.if-at-tokens.true c.in-Called.is
 pub returns-in-Counted : goal.returns-in-Counted
 returns-in-Counted c = head_counted _ _ _ _ c.if-at-tokens.true c.in-Counted.is
 
-pub returns-in-Odd : goal.returns-in-Odd
-returns-in-Odd c = head_odd _ _ _ c.if-at-tokens.true c.in-Odd.is
+pub returns-in-Unknown : goal.returns-in-Unknown
+returns-in-Unknown c = head_odd _ _ _ c.if-at-tokens.true c.in-Unknown.is

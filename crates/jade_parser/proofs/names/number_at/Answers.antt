@@ -16,5 +16,5 @@ returns-in-Fixed c = stops_kind _ _ _ _ _ c.if-at-tokens.false c.in-Fixed.is (λ
 pub returns-in-Called : goal.returns-in-Called
 returns-in-Called c = stops_kind _ _ _ _ _ c.if-at-tokens.false c.in-Called.is (λ rest st. refl)
 
-pub returns-in-Odd : goal.returns-in-Odd
-returns-in-Odd c = stops_kind _ _ _ _ _ c.if-at-tokens.false c.in-Odd.is (λ rest st. refl)
+pub returns-in-Unknown : goal.returns-in-Unknown
+returns-in-Unknown c = stops_kind _ _ _ _ _ c.if-at-tokens.false c.in-Unknown.is (λ rest st. refl)

@@ -1,7 +1,7 @@
 use Rattle.std.proofs.Common.{◌-◌, ◌<◌, [], ◌∷◌, length}
 use Rattle.jade_parser.specs.Statements.{name_parts}
-use Rattle.jade_parser.specs.Machine.{Names, MoreNames}
-use Rattle.jade_parser.specs.Forms.{Came}
+use Rattle.jade_parser.specs.steps.Machine.{Names, MoreNames}
+use Rattle.jade_parser.specs.steps.Forms.{Came}
 use Rattle.jade_parser.proofs.pieces.parse_names.Given as goal
 
 abbrev pub invariant-names : goal.invariant-names

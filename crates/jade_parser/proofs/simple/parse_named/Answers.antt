@@ -1,6 +1,6 @@
 use Rattle.std.proofs.Common.{◌≡◌, ◌+◌, true, sym, ◌∙◌}
 use Rattle.jade_syntax.specs.Shapes.{is_main}
-use Rattle.jade_parser.specs.Forms.{NoHead}
+use Rattle.jade_parser.specs.steps.Forms.{NoHead}
 use Rattle.jade_parser.specs.declared.Sign.TheVariants.{LeftBracket}
 use Rattle.jade_parser.proofs.Simply.{unnamed, assign_begun, store_begun, named_alone}
 use Rattle.jade_parser.proofs.simple.parse_named.Goals as goal
@@ -13,7 +13,9 @@ pub parse_assign-requires-clause-read : goal.parse_assign-requires-clause-read
 parse_assign-requires-clause-read c = assign_begun _ _ _ _ _ c.pos_at-pos.ensures c.in-Ok.ensures (c.is_at.ensures.yes c.if-is_at.true)
 
 pub parse_store-requires-clause-read : goal.parse_store-requires-clause-read
-parse_store-requires-clause-read c = store_begun _ _ _ _ _ c.pos_at-pos.ensures (sym c.is_main.ensures ∙ c.if-is_main.true) c.in-Ok.ensures (c.is_at-then-is_main.ensures.yes c.if-is_at-2.true)
+parse_store-requires-clause-read c =
+    store_begun _ _ _ _ _ c.pos_at-pos.ensures (sym c.is_main.ensures ∙ c.if-is_main.true) c.in-Ok.ensures
+    (c.is_at-then-is_main.ensures.yes c.if-is_at-2.true)
 
 pub returns : goal.returns
 returns c =

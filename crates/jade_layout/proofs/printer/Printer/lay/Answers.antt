@@ -6,4 +6,5 @@ invariant_of-self-2 c = within _ _ _ _ _ _ _ c.in_ok-start.ensures.wrote c.in_ok
 
 pub returns : goal.returns
 returns c =
-    laid _ _ _ _ _ _ _ _ _ _ _ _ c.self.view_is c.deref.ensures.value c.gap_between-gap.ensures c.in_ok-start.ensures.wrote c.in_ok-start.ensures.place c.is_sign-sign.ensures c.depth_after-self-inside.ensures
+    laid _ _ _ _ _ _ _ _ _ _ _ _ c.self.view_is c.deref.ensures.value c.gap_between-gap.ensures c.in_ok-start.ensures.wrote c.in_ok-start.ensures.place
+    c.is_sign-sign.ensures c.depth_after-self-inside.ensures

@@ -1,5 +1,5 @@
 use Rattle.jade_syntax.specs.PlacedImage.{term}
-use Rattle.jade_types.specs.Scoped.{in_scope}
+use Rattle.jade_types.specs.steps.Scoped.{in_scope}
 use Rattle.jade_types.proofs.Noting.{after}
 use Rattle.jade_types.proofs.faults.expressions.visit_needed.Goals as goal
 

@@ -4,7 +4,7 @@ use Rattle.jade_syntax.specs.declared.tree.Expr.{out-Expr}
 use Rattle.jade_syntax.specs.declared.tree.AndExpr.{out-AndExpr}
 use Rattle.jade_syntax.specs.declared.tree.Sum.{out-Sum}
 use Rattle.jade_syntax.specs.declared.tree.Product.{out-Product}
-use Rattle.jade_types.specs.Bodies.{Puts, names_in}
+use Rattle.jade_types.specs.steps.Bodies.{Puts, names_in}
 use Rattle.jade_types.proofs.StandsOpened.{or_part, and_part, sum_part, product_part}
 use Rattle.jade_types.proofs.numbers.expressions.+expr.Given as goal
 

@@ -1,5 +1,5 @@
 use Rattle.std.proofs.Common.{arith, sym}
-use Rattle.jade_types.specs.Bodies.{names_in}
+use Rattle.jade_types.specs.steps.Bodies.{names_in}
 use Rattle.jade_types.proofs.Putting.{told, more, all, mentioned, names_open}
 use Rattle.jade_types.proofs.numbers.statements.number_names.Goals as goal
 
@@ -8,4 +8,5 @@ loop-i-preserved c = more (mentioned (names_in c.args.body.now)) c.args.names.no
 
 pub returns : goal.returns
 returns c =
-    told (sym (names_open (names_in c.args.body.now) c.args.names.now)) (all (mentioned (names_in c.args.body.now)) _ c.loop-i.i (omega arith) c.loop-i.invariant)
+    told (sym (names_open (names_in c.args.body.now) c.args.names.now))
+    (all (mentioned (names_in c.args.body.now)) _ c.loop-i.i (omega arith) c.loop-i.invariant)

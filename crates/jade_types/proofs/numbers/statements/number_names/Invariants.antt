@@ -1,6 +1,6 @@
 use Rattle.std.proofs.Common.{take}
 use Rattle.std.specs.List.{flat_map}
-use Rattle.jade_types.specs.Bodies.{Puts, names_in}
+use Rattle.jade_types.specs.steps.Bodies.{Puts, names_in}
 use Rattle.jade_types.proofs.Putting.{mentioned}
 use Rattle.jade_types.proofs.numbers.statements.number_names.Given as goal
 

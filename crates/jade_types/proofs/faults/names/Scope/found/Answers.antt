@@ -3,8 +3,8 @@ use Rattle.std.specs.Option.{option_map}
 use Rattle.std.specs.Map.{lookup}
 use Rattle.jade_syntax.specs.Numbering.{same_name}
 use Rattle.jade_syntax.specs.StaticFaults.{found}
-use Rattle.jade_types.specs.Meanings.{meant}
-use Rattle.jade_types.specs.Scoped.{Scoped}
+use Rattle.jade_types.specs.steps.Meanings.{meant}
+use Rattle.jade_types.specs.steps.Scoped.{Scoped}
 use Rattle.jade_types.proofs.Naming.{found_among, found_item}
 use Rattle.jade_types.proofs.faults.names.Scope.found.Goals as goal
 

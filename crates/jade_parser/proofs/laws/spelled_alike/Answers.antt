@@ -1,5 +1,0 @@
-use Rattle.jade_parser.proofs.Same.{program_alike}
-use Rattle.jade_parser.proofs.laws.spelled_alike.Goals as goal
-
-pub returns : goal.returns
-returns c = program_alike

@@ -1,0 +1,9 @@
+pub mod Begins
+pub mod Compound
+pub mod Forms
+pub mod Machine
+pub mod Openings
+pub mod Ops
+pub mod Parts
+pub mod Reads
+pub mod Refused
