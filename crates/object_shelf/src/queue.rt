@@ -322,12 +322,7 @@ fn takes_out(entry: &Entry) -> bool
 }
 
 // The path's task holds the object, and this version is kept for it.
-fn hold_in(
-    rows: &mut VecDeque<Entry>,
-    path: &Path,
-    mode: Mode,
-    fresh: Option<SharedCells>,
-)
+fn hold_in(rows: &mut VecDeque<Entry>, path: &Path, mode: Mode, fresh: Option<SharedCells>)
     requires { is_ordered rows.old.items ≡ true }
     ensures done { rows.new.items ≡ at path.now (held_with mode fresh) rows.old.items }
     ensures ordered { is_ordered rows.new.items ≡ true }
