@@ -1,5 +1,5 @@
 -- The serial order of tasks is strict and total, and a queue in it is searched by halves.
-use Rattle.std.proofs.Common.{◌≡◌, ℕ, zero, suc, ◌+◌, ◌<◌, ◌≤◌, Bool, true, false, ◌&&◌, ◌||◌, List, [], ◌∷◌, length, drop, refl, sym, ap, ◌∙◌, subst, arith}
+use Rattle.std.proofs.Common.{◌≡◌, ℕ, zero, suc, ◌<◌, ◌≤◌, Bool, true, false, ◌&&◌, ◌||◌, List, [], ◌∷◌, length, drop, refl, sym, ap, ◌∙◌, subst, arith}
 use Rattle.std.specs.Prelude.{min, nat_eq, nat_lt, slice_index_or, if◌then◌else◌}
 use Rattle.std.proofs.lemmas.Bool.Decides.{nat_tests}
 use Rattle.jade_base.specs.declared.rights.Rights.{Rights}
@@ -59,11 +59,14 @@ before-trans (i ∷ p) [] r h g = absurd (cc)
 before-trans (i ∷ p) (j ∷ q) [] h g = refl
 before-trans (i ∷ p) (j ∷ q) (k ∷ r) h g = head i j k (stands_before p q) (stands_before q r) (stands_before p r) (before-trans p q r) h g
   where
-    head : (i j k : ℕ) (a b c : Bool) → (a ≡ true → b ≡ true → c ≡ true) → nat_lt i j || (nat_eq i j && a) ≡ true → nat_lt j k || (nat_eq j k && b) ≡ true → nat_lt i k || (nat_eq i k && c) ≡ true
+    head : (i j k : ℕ) (a b c : Bool) → (a ≡ true → b ≡ true → c ≡ true) → nat_lt i j || (nat_eq i j && a) ≡ true → nat_lt j k || (nat_eq j k && b) ≡ true →
+        nat_lt i k || (nat_eq i k && c) ≡ true
     head i j k true true true f h g = grind (arith, nat_tests)
     head i j k true true false f h g = absurd (let x = f refl refl in cc)
     head i j k true false c f h g = elim c [ true ↦ grind (arith, nat_tests) | false ↦ grind (arith, nat_tests) ]
-    head i j k false b c f h g = elim b [ true ↦ elim c [ true ↦ grind (arith, nat_tests) | false ↦ grind (arith, nat_tests) ] | false ↦ elim c [ true ↦ grind (arith, nat_tests) | false ↦ grind (arith, nat_tests) ] ]
+    head i j k false b c f h g = elim b
+        [ true ↦ elim c [ true ↦ grind (arith, nat_tests) | false ↦ grind (arith, nat_tests) ] | false ↦
+        elim c [ true ↦ grind (arith, nat_tests) | false ↦ grind (arith, nat_tests) ] ]
 
 -- of two others one stands before the other
 pub before-total : (p q : List ℕ) → stands_before q p ≡ false → same_path p q ≡ false → stands_before p q ≡ true
@@ -72,7 +75,8 @@ before-total [] (j ∷ q) h g = absurd (cc)
 before-total (i ∷ p) [] h g = refl
 before-total (i ∷ p) (j ∷ q) h g = head i j (stands_before q p) (same_path p q) (stands_before p q) (before-total p q) h g
   where
-    head : (i j : ℕ) (a s b : Bool) → (a ≡ false → s ≡ false → b ≡ true) → nat_lt j i || (nat_eq j i && a) ≡ false → nat_eq i j && s ≡ false → nat_lt i j || (nat_eq i j && b) ≡ true
+    head : (i j : ℕ) (a s b : Bool) → (a ≡ false → s ≡ false → b ≡ true) → nat_lt j i || (nat_eq j i && a) ≡ false → nat_eq i j && s ≡ false →
+        nat_lt i j || (nat_eq i j && b) ≡ true
     head i j false false true f h g = grind (arith, nat_tests)
     head i j false false false f h g = absurd (let x = f refl refl in cc)
     head i j true s true f h g = elim s [ true ↦ grind (arith, nat_tests) | false ↦ grind (arith, nat_tests) ]
@@ -83,16 +87,19 @@ before-total (i ∷ p) (j ∷ q) h g = head i j (stands_before q p) (same_path p
 pub further : (p q : List ℕ) (es : List Entry) → stands_before p q ≡ true → before_all q es ≡ true → before_all p es ≡ true
 further p q [] h g = refl
 further p q (e ∷ es) h g =
-    and-both (stands_before p e.path) (before_all p es) (before-trans p q e.path h (and-left (stands_before q e.path) (before_all q es) g)) (further p q es h (and-right (stands_before q e.path) (before_all q es) g))
+    and-both (stands_before p e.path) (before_all p es) (before-trans p q e.path h (and-left (stands_before q e.path) (before_all q es) g))
+        (further p q es h (and-right (stands_before q e.path) (before_all q es) g))
 
 -- an entry of those that a task stands before
-pub at-index : (p : List ℕ) (es : List Entry) (n : ℕ) (e : Entry) → before_all p es ≡ true → n < length es → e ≡ slice_index_or es n e → stands_before p e.path ≡ true
+pub at-index : (p : List ℕ) (es : List Entry) (n : ℕ) (e : Entry) → before_all p es ≡ true → n < length es → e ≡ slice_index_or es n e →
+    stands_before p e.path ≡ true
 at-index p [] n e h lt q = absurd (omega arith)
 at-index p (x ∷ es) zero e h lt q = ap (λ (z : Entry). stands_before p z.path) q ∙ and-left (stands_before p x.path) (before_all p es) h
 at-index p (x ∷ es) (suc n) e h lt q = at-index p es n e (and-right (stands_before p x.path) (before_all p es) h) (omega arith) q
 
 -- an entry that stands before a task lies within the rank
-pub low_half : (p : List ℕ) (es : List Entry) (n : ℕ) (e : Entry) → is_ordered es ≡ true → n < length es → e ≡ slice_index_or es n e → stands_before e.path p ≡ true → n < rank p es
+pub low_half : (p : List ℕ) (es : List Entry) (n : ℕ) (e : Entry) → is_ordered es ≡ true → n < length es → e ≡ slice_index_or es n e →
+    stands_before e.path p ≡ true → n < rank p es
 low_half p [] n e o lt q h = absurd (omega arith)
 low_half p (x ∷ es) zero e o lt q h =
     let b : stands_before x.path p ≡ true = ap (λ (z : Entry). stands_before z.path p) (sym q) ∙ h in
@@ -128,7 +135,8 @@ rank_within p (x ∷ es) = let r : rank p es ≤ length es = rank_within p es in
 not-among : (p : List ℕ) (es : List Entry) → before_all p es ≡ true → place_in p es ≡ length es
 not-among p [] h = refl
 not-among p (e ∷ es) h =
-    subst (λ b. (if b then 0 else suc (place_in p es)) ≡ suc (length es)) (sym (turned p e.path (and-left (stands_before p e.path) (before_all p es) h))) (ap suc (not-among p es (and-right (stands_before p e.path) (before_all p es) h)))
+    subst (λ b. (if b then 0 else suc (place_in p es)) ≡ suc (length es)) (sym (turned p e.path (and-left (stands_before p e.path) (before_all p es) h)))
+        (ap suc (not-among p es (and-right (stands_before p e.path) (before_all p es) h)))
   where
     turned : (p q : List ℕ) → stands_before p q ≡ true → same_path p q ≡ false
     turned p q h = flip (same_path p q) refl
@@ -138,11 +146,14 @@ not-among p (e ∷ es) h =
         flip true e = absurd (true-not-false (sym (same-refl p) ∙ before-other p p (subst (λ z. stands_before p z ≡ true) (sym (same-is p q e)) h)))
 
 -- where the entry at the rank is the path's, this is its place
-pub found : (p : List ℕ) (es : List Entry) (n : ℕ) (e : Entry) → n ≡ rank p es → n < length es → e ≡ slice_index_or es n e → same_path p e.path ≡ true → n ≡ place_in p es
+pub found : (p : List ℕ) (es : List Entry) (n : ℕ) (e : Entry) → n ≡ rank p es → n < length es → e ≡ slice_index_or es n e → same_path p e.path ≡ true →
+    n ≡ place_in p es
 found p [] n e r lt q h = absurd (omega arith)
 found p (x ∷ es) n e r lt q h = go (found p es) (stands_before x.path p) refl n r lt q
   where
-    go : ((m : ℕ) (f : Entry) → m ≡ rank p es → m < length es → f ≡ slice_index_or es m f → same_path p f.path ≡ true → m ≡ place_in p es) → (b : Bool) → stands_before x.path p ≡ b → (n : ℕ) → n ≡ (if b then suc (rank p es) else 0) → n < suc (length es) → e ≡ slice_index_or (x ∷ es) n e → n ≡ place_in p (x ∷ es)
+    go : ((m : ℕ) (f : Entry) → m ≡ rank p es → m < length es → f ≡ slice_index_or es m f → same_path p f.path ≡ true → m ≡ place_in p es) → (b : Bool) →
+        stands_before x.path p ≡ b → (n : ℕ) → n ≡ (if b then suc (rank p es) else 0) → n < suc (length es) → e ≡ slice_index_or (x ∷ es) n e →
+        n ≡ place_in p (x ∷ es)
     go f true w zero r lt q = absurd (omega arith)
     go f true w (suc n) r lt q =
         let i : n ≡ place_in p es = f n e (omega arith) (omega arith) q h in
@@ -152,14 +163,17 @@ found p (x ∷ es) n e r lt q h = go (found p es) (stands_before x.path p) refl 
         subst (λ b. 0 ≡ (if b then 0 else suc (place_in p es))) (sym (ap (λ (z : Entry). same_path p z.path) (sym q) ∙ h)) refl
 
 -- where it is another's, the path has no entry
-pub missed : (p : List ℕ) (es : List Entry) (n : ℕ) (e : Entry) → is_ordered es ≡ true → n ≡ rank p es → n < length es → e ≡ slice_index_or es n e → same_path p e.path ≡ false → length es ≡ place_in p es
+pub missed : (p : List ℕ) (es : List Entry) (n : ℕ) (e : Entry) → is_ordered es ≡ true → n ≡ rank p es → n < length es → e ≡ slice_index_or es n e →
+    same_path p e.path ≡ false → length es ≡ place_in p es
 missed p [] n e o r lt q h = refl
 missed p (x ∷ es) n e o r lt q h = go (missed p es) (stands_before x.path p) refl n r lt q
   where
     all : before_all x.path es ≡ true
     all = and-left (before_all x.path es) (is_ordered es) o
 
-    go : ((m : ℕ) (f : Entry) → is_ordered es ≡ true → m ≡ rank p es → m < length es → f ≡ slice_index_or es m f → same_path p f.path ≡ false → length es ≡ place_in p es) → (b : Bool) → stands_before x.path p ≡ b → (n : ℕ) → n ≡ (if b then suc (rank p es) else 0) → n < suc (length es) → e ≡ slice_index_or (x ∷ es) n e → suc (length es) ≡ place_in p (x ∷ es)
+    go : ((m : ℕ) (f : Entry) → is_ordered es ≡ true → m ≡ rank p es → m < length es → f ≡ slice_index_or es m f → same_path p f.path ≡ false →
+        length es ≡ place_in p es) → (b : Bool) → stands_before x.path p ≡ b → (n : ℕ) → n ≡ (if b then suc (rank p es) else 0) → n < suc (length es) →
+        e ≡ slice_index_or (x ∷ es) n e → suc (length es) ≡ place_in p (x ∷ es)
     go f true w zero r lt q = absurd (omega arith)
     go f true w (suc n) r lt q =
         let i : length es ≡ place_in p es = f n e (and-right (before_all x.path es) (is_ordered es) o) (omega arith) (omega arith) q h in
@@ -167,14 +181,16 @@ missed p (x ∷ es) n e o r lt q h = go (missed p es) (stands_before x.path p) r
     go f false w (suc n) r lt q = absurd (omega arith)
     go f false w zero r lt q =
         let s : same_path p x.path ≡ false = ap (λ (z : Entry). same_path p z.path) (sym q) ∙ h in
-        subst (λ b. suc (length es) ≡ (if b then 0 else suc (place_in p es))) (sym s) (ap suc (sym (not-among p es (further p x.path es (before-total p x.path w s) all))))
+        subst (λ b. suc (length es) ≡ (if b then 0 else suc (place_in p es))) (sym s)
+            (ap suc (sym (not-among p es (further p x.path es (before-total p x.path w s) all))))
 
 -- nor where all entries stand before it
 pub past-all : (p : List ℕ) (es : List Entry) (n : ℕ) → n ≡ rank p es → length es ≤ n → length es ≡ place_in p es
 past-all p [] n r le = refl
 past-all p (x ∷ es) n r le = go (past-all p es) (stands_before x.path p) refl n r le
   where
-    go : ((m : ℕ) → m ≡ rank p es → length es ≤ m → length es ≡ place_in p es) → (b : Bool) → stands_before x.path p ≡ b → (n : ℕ) → n ≡ (if b then suc (rank p es) else 0) → suc (length es) ≤ n → suc (length es) ≡ place_in p (x ∷ es)
+    go : ((m : ℕ) → m ≡ rank p es → length es ≤ m → length es ≡ place_in p es) → (b : Bool) → stands_before x.path p ≡ b → (n : ℕ) →
+        n ≡ (if b then suc (rank p es) else 0) → suc (length es) ≤ n → suc (length es) ≡ place_in p (x ∷ es)
     go f true w zero r le = absurd (omega arith)
     go f true w (suc n) r le =
         let i : length es ≡ place_in p es = f n (omega arith) (omega arith) in
@@ -220,7 +236,8 @@ without-ordered p (e ∷ es) h =
     ]
 
 -- and where a child's is put before its parent's that fits there
-pub entered-before : (q p c : List ℕ) (a : Rights) (es : List Entry) → before_all q es ≡ true → stands_before q c ≡ true → before_all q (entered_in p c a es) ≡ true
+pub entered-before : (q p c : List ℕ) (a : Rights) (es : List Entry) → before_all q es ≡ true → stands_before q c ≡ true →
+    before_all q (entered_in p c a es) ≡ true
 entered-before q p c a [] h g = refl
 entered-before q p c a (e ∷ es) h g =
     let l : stands_before q e.path ≡ true = and-left (stands_before q e.path) (before_all q es) h in
@@ -240,7 +257,9 @@ entered-ordered p c a (e ∷ es) h g = go (entered-ordered p c a es) (same_path 
     r : is_ordered es ≡ true
     r = and-right (before_all e.path es) (is_ordered es) h
 
-    go : (is_ordered es ≡ true → fits p c es ≡ true → is_ordered (entered_in p c a es) ≡ true) → (b : Bool) → (if b then stands_before c e.path else (stands_before e.path c && fits p c es)) ≡ true → is_ordered (if b then newborn c a e ∷ (e ∷ es) else e ∷ entered_in p c a es) ≡ true
+    go : (is_ordered es ≡ true → fits p c es ≡ true → is_ordered (entered_in p c a es) ≡ true) → (b : Bool) →
+        (if b then stands_before c e.path else (stands_before e.path c && fits p c es)) ≡ true →
+        is_ordered (if b then newborn c a e ∷ (e ∷ es) else e ∷ entered_in p c a es) ≡ true
     go f true g = and-both (before_all c (e ∷ es)) (is_ordered (e ∷ es)) (and-both (stands_before c e.path) (before_all c es) g (further c e.path es g l)) h
     go f false g =
         let b : stands_before e.path c ≡ true = and-left (stands_before e.path c) (fits p c es) g in
@@ -259,7 +278,8 @@ implied false true f = absurd (let x = f refl in cc)
 implied false false f = refl
 
 -- an entry more in front asks no more
-within : (c : List ℕ) (e : Entry) (es : List Entry) (n : ℕ) → is_ordered (e ∷ es) ≡ true → n < length es → fits_at (suc n) c (e ∷ es) ≡ stands_before e.path c && fits_at n c es
+within : (c : List ℕ) (e : Entry) (es : List Entry) (n : ℕ) → is_ordered (e ∷ es) ≡ true → n < length es →
+    fits_at (suc n) c (e ∷ es) ≡ stands_before e.path c && fits_at n c es
 within c e [] n o lt = absurd (omega arith)
 within c e (x ∷ es) zero o lt = swap (stands_before c x.path) (stands_before e.path c)
 within c e (x ∷ es) (suc n) o lt =
@@ -267,7 +287,8 @@ within c e (x ∷ es) (suc n) o lt =
     let r : is_ordered (x ∷ es) ≡ true = and-right (before_all e.path (x ∷ es)) (is_ordered (x ∷ es)) o in
     let b : stands_before e.path x.path ≡ true = and-left (stands_before e.path x.path) (before_all e.path es) l in
     let i : fits_at (suc n) c (x ∷ es) ≡ stands_before x.path c && fits_at n c es = within c x es n r (omega arith) in
-    implied (stands_before e.path c) (fits_at (suc n) c (x ∷ es)) (λ t. before-trans e.path x.path c b (and-left (stands_before x.path c) (fits_at n c es) (sym i ∙ t)))
+    implied (stands_before e.path c) (fits_at (suc n) c (x ∷ es))
+        (λ t. before-trans e.path x.path c b (and-left (stands_before x.path c) (fits_at n c es) (sym i ∙ t)))
 
 -- where it fits is told by two entries
 pub fits-there : (p c : List ℕ) (es : List Entry) → is_ordered es ≡ true → place_in p es < length es → fits_at (place_in p es) c es ≡ fits p c es
@@ -277,7 +298,9 @@ fits-there p c (e ∷ es) h lt = go (fits-there p c es) (same_path p e.path) lt
     r : is_ordered es ≡ true
     r = and-right (before_all e.path es) (is_ordered es) h
 
-    go : (is_ordered es ≡ true → place_in p es < length es → fits_at (place_in p es) c es ≡ fits p c es) → (b : Bool) → (if b then 0 else suc (place_in p es)) < suc (length es) → fits_at (if b then 0 else suc (place_in p es)) c (e ∷ es) ≡ (if b then stands_before c e.path else (stands_before e.path c && fits p c es))
+    go : (is_ordered es ≡ true → place_in p es < length es → fits_at (place_in p es) c es ≡ fits p c es) → (b : Bool) →
+        (if b then 0 else suc (place_in p es)) < suc (length es) →
+        fits_at (if b then 0 else suc (place_in p es)) c (e ∷ es) ≡ (if b then stands_before c e.path else (stands_before e.path c && fits p c es))
     go f true lt = refl
     go f false lt = within c e es (place_in p es) h (omega arith) ∙ ap (λ b. stands_before e.path c && b) (f r (omega arith))
 
@@ -290,7 +313,8 @@ pub fits-past : (p c : List ℕ) (es : List Entry) → length es ≤ place_in p 
 fits-past p c [] le = refl
 fits-past p c (e ∷ es) le = go (fits-past p c es) (same_path p e.path) le
   where
-    go : (length es ≤ place_in p es → fits p c es ≡ false) → (b : Bool) → suc (length es) ≤ (if b then 0 else suc (place_in p es)) → (if b then stands_before c e.path else (stands_before e.path c && fits p c es)) ≡ false
+    go : (length es ≤ place_in p es → fits p c es ≡ false) → (b : Bool) → suc (length es) ≤ (if b then 0 else suc (place_in p es)) →
+        (if b then stands_before c e.path else (stands_before e.path c && fits p c es)) ≡ false
     go f true le = absurd (omega arith)
     go f false le = and-none (stands_before e.path c) (fits p c es) (f (omega arith))
 
@@ -320,7 +344,8 @@ pub fitted-out : (p c : List ℕ) (a : Rights) (es : List Entry) → fits p c es
 fitted-out p c a es h = subst (λ b. es ≡ (if b then entered_in p c a es else es)) (sym h) refl
 
 -- two entries tell of a place past the front, and the later alone where it does not let the child stand before it
-pub fits-pair : (k : List ℕ) (es : List Entry) (n m : ℕ) (e f : Entry) → n ≡ suc m → n < length es → e ≡ slice_index_or es n e → f ≡ slice_index_or es m f → fits_at n k es ≡ stands_before k e.path && stands_before f.path k
+pub fits-pair : (k : List ℕ) (es : List Entry) (n m : ℕ) (e f : Entry) → n ≡ suc m → n < length es → e ≡ slice_index_or es n e → f ≡ slice_index_or es m f →
+    fits_at n k es ≡ stands_before k e.path && stands_before f.path k
 fits-pair k es zero m e f s lt q r = absurd (omega arith)
 fits-pair k [] (suc n) m e f s lt q r = absurd (omega arith)
 fits-pair k (x ∷ []) (suc n) m e f s lt q r = absurd (omega arith)
@@ -330,7 +355,8 @@ fits-pair k (x ∷ (y ∷ es)) (suc zero) (suc m) e f s lt q r = absurd (omega a
 fits-pair k (x ∷ (y ∷ es)) (suc (suc n)) zero e f s lt q r = absurd (omega arith)
 fits-pair k (x ∷ (y ∷ es)) (suc (suc n)) (suc m) e f s lt q r = fits-pair k (y ∷ es) (suc n) m e f (omega arith) (omega arith) q r
 
-pub fits-not : (k : List ℕ) (es : List Entry) (n : ℕ) (e : Entry) → n < length es → e ≡ slice_index_or es n e → stands_before k e.path ≡ false → fits_at n k es ≡ false
+pub fits-not : (k : List ℕ) (es : List Entry) (n : ℕ) (e : Entry) → n < length es → e ≡ slice_index_or es n e → stands_before k e.path ≡ false →
+    fits_at n k es ≡ false
 fits-not k [] n e lt q h = refl
 fits-not k (x ∷ es) zero e lt q h = ap (λ (z : Entry). stands_before k z.path) (sym q) ∙ h
 fits-not k (x ∷ []) (suc n) e lt q h = absurd (omega arith)

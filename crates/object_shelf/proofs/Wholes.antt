@@ -1,16 +1,15 @@
 -- An object keeps its content in one place.
-use Rattle.std.proofs.Common.{◌≡◌, ℕ, zero, suc, Bool, true, false, ◌&&◌, ◌||◌, List, [], ◌∷◌, length, refl, sym, ap, ◌∙◌, subst, Option, Some, None, is_some, arith}
+use Rattle.std.proofs.Common.{◌≡◌, ℕ, suc, Bool, true, false, ◌&&◌, ◌||◌, List, [], ◌∷◌, length, refl, sym, ap, ◌∙◌, subst, Option, Some, None, is_some, arith}
 use Rattle.std.specs.Prelude.{ℤ, if◌then◌else◌}
 use Rattle.jade_base.specs.declared.rights.Rights.{Rights}
 use Rattle.jade_base.specs.declared.rights.Mode.{Mode}
 use Rattle.jade_base.specs.declared.rights.Mode.TheVariants.{Reading, Writing, Commuting}
 use Rattle.jade_base.specs.Held.{Held}
 use Rattle.object_shelf.specs.declared.queue.Entry.{Entry}
-use Rattle.object_shelf.specs.Views.{ShelfView}
-use Rattle.object_shelf.specs.Shelves.{same_path, find, at, without, takes_out, holder_in, entered_in, newborn, held_with, held_for, or_fresh, version_at, version_or}
+use Rattle.object_shelf.specs.Shelves.{same_path, find, at, without, takes_out, holder_in, entered_in, newborn, held_with, held_for, or_fresh, version_or}
 use Rattle.object_shelf.specs.Order.{stands_before, fits, fitted_in}
-use Rattle.object_shelf.specs.Homes.{hand_of, hand_in, kept_of, or_home}
-use Rattle.object_shelf.specs.Whole.{content_of, is_one, is_out, was_kept, in_hand, in_hand_as}
+use Rattle.object_shelf.specs.Homes.{hand_of, kept_of, or_home}
+use Rattle.object_shelf.specs.Whole.{content_of, is_out, was_kept, in_hand, in_hand_as}
 use Rattle.object_shelf.proofs.Order.{same-refl, before-other}
 
 or-left : (a b : Bool) → a ≡ true → a || b ≡ true
@@ -39,7 +38,8 @@ holder-none (x ∷ es) h = go (takes_out x.hold) (holder-none es) h
     go false f h = f h
 
 -- a change of holds that puts nothing out
-pub at-out : (p : List ℕ) (f : Entry → Entry) → ((e : Entry) → takes_out (f e).hold ≡ true → takes_out e.hold ≡ true) → (es : List Entry) → is_out (at p f es) ≡ true → is_out es ≡ true
+pub at-out : (p : List ℕ) (f : Entry → Entry) → ((e : Entry) → takes_out (f e).hold ≡ true → takes_out e.hold ≡ true) → (es : List Entry) →
+    is_out (at p f es) ≡ true → is_out es ≡ true
 at-out p f k [] h = h
 at-out p f k (x ∷ es) h = go (same_path p x.path) (at-out p f k es) h
   where
@@ -51,7 +51,8 @@ at-out p f k (x ∷ es) h = go (same_path p x.path) (at-out p f k es) h
     rest true b c f h = refl
     rest false b c f h = f h
 
-    go : (b : Bool) → (is_out (at p f es) ≡ true → is_out es ≡ true) → is_out (if b then f x ∷ es else x ∷ at p f es) ≡ true → takes_out x.hold || is_out es ≡ true
+    go : (b : Bool) → (is_out (at p f es) ≡ true → is_out es ≡ true) → is_out (if b then f x ∷ es else x ∷ at p f es) ≡ true →
+        takes_out x.hold || is_out es ≡ true
     go true g h = first (takes_out (f x).hold) (takes_out x.hold) (is_out es) (k x) h
     go false g h = rest (takes_out x.hold) (is_out (at p f es)) (is_out es) g h
 
@@ -63,7 +64,8 @@ without-out p (x ∷ es) h = go (same_path p x.path) (without-out p es) h
     rest true b c f h = refl
     rest false b c f h = f h
 
-    go : (b : Bool) → (is_out (without p es) ≡ true → is_out es ≡ true) → is_out (if b then es else x ∷ without p es) ≡ true → takes_out x.hold || is_out es ≡ true
+    go : (b : Bool) → (is_out (without p es) ≡ true → is_out es ≡ true) → is_out (if b then es else x ∷ without p es) ≡ true →
+        takes_out x.hold || is_out es ≡ true
     go true g h = or-right (takes_out x.hold) (is_out es) h
     go false g h = rest (takes_out x.hold) (is_out (without p es)) (is_out es) g h
 
@@ -85,7 +87,9 @@ entered-length p c a (x ∷ es) h = go (same_path p x.path) (entered-length p c 
     right true b h = h
     right false b h = absurd (cc)
 
-    go : (b : Bool) → (fits p c es ≡ true → length (entered_in p c a es) ≡ suc (length es)) → (if b then stands_before c x.path else (stands_before x.path c && fits p c es)) ≡ true → length (if b then newborn c a x ∷ (x ∷ es) else x ∷ entered_in p c a es) ≡ suc (suc (length es))
+    go : (b : Bool) → (fits p c es ≡ true → length (entered_in p c a es) ≡ suc (length es)) →
+        (if b then stands_before c x.path else (stands_before x.path c && fits p c es)) ≡ true →
+        length (if b then newborn c a x ∷ (x ∷ es) else x ∷ entered_in p c a es) ≡ suc (suc (length es))
     go true f h = refl
     go false f h = ap suc (f (right (stands_before x.path c) (fits p c es) h))
 
@@ -109,17 +113,23 @@ entered-left p c a (x ∷ es) h = go (same_path p x.path) (entered-left p c a es
     right true b h = h
     right false b h = absurd (cc)
 
-    go : (b : Bool) → (fits p c es ≡ true → without c (entered_in p c a es) ≡ es) → (if b then stands_before c x.path else (stands_before x.path c && fits p c es)) ≡ true → without c (if b then newborn c a x ∷ (x ∷ es) else x ∷ entered_in p c a es) ≡ x ∷ es
+    go : (b : Bool) → (fits p c es ≡ true → without c (entered_in p c a es) ≡ es) →
+        (if b then stands_before c x.path else (stands_before x.path c && fits p c es)) ≡ true →
+        without c (if b then newborn c a x ∷ (x ∷ es) else x ∷ entered_in p c a es) ≡ x ∷ es
     go true f h = subst (λ b. (if b then x ∷ es else newborn c a x ∷ without c (x ∷ es)) ≡ x ∷ es) (sym (same-refl c)) refl
     go false f h =
-        subst (λ b. (if b then entered_in p c a es else x ∷ without c (entered_in p c a es)) ≡ x ∷ es) (sym (before-other x.path c (left (stands_before x.path c) (fits p c es) h))) (ap (λ ys. x ∷ ys) (f (right (stands_before x.path c) (fits p c es) h)))
+        subst (λ b. (if b then entered_in p c a es else x ∷ without c (entered_in p c a es)) ≡ x ∷ es)
+            (sym (before-other x.path c (left (stands_before x.path c) (fits p c es) h)))
+            (ap (λ ys. x ∷ ys) (f (right (stands_before x.path c) (fits p c es) h)))
 
 -- two changes that agree on the path's entry
 pub at-found : (p : List ℕ) (f g : Entry → Entry) (es : List Entry) → ((e : Entry) → find p es ≡ Some e → f e ≡ g e) → at p f es ≡ at p g es
 at-found p f g [] k = refl
 at-found p f g (x ∷ es) k = go (same_path p x.path) (at-found p f g es) k
   where
-    go : (b : Bool) → (((e : Entry) → find p es ≡ Some e → f e ≡ g e) → at p f es ≡ at p g es) → ((e : Entry) → (if b then Some x else find p es) ≡ Some e → f e ≡ g e) → (if b then f x ∷ es else x ∷ at p f es) ≡ (if b then g x ∷ es else x ∷ at p g es)
+    go : (b : Bool) → (((e : Entry) → find p es ≡ Some e → f e ≡ g e) → at p f es ≡ at p g es) →
+        ((e : Entry) → (if b then Some x else find p es) ≡ Some e → f e ≡ g e) →
+        (if b then f x ∷ es else x ∷ at p f es) ≡ (if b then g x ∷ es else x ∷ at p g es)
     go true i k = ap (λ y. y ∷ es) (k x refl)
     go false i k = ap (λ ys. x ∷ ys) (i k)
 
@@ -128,7 +138,8 @@ read-version None None c xs q = absurd (cc)
 read-version None (Some ys) c xs q = refl
 read-version (Some zs) h c xs q = refl
 
-pub taken-queue : (p : List ℕ) (m : Mode) (es : List Entry) (h : Option (List ℤ)) (c : Option Held) (xs : List ℤ) → hand_of m (find p es) h ≡ Some xs → at p (held_with m (kept_of m (hand_of m (find p es) h))) es ≡ at p (held_for m (content_of h c)) es
+pub taken-queue : (p : List ℕ) (m : Mode) (es : List Entry) (h : Option (List ℤ)) (c : Option Held) (xs : List ℤ) → hand_of m (find p es) h ≡ Some xs →
+    at p (held_with m (kept_of m (hand_of m (find p es) h))) es ≡ at p (held_for m (content_of h c)) es
 taken-queue p Writing es h c xs q = at-found p _ _ es (λ e k. refl)
 taken-queue p Commuting es h c xs q = at-found p _ _ es (λ e k. refl)
 taken-queue p Reading es h c xs q = at-found p _ _ es (λ e k. own e k)
@@ -138,23 +149,30 @@ taken-queue p Reading es h c xs q = at-found p _ _ es (λ e k. own e k)
         let r : hand_of Reading (find p es) h ≡ or_home e.version h = ap (λ o. hand_of Reading o h) k in
         ap (λ v. record e { hold = Some Reading; version = v }) (ap (λ o. or_fresh o e.version) r ∙ read-version e.version h c xs (sym r ∙ q))
 
-out-there : (p : List ℕ) (f : Entry → Entry) (es : List Entry) (e : Entry) → find p es ≡ Some e → ((x : Entry) → takes_out (f x).hold ≡ true) → is_out (at p f es) ≡ true
+out-there : (p : List ℕ) (f : Entry → Entry) (es : List Entry) (e : Entry) → find p es ≡ Some e → ((x : Entry) → takes_out (f x).hold ≡ true) →
+    is_out (at p f es) ≡ true
 out-there p f [] e k t = absurd (cc)
 out-there p f (x ∷ es) e k t = go (same_path p x.path) (λ k. out-there p f es e k t) k
   where
-    go : (b : Bool) → (find p es ≡ Some e → is_out (at p f es) ≡ true) → (if b then Some x else find p es) ≡ Some e → is_out (if b then f x ∷ es else x ∷ at p f es) ≡ true
+    go : (b : Bool) → (find p es ≡ Some e → is_out (at p f es) ≡ true) → (if b then Some x else find p es) ≡ Some e →
+        is_out (if b then f x ∷ es else x ∷ at p f es) ≡ true
     go true i k = or-left (takes_out (f x).hold) (is_out es) (t x)
     go false i k = or-right (takes_out x.hold) (is_out (at p f es)) (i k)
 
-out-same : (p : List ℕ) (f : Entry → Entry) (es : List Entry) → ((e : Entry) → find p es ≡ Some e → takes_out (f e).hold ≡ takes_out e.hold) → is_out (at p f es) ≡ is_out es
+out-same : (p : List ℕ) (f : Entry → Entry) (es : List Entry) → ((e : Entry) → find p es ≡ Some e → takes_out (f e).hold ≡ takes_out e.hold) →
+    is_out (at p f es) ≡ is_out es
 out-same p f [] k = refl
 out-same p f (x ∷ es) k = go (same_path p x.path) (out-same p f es) k
   where
-    go : (b : Bool) → (((e : Entry) → find p es ≡ Some e → takes_out (f e).hold ≡ takes_out e.hold) → is_out (at p f es) ≡ is_out es) → ((e : Entry) → (if b then Some x else find p es) ≡ Some e → takes_out (f e).hold ≡ takes_out e.hold) → is_out (if b then f x ∷ es else x ∷ at p f es) ≡ takes_out x.hold || is_out es
+    go : (b : Bool) → (((e : Entry) → find p es ≡ Some e → takes_out (f e).hold ≡ takes_out e.hold) → is_out (at p f es) ≡ is_out es) →
+        ((e : Entry) → (if b then Some x else find p es) ≡ Some e → takes_out (f e).hold ≡ takes_out e.hold) →
+        is_out (if b then f x ∷ es else x ∷ at p f es) ≡ takes_out x.hold || is_out es
     go true i k = ap (λ b. b || is_out es) (k x refl)
     go false i k = ap (λ b. takes_out x.hold || b) (i k)
 
-pub taken-out : (p : List ℕ) (m : Mode) (es : List Entry) (h : Option (List ℤ)) (c : Option Held) (d : Held) (v : Option (List ℤ)) → hand_of m (find p es) h ≡ Some d.cells → d.mode ≡ m → was_kept v (find p es) → is_some c ≡ is_out es → is_some (in_hand d c) ≡ is_out (at p (held_with m (kept_of m (hand_of m (find p es) h))) es)
+pub taken-out : (p : List ℕ) (m : Mode) (es : List Entry) (h : Option (List ℤ)) (c : Option Held) (d : Held) (v : Option (List ℤ)) →
+    hand_of m (find p es) h ≡ Some d.cells → d.mode ≡ m → was_kept v (find p es) → is_some c ≡ is_out es →
+    is_some (in_hand d c) ≡ is_out (at p (held_with m (kept_of m (hand_of m (find p es) h))) es)
 taken-out p m es h c d v q w k o = ap (λ n. is_some (in_hand_as n d c)) w ∙ go m (find p es) refl q k
   where
     f : Mode → Entry → Entry

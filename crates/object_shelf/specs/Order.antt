@@ -1,5 +1,5 @@
 -- The serial order of tasks, and of the entries of a queue.
-use Rattle.std.specs.Prelude.{ℕ, zero, suc, Bool, true, false, ◌&&◌, ◌||◌, List, [], ◌∷◌, Option, Some, None, nat_eq, nat_lt, slice_get, if◌then◌else◌}
+use Rattle.std.specs.Prelude.{ℕ, zero, suc, Bool, true, false, ◌&&◌, ◌||◌, List, [], ◌∷◌, nat_eq, nat_lt, if◌then◌else◌}
 use Rattle.jade_base.specs.declared.rights.Rights.{Rights}
 use Rattle.object_shelf.specs.declared.queue.Entry.{Entry}
 use Rattle.object_shelf.specs.Shelves.{same_path, entered_in}

@@ -1,18 +1,16 @@
 //! A case: the limit, the numbers, the picks, and the text.
 
-use crate::words::{blame, key};
-use jade_base::{Memory, Report, SureSink, SureSource, Word};
-use jade_lexer::tokens;
-use jade_parser::parse;
-use jade_run::{EmptyGate, run_in_memory, texts};
+ghost use Rattle.std.specs.Prelude.{◌≡◌, ◌≤◌, length};
+
+use crate::words::{blame, key, static_word};
+use jade_base::{Memory, ObjectId, Pos, Report};
+use jade_lexer::{LexError, tokens};
+use jade_parser::{ParseError, parse};
 use jade_syntax::Checked;
-use jade_types::check;
+use jade_types::{TypeError, check};
 use schedule_core::play;
 use std::alloc::Global;
 use std::str;
-
-/// The most bytes that `run` writes of a case that it refuses.
-const ROOM: usize = 4096;
 
 /// Why the cases could not be played to their end.
 #[derive(Clone, Copy, Debug, PartialEq, Eq)]
@@ -31,13 +29,18 @@ impl From<Memory> for Stop {
     }
 }
 
+/// What a text is refused for, and where.
+struct Refused {
+    at: Pos,
+    why: &'static str,
+}
+
 /// A case, and its text so far.
 #[derive(Drop)]
 pub(crate) struct Case {
     limit: u32,
     numbers: Vec<i64>,
     picks: Vec<u32>,
-    words: Vec<Word>,
     text: Vec<u8>,
     has_lines: bool,
 }
@@ -49,16 +52,9 @@ impl Case {
             limit: 0,
             numbers: Vec::new(alloc),
             picks: Vec::new(alloc),
-            words: Vec::new(alloc),
             text: Vec::new(alloc),
             has_lines: false,
         };
-        case.words
-            .push(Word::of(alloc, b"run")?)
-            .map_err(|_| Stop::Failed)?;
-        case.words
-            .push(Word::of(alloc, b"1")?)
-            .map_err(|_| Stop::Failed)?;
         let mut picking = false;
         for word in line.split(' ') {
             if word == ":" {
@@ -67,22 +63,21 @@ impl Case {
                 let pick = word.parse::<u32>().map_err(|_| Stop::Line)?;
                 case.picks.push(pick).map_err(|_| Stop::Failed)?;
             } else {
-                case.put_word(alloc, word)?;
+                case.put_word(word)?;
             }
         }
         Ok(case)
     }
 
     /// The limit, or a number after it.
-    fn put_word(&mut self, alloc: Global, word: &str) -> Result<(), Stop> {
+    fn put_word(&mut self, word: &str) -> Result<(), Stop> {
         if self.limit == 0 {
             self.limit = word.parse::<u32>().map_err(|_| Stop::Line)?;
         } else {
             let number = word.parse::<i64>().map_err(|_| Stop::Line)?;
             self.numbers.push(number).map_err(|_| Stop::Failed)?;
         }
-        let word = Word::of(alloc, word.as_bytes())?;
-        self.words.push(word).map_err(|_| Stop::Failed)
+        Ok(())
     }
 
     /// Puts a line of its text last.
@@ -96,50 +91,84 @@ impl Case {
             .map_err(|_| Stop::Failed)
     }
 
-    /// Plays the case, and prints its report.
+    /// Plays the case, and prints its report, or why its text or its count of numbers is refused.
     pub(crate) fn play(self, rt: &HostRuntime, alloc: Global) -> Result<(), Stop> {
-        if let Some(checked) = program_of(alloc, self.text.as_slice()) {
-            if checked.inputs() as usize == self.numbers.len() && self.limit >= 1 {
-                let numbers = self.numbers.as_slice();
-                let report = play(alloc, &checked, numbers, self.limit, self.picks.as_slice())?;
-                return print(rt, alloc, &checked, &report);
-            }
+        if self.text.len() > 1_048_576 || self.limit == 0 {
+            return Err(Stop::Line);
         }
-        self.refuse(rt, alloc)
-    }
-
-    /// Prints what `run` writes of the case.
-    fn refuse(self, rt: &HostRuntime, alloc: Global) -> Result<(), Stop> {
-        let mut source = SureSource::new(self.text);
-        let mut sink = SureSink::new(alloc, ROOM)?;
-        let _ = run_in_memory(rt, alloc, &self.words, &mut source, &mut sink, &EmptyGate);
-        let written = str::from_utf8(sink.taken()).map_err(|_| Stop::Line)?;
-        print!(rt; "{written}").map_err(|_| Stop::Failed)
+        let checked = match checked_of(alloc, self.text.as_slice())? {
+            Ok(checked) => checked,
+            Err(refused) => {
+                let Refused { at, why } = refused;
+                return println!(rt; "refused {}:{} {why}", at.line, at.column)
+                    .map_err(|_| Stop::Failed);
+            }
+        };
+        let (want, got) = (checked.inputs() as usize, self.numbers.len());
+        if want != got {
+            return println!(rt; "numbers: want {want}, got {got}").map_err(|_| Stop::Failed);
+        }
+        let numbers = self.numbers.as_slice();
+        let report = play(alloc, &checked, numbers, self.limit, self.picks.as_slice())?;
+        print(rt, alloc, &checked, &report)
     }
 }
 
-/// The checked program of a text; nothing where the text is refused, or for want of memory.
-fn program_of(alloc: Global, text: &[u8]) -> Option<Checked> {
-    if text.len() > 1_048_576 {
-        return None;
-    }
-    let Ok(tokens) = tokens(alloc, text) else {
-        return None;
+/// The checked program of a text, or what the text is refused for. The error is want of memory.
+fn checked_of(alloc: Global, text: &[u8]) -> Result<Result<Checked, Refused>, Stop>
+    requires { length text.now ≤ 1048576 }
+{
+    let tokens = match tokens(alloc, text) {
+        Ok(tokens) => tokens,
+        Err(LexError::Byte(at)) => return Ok(Err(Refused { at, why: "byte" })),
+        Err(LexError::Number(at)) => return Ok(Err(Refused { at, why: "number" })),
+        Err(LexError::Deep(at)) => return Ok(Err(Refused { at, why: "deep" })),
+        Err(LexError::Memory) => return Err(Stop::Failed),
     };
-    match parse(alloc, &tokens) {
-        Ok(program) => match check(alloc, program) {
-            Ok(checked) => Some(checked),
-            Err(_) => None,
-        },
-        Err(_) => None,
+    let program = match parse(alloc, &tokens) {
+        Ok(program) => program,
+        Err(ParseError::Token(at)) => return Ok(Err(Refused { at, why: "token" })),
+        Err(ParseError::Long(at)) => return Ok(Err(Refused { at, why: "long" })),
+        Err(ParseError::Memory) => return Err(Stop::Failed),
+    };
+    match check(alloc, program) {
+        Ok(checked) => Ok(Ok(checked)),
+        Err(TypeError::Refused(at, kind)) => Ok(Err(Refused {
+            at,
+            why: static_word(kind),
+        })),
+        Err(TypeError::Memory) => Err(Stop::Failed),
     }
+}
+
+/// Prints an object's name and its cells.
+fn print_object(
+    rt: &HostRuntime,
+    checked: &Checked,
+    report: &Report,
+    object: u32,
+) -> Result<(), Stop> {
+    if object >= checked.objects() || object as usize >= report.objects.len() {
+        return Ok(());
+    }
+    let (name, member) = checked.label(ObjectId(object));
+    let name = str::from_utf8(name.bytes()).map_err(|_| Stop::Line)?;
+    match member {
+        Some(member) => print!(rt; "{name}[{member}] ="),
+        None => print!(rt; "{name} ="),
+    }
+    .map_err(|_| Stop::Failed)?;
+    for cell in report.objects.at(object as usize).as_slice() {
+        print!(rt; " {cell}").map_err(|_| Stop::Failed)?;
+    }
+    println!(rt;).map_err(|_| Stop::Failed)
 }
 
 /// Prints the objects, the faults and the steps of a report.
 fn print(rt: &HostRuntime, alloc: Global, checked: &Checked, report: &Report) -> Result<(), Stop> {
-    let objects = texts::objects(alloc, checked, &report.objects).map_err(|_| Stop::Failed)?;
-    let objects = str::from_utf8(&objects).map_err(|_| Stop::Line)?;
-    print!(rt; "{objects}").map_err(|_| Stop::Failed)?;
+    for object in 0..checked.objects() {
+        print_object(rt, checked, report, object)?;
+    }
     for fault in report.faults.as_slice() {
         let key = key(alloc, &fault.path, fault.children)?;
         let blame = blame(alloc, fault.blame)?;

@@ -2,6 +2,7 @@
 
 use crate::case::Stop;
 use jade_base::{Blame, FaultKind, Path};
+use jade_syntax::StaticKind;
 use std::alloc::Global;
 
 /// The word of a fault.
@@ -15,6 +16,17 @@ fn kind_word(kind: FaultKind) -> &'static str {
         FaultKind::Cover => "cover",
         FaultKind::Change => "change",
         FaultKind::Limit => "limit",
+    }
+}
+
+/// The word of a static fault.
+pub(crate) fn static_word(kind: StaticKind) -> &'static str {
+    match kind {
+        StaticKind::Name => "name",
+        StaticKind::Twice => "twice",
+        StaticKind::Kind => "kind",
+        StaticKind::Assign => "assign",
+        StaticKind::Size => "size",
     }
 }
 

@@ -1,4 +1,4 @@
-use Rattle.std.proofs.Common.{List, ◌≡◌, length, ap, sym, ◌∙◌, arith}
+use Rattle.std.proofs.Common.{List, ◌≡◌, length, ap, sym, ◌∙◌}
 use Rattle.object_shelf.specs.declared.queue.Entry.{Entry}
 use Rattle.object_shelf.specs.Order.{fitted_in}
 use Rattle.object_shelf.proofs.Wholes.{same-length, fitted-same}
@@ -8,11 +8,14 @@ use Rattle.object_shelf.proofs.object.enter_in.Goals as goal
 pub returns-then-len-before-clause-unchanged : goal.returns-then-len-before-clause-unchanged
 returns-then-len-before-clause-unchanged c =
     let es = c.args.shelf.now.queue in
-    let l : length (fitted_in c.args.parent.now c.args.child.now c.args.rights es) ≡ length es = sym (ap (λ s. length s.queue) c.in_ok-enter.ensures.done) ∙ sym c.len.ensures ∙ c.if-len-before.true ∙ c.len-before.ensures in
-    c.in_ok-enter.ensures.done ∙ ap (λ (q : List Entry). record c.args.shelf.now { queue = q }) (same-length c.args.parent.now c.args.child.now c.args.rights es l)
+    let l : length (fitted_in c.args.parent.now c.args.child.now c.args.rights es) ≡ length es =
+        sym (ap (λ s. length s.queue) c.in_ok-enter.ensures.done) ∙ sym c.len.ensures ∙ c.if-len-before.true ∙ c.len-before.ensures in
+    c.in_ok-enter.ensures.done ∙ ap (λ (q : List Entry). record c.args.shelf.now { queue = q })
+        (same-length c.args.parent.now c.args.child.now c.args.rights es l)
 
 pub returns-then-len-before-clause-out : goal.returns-then-len-before-clause-out
-returns-then-len-before-clause-out c = ap (λ s. is_out s.queue) c.in_ok-enter.ensures.done ∙ fitted-same c.args.parent.now c.args.child.now c.args.rights c.args.shelf.now.queue
+returns-then-len-before-clause-out c =
+    ap (λ s. is_out s.queue) c.in_ok-enter.ensures.done ∙ fitted-same c.args.parent.now c.args.child.now c.args.rights c.args.shelf.now.queue
 
 pub returns-clause-out : goal.returns-clause-out
 returns-clause-out c = ap (λ s. is_out s.queue) c.in_ok-enter.ensures.done ∙ fitted-same c.args.parent.now c.args.child.now c.args.rights c.args.shelf.now.queue

@@ -1,4 +1,4 @@
-use Rattle.std.proofs.Common.{sym, ◌∙◌}
+use Rattle.std.proofs.Common.{sym}
 use Rattle.object_shelf.proofs.Wholes.{holder-out, holder-none}
 use Rattle.object_shelf.proofs.object.has_holder.Goals as goal
 

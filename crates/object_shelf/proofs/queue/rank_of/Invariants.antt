@@ -1,4 +1,4 @@
-use Rattle.std.proofs.Common.{◌≡◌, ◌≤◌, ◌-◌, length}
+use Rattle.std.proofs.Common.{◌≤◌, ◌-◌, length}
 use Rattle.object_shelf.specs.Order.{rank}
 use Rattle.object_shelf.proofs.queue.rank_of.Given as goal
 
