@@ -1,5 +1,33 @@
 -- The first object whose rights a working copy changes.
-use Rattle.std.proofs.Common.{◌≡◌, ℕ, ◌+◌, ◌<◌, ◌≤◌, Bool, true, false, cond, not, ◌&&◌, eqb, leb, List, [], ◌∷◌, length, drop, Option, Some, None, MatchOption, refl, sym, subst, ◌∙◌, arith}
+use Rattle.std.proofs.Common.{
+  ◌≡◌,
+  ℕ,
+  ◌+◌,
+  ◌<◌,
+  ◌≤◌,
+  Bool,
+  true,
+  false,
+  cond,
+  not,
+  ◌&&◌,
+  eqb,
+  leb,
+  List,
+  [],
+  ◌∷◌,
+  length,
+  drop,
+  Option,
+  Some,
+  None,
+  MatchOption,
+  refl,
+  sym,
+  subst,
+  ◌∙◌,
+  arith,
+}
 use Rattle.std.specs.Prelude.{slice_get, IfSome, IfNone}
 use Rattle.std.proofs.lemmas.Bool.{leb-true, le-leb, eq-eqb, ne_eqb, eqb-true}
 use Rattle.jade_base.specs.declared.place.ObjectId.{ObjectId}
@@ -12,7 +40,9 @@ use Rattle.access_spec.specs.Copies.{IsChange, IsSameBetween, IsSameFrom, copied
 use Rattle.access_spec.proofs.Places.{MatchOption-weaker, drop-slice_get}
 
 -- a search that has come to a place
-pub next_changed-turn : (es : List (ObjectId × Rights)) (ds : List Rights) (from : ObjectId) (i : ℕ) (e : ObjectId × Rights) (d : Rights) → slice_get es i ≡ Some e → slice_get ds i ≡ Some d → next_changed (drop i es) (drop i ds) from ≡ cond (leb from.0 e.0.0 && not (same_rights d e.1)) (Some (e.0, d)) (next_changed (drop (i + 1) es) (drop (i + 1) ds) from)
+pub next_changed-turn : (es : List (ObjectId × Rights)) (ds : List Rights) (from : ObjectId) (i : ℕ) (e : ObjectId × Rights) (d : Rights)
+    → slice_get es i ≡ Some e → slice_get ds i ≡ Some d → next_changed (drop i es) (drop i ds) from ≡ cond (leb from.0 e.0.0 && not (same_rights d e.1))
+    (Some (e.0, d)) (next_changed (drop (i + 1) es) (drop (i + 1) ds) from)
 next_changed-turn es ds from i e d h k = rw (drop-slice_get es i e h, drop-slice_get ds i d k)
 
 same_right-itself : (a : Right) → same_right a a ≡ true
@@ -77,7 +107,8 @@ pub record IsNext (es : List (ObjectId × Rights)) (ds : List Rights) (from : Ob
   pub least : IsSameBetween (spec_of es ds) from.0 c.0.0
   pub above : (n : ℕ) → AllAbove n es → n < c.0.0
 
-next-here : (e : ObjectId × Rights) (es : List (ObjectId × Rights)) (d : Rights) (ds : List Rights) (from : ObjectId) → IsAscending (e ∷ es) → (leb from.0 e.0.0 && not (same_rights d e.1)) ≡ true → IsNext (e ∷ es) (d ∷ ds) from (e.0, d)
+next-here : (e : ObjectId × Rights) (es : List (ObjectId × Rights)) (d : Rights) (ds : List Rights) (from : ObjectId) → IsAscending (e ∷ es)
+    → (leb from.0 e.0.0 && not (same_rights d e.1)) ≡ true → IsNext (e ∷ es) (d ∷ ds) from (e.0, d)
 next-here e es d ds from asc h =
     let p = both_parts (leb from.0 e.0.0) (same_rights d e.1) h in
     record {
@@ -94,7 +125,9 @@ next-here e es d ds from asc h =
       above = λ n a. a.0;
     }
 
-same-with : (e : ObjectId × Rights) (es : List (ObjectId × Rights)) (d : Rights) (ds : List Rights) (from : ObjectId) (o : ObjectId) → (leb from.0 e.0.0 && not (same_rights d e.1)) ≡ false → from.0 ≤ o.0 → copied_in es ds o ≡ rights_in es o → copied_in (e ∷ es) (d ∷ ds) o ≡ rights_in (e ∷ es) o
+same-with : (e : ObjectId × Rights) (es : List (ObjectId × Rights)) (d : Rights) (ds : List Rights) (from : ObjectId) (o : ObjectId)
+    → (leb from.0 e.0.0 && not (same_rights d e.1)) ≡ false → from.0 ≤ o.0 → copied_in es ds o ≡ rights_in es o → copied_in (e ∷ es) (d ∷ ds) o ≡ rights_in
+    (e ∷ es) o
 same-with e es d ds from o h above rest =
     elim (eqb e.0.0 o.0) as (λ b. eqb e.0.0 o.0 ≡ b → cond b d (copied_in es ds o) ≡ cond b e.1 (rights_in es o)) [
       | true ↦ λ q.
@@ -104,7 +137,8 @@ same-with e es d ds from o h above rest =
       | false ↦ λ q. rest
     ] refl
 
-next-later : (e : ObjectId × Rights) (es : List (ObjectId × Rights)) (d : Rights) (ds : List Rights) (from : ObjectId) (c : ObjectId × Rights) → IsAscending (e ∷ es) → (leb from.0 e.0.0 && not (same_rights d e.1)) ≡ false → IsNext es ds from c → IsNext (e ∷ es) (d ∷ ds) from c
+next-later : (e : ObjectId × Rights) (es : List (ObjectId × Rights)) (d : Rights) (ds : List Rights) (from : ObjectId) (c : ObjectId × Rights)
+    → IsAscending (e ∷ es) → (leb from.0 e.0.0 && not (same_rights d e.1)) ≡ false → IsNext es ds from c → IsNext (e ∷ es) (d ∷ ds) from c
 next-later e es d ds from c asc h next =
     let above : e.0.0 < c.0.0 = next.above e.0.0 asc.1 in
     let other = ne_eqb e.0.0 c.0.0 (λ q. omega arith) in
@@ -116,38 +150,47 @@ next-later e es d ds from c asc h next =
     }
 
 -- what a search for the next change means
-pub next-means : (es : List (ObjectId × Rights)) (ds : List Rights) (from : ObjectId) → length ds ≡ length es → IsAscending es → MatchOption (next_changed es ds from) (IsSameFrom (spec_of es ds) from.0) (IsNext es ds from)
+pub next-means : (es : List (ObjectId × Rights)) (ds : List Rights) (from : ObjectId) → length ds ≡ length es → IsAscending es
+    → MatchOption (next_changed es ds from) (IsSameFrom (spec_of es ds) from.0) (IsNext es ds from)
 next-means [] ds from h asc = λ o above. refl
 next-means (e ∷ es) [] from h asc = absurd (omega arith)
 next-means (e ∷ es) (d ∷ ds) from h asc =
-    elim (leb from.0 e.0.0 && not (same_rights d e.1)) as (λ b. (leb from.0 e.0.0 && not (same_rights d e.1)) ≡ b → MatchOption (cond b (Some (e.0, d)) (next_changed es ds from)) (IsSameFrom (spec_of (e ∷ es) (d ∷ ds)) from.0) (IsNext (e ∷ es) (d ∷ ds) from)) [
+    elim (leb from.0 e.0.0 && not (same_rights d e.1)) as (λ b. (leb from.0 e.0.0 && not (same_rights d e.1)) ≡ b
+    → MatchOption (cond b (Some (e.0, d)) (next_changed es ds from)) (IsSameFrom (spec_of (e ∷ es) (d ∷ ds)) from.0) (IsNext (e ∷ es) (d ∷ ds) from)) [
       | true ↦ λ q. next-here e es d ds from asc q
       | false ↦ λ q.
           MatchOption-weaker (next_changed es ds from) (next-means es ds from (omega arith) asc.2)
           (λ k o above. same-with e es d ds from o q above (k o above)) (λ c k. next-later e es d ds from c asc q k)
     ] refl
 
-meant : (r : Option (ObjectId × Rights)) (s : Specification) (from : ObjectId) → length s.draft ≡ length s.entries → IsAscending s.entries → r ≡ next_changed s.entries s.draft from → MatchOption r (IsSameFrom s from.0) (IsNext s.entries s.draft from)
+meant : (r : Option (ObjectId × Rights)) (s : Specification) (from : ObjectId) → length s.draft ≡ length s.entries → IsAscending s.entries
+    → r ≡ next_changed s.entries s.draft from → MatchOption r (IsSameFrom s from.0) (IsNext s.entries s.draft from)
 meant r s from h asc q = subst (λ t. MatchOption t (IsSameFrom s from.0) (IsNext s.entries s.draft from)) (sym q) (next-means s.entries s.draft from h asc)
 
-found_in : (r : Option (ObjectId × Rights)) (s : Specification) (from : ObjectId) → MatchOption r (IsSameFrom s from.0) (IsNext s.entries s.draft from) → IfSome r (λ next. IsChange s next.0 next.1)
+found_in : (r : Option (ObjectId × Rights)) (s : Specification) (from : ObjectId) → MatchOption r (IsSameFrom s from.0) (IsNext s.entries s.draft from)
+    → IfSome r (λ next. IsChange s next.0 next.1)
 found_in None s from m = tt
 found_in (Some next) s from m = m.change
 
-least_in : (r : Option (ObjectId × Rights)) (s : Specification) (from : ObjectId) → MatchOption r (IsSameFrom s from.0) (IsNext s.entries s.draft from) → IfSome r (λ next. (from.0 ≤ next.0.0) × IsSameBetween s from.0 next.0.0)
+least_in : (r : Option (ObjectId × Rights)) (s : Specification) (from : ObjectId) → MatchOption r (IsSameFrom s from.0) (IsNext s.entries s.draft from)
+    → IfSome r (λ next. (from.0 ≤ next.0.0) × IsSameBetween s from.0 next.0.0)
 least_in None s from m = tt
 least_in (Some next) s from m = (m.reached, m.least)
 
-none_in : (r : Option (ObjectId × Rights)) (s : Specification) (from : ObjectId) → MatchOption r (IsSameFrom s from.0) (IsNext s.entries s.draft from) → IfNone r (IsSameFrom s from.0)
+none_in : (r : Option (ObjectId × Rights)) (s : Specification) (from : ObjectId) → MatchOption r (IsSameFrom s from.0) (IsNext s.entries s.draft from)
+    → IfNone r (IsSameFrom s from.0)
 none_in None s from m = m
 none_in (Some next) s from m = tt
 
 -- the same, in the words of the contract
-pub found : (r : Option (ObjectId × Rights)) (s : Specification) (from : ObjectId) → length s.draft ≡ length s.entries → IsAscending s.entries → r ≡ next_changed s.entries s.draft from → IfSome r (λ next. IsChange s next.0 next.1)
+pub found : (r : Option (ObjectId × Rights)) (s : Specification) (from : ObjectId) → length s.draft ≡ length s.entries → IsAscending s.entries
+    → r ≡ next_changed s.entries s.draft from → IfSome r (λ next. IsChange s next.0 next.1)
 found r s from h asc q = found_in r s from (meant r s from h asc q)
 
-pub least : (r : Option (ObjectId × Rights)) (s : Specification) (from : ObjectId) → length s.draft ≡ length s.entries → IsAscending s.entries → r ≡ next_changed s.entries s.draft from → IfSome r (λ next. (from.0 ≤ next.0.0) × IsSameBetween s from.0 next.0.0)
+pub least : (r : Option (ObjectId × Rights)) (s : Specification) (from : ObjectId) → length s.draft ≡ length s.entries → IsAscending s.entries
+    → r ≡ next_changed s.entries s.draft from → IfSome r (λ next. (from.0 ≤ next.0.0) × IsSameBetween s from.0 next.0.0)
 least r s from h asc q = least_in r s from (meant r s from h asc q)
 
-pub none : (r : Option (ObjectId × Rights)) (s : Specification) (from : ObjectId) → length s.draft ≡ length s.entries → IsAscending s.entries → r ≡ next_changed s.entries s.draft from → IfNone r (IsSameFrom s from.0)
+pub none : (r : Option (ObjectId × Rights)) (s : Specification) (from : ObjectId) → length s.draft ≡ length s.entries → IsAscending s.entries
+    → r ≡ next_changed s.entries s.draft from → IfNone r (IsSameFrom s from.0)
 none r s from h asc q = none_in r s from (meant r s from h asc q)

@@ -10,9 +10,11 @@ drop-slice_get (y ∷ xs) zero x h = grind arith
 drop-slice_get (y ∷ xs) (suc i) x h = grind (arith, drop-slice_get xs i x h)
 
 -- a search that has come to a place
-pub position_from-turn : {X : Type 0} (t : X → Bool) (xs : List X) (i : ℕ) (x : X) → slice_get xs i ≡ Some x → position_from t i (drop i xs) ≡ cond (t x) (Some i) (position_from t (i + 1) (drop (i + 1) xs))
+pub position_from-turn : {X : Type 0} (t : X → Bool) (xs : List X) (i : ℕ) (x : X) → slice_get xs i ≡ Some x → position_from t i (drop i xs) ≡ cond (t x)
+    (Some i) (position_from t (i + 1) (drop (i + 1) xs))
 position_from-turn t xs i x h = ap (λ ys. position_from t i ys) (drop-slice_get xs i x h)
 
-pub MatchOption-weaker : {X : Type 0} {P P' : Type 0} {Q Q' : X → Type 0} (o : Option X) → MatchOption o P Q → (P → P') → ((x : X) → Q x → Q' x) → MatchOption o P' Q'
+pub MatchOption-weaker : {X : Type 0} {P P' : Type 0} {Q Q' : X → Type 0} (o : Option X) → MatchOption o P Q → (P → P') → ((x : X) → Q x → Q' x)
+    → MatchOption o P' Q'
 MatchOption-weaker None h f g = f h
 MatchOption-weaker (Some x) h f g = g x h

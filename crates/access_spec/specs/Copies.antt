@@ -1,36 +1,9 @@
--- What a change makes of rights, and the working copy of a specification, which is its draft.
-use Rattle.std.specs.Prelude.{◌≡◌, ◌≢◌, ℕ, ◌<◌, ◌≤◌, ◌==◌, nat_le, Bool, not, ◌&&◌, List, [], ◌∷◌, Option, Some, None, option_map, option_and_then, if◌then◌else◌}
+-- The working copy of a specification, which is its draft.
+use Rattle.std.specs.Prelude.{◌≡◌, ◌≢◌, ℕ, ◌<◌, ◌≤◌, ◌==◌, nat_le, Bool, not, ◌&&◌, List, [], ◌∷◌, Option, Some, None, if◌then◌else◌}
 use Rattle.jade_base.specs.declared.place.ObjectId.{ObjectId}
-use Rattle.jade_base.specs.declared.rights.Right.{Right}
-use Rattle.jade_base.specs.declared.rights.Right.TheVariants.{Absent, Deferred, Immediate}
 use Rattle.jade_base.specs.declared.rights.Rights.{Rights}
 use Rattle.jade_base.specs.Rights.{no_rights, same_rights}
 use Rattle.jade_base.specs.Specification.{Specification, rights_in}
-use Rattle.access_spec.specs.declared.draft.Change.{Change}
-use Rattle.access_spec.specs.declared.draft.Change.TheVariants.{Reads, Writes, Both, NoReads, NoWrites, Neither}
-
--- a right made immediate, where there is one
-abbrev pub sooner : Right → Option Right
-sooner Absent = None
-sooner Deferred = Some Immediate
-sooner Immediate = Some Immediate
-
--- the rights with the read right made immediate
-abbrev pub sooner_reads : Rights → Option Rights
-sooner_reads a = option_map (λ right. record a { reads = right }) (sooner a.reads)
-
--- the rights with the write right made immediate
-abbrev pub sooner_writes : Rights → Option Rights
-sooner_writes a = option_map (λ right. record a { writes = right }) (sooner a.writes)
-
--- the rights after a change, unless it asks for a right that is not there
-abbrev pub amended : Change → Rights → Option Rights
-amended Reads a = sooner_reads a
-amended Writes a = sooner_writes a
-amended Both a = option_and_then sooner_writes (sooner_reads a)
-amended NoReads a = Some (record a { reads = Absent })
-amended NoWrites a = Some (record a { writes = Absent })
-amended Neither a = Some (record a { reads = Absent; writes = Absent })
 
 -- the rights on an object in the copy, which are none where it has no entry
 abbrev pub copied_in : List (ObjectId × Rights) → List Rights → ObjectId → Rights

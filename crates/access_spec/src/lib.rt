@@ -3,8 +3,10 @@
 //! hold is given up for a child.
 #![tactic(auto)]
 
-pub mod draft;
+pub mod change;
 pub mod modes;
+pub mod working_copy;
 
-pub use draft::{Change, Draft, NoRight};
+pub use change::{Change, NoRight};
 pub use modes::{gives_way, mode_of};
+pub use working_copy::WorkingCopy;

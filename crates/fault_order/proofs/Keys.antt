@@ -12,7 +12,8 @@ use Rattle.jade_base.specs.Places.{path_order}
 use Rattle.fault_order.specs.Order.{comes_before, key_of}
 
 -- where both paths go on, their next numbers come first
-pub keys-turn : (p q : List ℕ) (k l i : ℕ) → i < length p → i < length q → path_order (drop i p ++ k ∷ []) (drop i q ++ l ∷ []) ≡ ordering_then (nat_cmp (get_or p i 0) (get_or q i 0)) (path_order (drop (i + 1) p ++ k ∷ []) (drop (i + 1) q ++ l ∷ []))
+pub keys-turn : (p q : List ℕ) (k l i : ℕ) → i < length p → i < length q → path_order (drop i p ++ k ∷ []) (drop i q ++ l ∷ []) ≡ ordering_then
+    (nat_cmp (get_or p i 0) (get_or q i 0)) (path_order (drop (i + 1) p ++ k ∷ []) (drop (i + 1) q ++ l ∷ []))
 keys-turn p q k l i h j = rw (add-one, drop-cons p i 0, drop-cons q i 0)
 
 none_first : (xs : List ℕ) (l : ℕ) → path_order [] (xs ++ l ∷ []) ≡ Less
@@ -29,11 +30,13 @@ then-equal Equal = refl
 then-equal Greater = refl
 
 -- the first path ends
-pub keys-less : (p q : List ℕ) (k l i : ℕ) → length p ≤ i → i < length q → path_order (drop i p ++ k ∷ []) (drop i q ++ l ∷ []) ≡ ordering_then (nat_cmp k (get_or q i 0)) Less
+pub keys-less : (p q : List ℕ) (k l i : ℕ) → length p ≤ i → i < length q → path_order (drop i p ++ k ∷ []) (drop i q ++ l ∷ []) ≡ ordering_then
+    (nat_cmp k (get_or q i 0)) Less
 keys-less p q k l i h j = rw (drop_all i p h, drop-cons q i 0, none_first (drop (suc i) q) l)
 
 -- the second path ends
-pub keys-greater : (p q : List ℕ) (k l i : ℕ) → i < length p → length q ≤ i → path_order (drop i p ++ k ∷ []) (drop i q ++ l ∷ []) ≡ ordering_then (nat_cmp (get_or p i 0) l) Greater
+pub keys-greater : (p q : List ℕ) (k l i : ℕ) → i < length p → length q ≤ i → path_order (drop i p ++ k ∷ []) (drop i q ++ l ∷ []) ≡ ordering_then
+    (nat_cmp (get_or p i 0) l) Greater
 keys-greater p q k l i h j = rw (drop_all i q j, drop-cons p i 0, none_last (drop (suc i) p) k)
 
 -- both paths end

@@ -32,7 +32,11 @@ AllAbove-kept : (n : ℕ) (es : List (ObjectId × Rights)) (ds : List Rights) �
 AllAbove-kept n [] ds a = tt
 AllAbove-kept n (e ∷ es) [] a = tt
 AllAbove-kept n (e ∷ es) (d ∷ ds) a =
-    elim (has_rights d) as (λ b. AllAbove n (cond b ((e.0, d) ∷ kept es ds) (kept es ds))) [ true ↦ (a.0, AllAbove-kept n es ds a.1) | false ↦ AllAbove-kept n es ds a.1 ]
+    elim (has_rights d) as (λ b. AllAbove n (cond b ((e.0, d) ∷ kept es ds) (kept es ds))) [
+      | true ↦ (a.0, AllAbove-kept n es ds a.1)
+      | false ↦
+          AllAbove-kept n es ds a.1
+    ]
 
 -- a draft that is kept has its entries in order
 pub IsAscending-kept : (es : List (ObjectId × Rights)) (ds : List Rights) → IsAscending es → IsAscending (kept es ds)
@@ -47,30 +51,38 @@ IsAscending-kept (e ∷ es) (d ∷ ds) h =
 pub shown-kept : (xs : List Entry) → shown_all (filter (λ e. has_rights e.rights) (map with_draft_kept xs)) ≡ kept (shown_all xs) (map (λ e. e.draft) xs)
 shown-kept [] = refl
 shown-kept (x ∷ xs) =
-    elim (has_rights x.draft) as (λ b. shown_all (cond b (with_draft_kept x ∷ filter (λ e. has_rights e.rights) (map with_draft_kept xs)) (filter (λ e. has_rights e.rights) (map with_draft_kept xs))) ≡ cond b ((x.object, x.draft) ∷ kept (shown_all xs) (map (λ e. e.draft) xs)) (kept (shown_all xs) (map (λ e. e.draft) xs))) [
+    elim (has_rights x.draft) as (λ b. shown_all (cond b (with_draft_kept x ∷ filter (λ e. has_rights e.rights) (map with_draft_kept xs))
+    (filter (λ e. has_rights e.rights) (map with_draft_kept xs))) ≡ cond b ((x.object, x.draft) ∷ kept (shown_all xs) (map (λ e. e.draft) xs))
+    (kept (shown_all xs) (map (λ e. e.draft) xs))) [
       | true ↦ ap (λ t. (x.object, x.draft) ∷ t) (shown-kept xs)
       | false ↦ shown-kept xs
     ]
 
-drafts-kept : (xs : List Entry) → map (λ e. e.draft) (filter (λ e. has_rights e.rights) (map with_draft_kept xs)) ≡ map (λ e. e.1) (kept (shown_all xs) (map (λ e. e.draft) xs))
+drafts-kept : (xs : List Entry) → map (λ e. e.draft) (filter (λ e. has_rights e.rights) (map with_draft_kept xs)) ≡ map (λ e. e.1)
+    (kept (shown_all xs) (map (λ e. e.draft) xs))
 drafts-kept [] = refl
 drafts-kept (x ∷ xs) =
-    elim (has_rights x.draft) as (λ b. map (λ e. e.draft) (cond b (with_draft_kept x ∷ filter (λ e. has_rights e.rights) (map with_draft_kept xs)) (filter (λ e. has_rights e.rights) (map with_draft_kept xs))) ≡ map (λ e. e.1) (cond b ((x.object, x.draft) ∷ kept (shown_all xs) (map (λ e. e.draft) xs)) (kept (shown_all xs) (map (λ e. e.draft) xs)))) [
+    elim (has_rights x.draft) as (λ b. map (λ e. e.draft) (cond b (with_draft_kept x ∷ filter (λ e. has_rights e.rights) (map with_draft_kept xs))
+    (filter (λ e. has_rights e.rights) (map with_draft_kept xs))) ≡ map (λ e. e.1)
+    (cond b ((x.object, x.draft) ∷ kept (shown_all xs) (map (λ e. e.draft) xs)) (kept (shown_all xs) (map (λ e. e.draft) xs)))) [
       | true ↦ ap (λ t. x.draft ∷ t) (drafts-kept xs)
       | false ↦ drafts-kept xs
     ]
 
 -- entries with their drafts kept
-pub settled-kept : (xs : List Entry) → specification (filter (λ e. has_rights e.rights) (map with_draft_kept xs)) ≡ settled (kept (shown_all xs) (map (λ e. e.draft) xs))
+pub settled-kept : (xs : List Entry) → specification (filter (λ e. has_rights e.rights) (map with_draft_kept xs)) ≡ settled
+    (kept (shown_all xs) (map (λ e. e.draft) xs))
 settled-kept xs = rw (shown-kept xs, drafts-kept xs)
 
-shown-set : (xs : List Entry) (i : ℕ) (x : Entry) (r : Rights) → i < length xs → x ≡ get_or xs i x → shown_all (set xs i (record x { draft = r })) ≡ shown_all xs
+shown-set : (xs : List Entry) (i : ℕ) (x : Entry) (r : Rights) → i < length xs → x ≡ get_or xs i x → shown_all (set xs i (record x { draft = r }))
+    ≡ shown_all xs
 shown-set [] i x r h q = absurd (omega arith)
 shown-set (e ∷ es) zero x r h q = ap (λ t. shown t ∷ shown_all es) q
 shown-set (e ∷ es) (suc i) x r h q = ap (λ t. shown e ∷ t) (shown-set es i x r (omega arith) q)
 
 -- a write into the draft changes one item of it, and no entry
-pub draft-set : (xs : List Entry) (i : ℕ) (x : Entry) (r : Rights) → i < length xs → x ≡ get_or xs i x → specification (set xs i (record x { draft = r })) ≡ record (specification xs) { draft = set (map (λ e. e.draft) xs) i r }
+pub draft-set : (xs : List Entry) (i : ℕ) (x : Entry) (r : Rights) → i < length xs → x ≡ get_or xs i x → specification (set xs i (record x { draft = r }))
+    ≡ record (specification xs) { draft = set (map (λ e. e.draft) xs) i r }
 draft-set xs i x r h q = rw (shown-set xs i x r h q, map-set (λ e. e.draft) xs i (record x { draft = r }))
 
 -- a loop that changes each item, at its end

@@ -4,3 +4,4 @@ pub mod Orders
 -- Lemmas on the bytes that come in and go out.
 pub mod Reading
 pub mod Writing
+mod Paths

@@ -1,5 +1,27 @@
 -- The order of two lists, from a place on that they have in common.
-use Rattle.std.proofs.Common.{◌≡◌, ℕ, ◌+◌, ◌<◌, ◌≤◌, true, false, ltb, min, List, [], ◌∷◌, length, length-drop, get_or, drop, refl, ◌∙◌, add-one, drop-cons, arith}
+use Rattle.std.proofs.Common.{
+  ◌≡◌,
+  ℕ,
+  ◌+◌,
+  ◌<◌,
+  ◌≤◌,
+  true,
+  false,
+  ltb,
+  min,
+  List,
+  [],
+  ◌∷◌,
+  length,
+  length-drop,
+  get_or,
+  drop,
+  refl,
+  ◌∙◌,
+  add-one,
+  drop-cons,
+  arith,
+}
 use Rattle.std.specs.Ordering.{nat_cmp, ordering_then}
 use Rattle.std.proofs.lemmas.Bool.{ltb-true, ltb-false}
 use Rattle.std.proofs.lemmas.List.{nil_from_length}
@@ -7,7 +29,8 @@ use Rattle.std.proofs.lemmas.Bool.Decides.{nat_tests}
 use Rattle.jade_base.specs.Places.{path_order}
 
 -- where both go on, the next numbers come first
-pub path_order-turn : (xs ys : List ℕ) (i : ℕ) → i < length xs → i < length ys → path_order (drop i xs) (drop i ys) ≡ ordering_then (nat_cmp (get_or xs i 0) (get_or ys i 0)) (path_order (drop (i + 1) xs) (drop (i + 1) ys))
+pub path_order-turn : (xs ys : List ℕ) (i : ℕ) → i < length xs → i < length ys → path_order (drop i xs) (drop i ys) ≡ ordering_then
+    (nat_cmp (get_or xs i 0) (get_or ys i 0)) (path_order (drop (i + 1) xs) (drop (i + 1) ys))
 path_order-turn xs ys i h k = rw (add-one, drop-cons xs i 0, drop-cons ys i 0)
 
 none_first : (ys : List ℕ) → path_order [] ys ≡ nat_cmp 0 (length ys)

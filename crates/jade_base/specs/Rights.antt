@@ -26,6 +26,12 @@ is_there Absent = false
 is_there Deferred = true
 is_there Immediate = true
 
+-- a right that is asked for at once: immediate where there is one, and none where there is none
+abbrev pub at_once : Right → Option Right
+at_once Absent = None
+at_once Deferred = Some Immediate
+at_once Immediate = Some Immediate
+
 -- one right declared twice: Immediate beats Deferred, and Deferred beats Absent
 abbrev pub joined : Right → Right → Right
 joined Immediate r = Immediate

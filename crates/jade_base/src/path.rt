@@ -1,5 +1,5 @@
 ghost use Rattle.std.specs.Prelude.{◌≡◌, ◌<◌, [], ◌∷◌, ◌++◌, length, IfOk};
-ghost use Rattle.jade_base.specs.Places.{path_order};
+ghost use Rattle.jade_base.specs.Places.{path_order, same_path};
 
 use crate::Memory;
 use std::alloc::Global;
@@ -58,6 +58,13 @@ impl Path {
         compare_lists(self.numbers.as_slice(), other.numbers.as_slice())
     }
 
+    /// Whether the two paths name one task.
+    pub fn is_same(&self, other: &Path) -> bool
+        ensures { result ≡ same_path self.now other.now }
+    {
+        self.compare(other).is_eq()
+    }
+
     /// The numbers, from the root's on; there is at least one.
     pub fn numbers(&self) -> &[u32]
         ensures value { result.now ≡ self.now }
@@ -97,6 +104,7 @@ mod tests {
         assert_eq!(rt; second.compare(&deep), Ordering::Greater);
         assert_eq!(rt; first.compare(&deep), Ordering::Less);
         assert_eq!(rt; deep.compare(&deep), Ordering::Equal);
+        assert!(rt; deep.is_same(&deep) && !deep.is_same(&first));
         Ok(())
     }
 }

@@ -1,8 +1,8 @@
 ghost use Rattle.std.specs.Prelude.{◌≡◌, ◌≢◌, ◌<◌, [], length, map, filter, IfOk, OnOk, OnErr, MatchResult, Some, slice_get, slice_set};
-ghost use Rattle.jade_base.specs.Rights.{no_rights, has_rights, is_there, join, joined};
+ghost use Rattle.jade_base.specs.Rights.{no_rights, has_rights, join};
 ghost use Rattle.jade_base.specs.Specification.{IsAscending, joined_in, kept, IsAbsent, IsThere, rights_in, settled, shown_all, specification};
 
-use crate::{Memory, ObjectId, Right, Rights};
+use crate::{Memory, ObjectId, Rights};
 use std::alloc::Global;
 use std::cmp::Ordering;
 use std::marker::Model;
@@ -30,56 +30,6 @@ impl Model for Spec {
     ghost view = { λ s. specification s.entries.items };
 
     ghost invariant = { λ s. IsAscending (shown_all s.entries.items) };
-}
-
-impl Right {
-    /// Whether the right is there, now or later.
-    pub fn is_there(self) -> bool
-        ensures { result ≡ is_there self }
-    {
-        match self {
-            Right::Absent => false,
-            Right::Deferred | Right::Immediate => true,
-        }
-    }
-
-    /// The right that both declarations give together: the stronger one.
-    pub fn joined(self, other: Right) -> Right
-        ensures { result ≡ joined self other }
-    {
-        match (self, other) {
-            (Right::Immediate, _) | (_, Right::Immediate) => Right::Immediate,
-            (Right::Deferred, _) | (_, Right::Deferred) => Right::Deferred,
-            (Right::Absent, Right::Absent) => Right::Absent,
-        }
-    }
-}
-
-impl Rights {
-    /// No right at all.
-    pub const NONE: Rights = Rights {
-        reads: Right::Absent,
-        writes: Right::Absent,
-        commutes: Right::Absent,
-    };
-
-    /// Whether some right is there.
-    pub fn any(self) -> bool
-        ensures { result ≡ has_rights self }
-    {
-        self.reads.is_there() || self.writes.is_there() || self.commutes.is_there()
-    }
-
-    /// The rights that both declarations give together.
-    pub fn join(self, other: Rights) -> Rights
-        ensures { result ≡ join self other }
-    {
-        Rights {
-            reads: self.reads.joined(other.reads),
-            writes: self.writes.joined(other.writes),
-            commutes: self.commutes.joined(other.commutes),
-        }
-    }
 }
 
 impl Spec {
@@ -250,6 +200,7 @@ fn keep_drafts(entries: &mut Vec<Entry>)
 #[cfg(test)]
 mod tests {
     use super::*;
+    use crate::Right;
     use std::test::Fail;
 
     const READS: Rights = Rights {

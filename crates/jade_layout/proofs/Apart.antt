@@ -4,7 +4,8 @@ use Rattle.std.proofs.Math.Dec.{eqb}
 use Rattle.std.specs.List.{list_any, list_all}
 use Rattle.std.specs.Char.{is_ascii_digit}
 use Rattle.std.proofs.lemmas.Bool.{cases_Bool, and_left, and_right, and_parts, or_from, or_cases, eqb-true, true≢false, not-true, false_from_ne_true}
-use Rattle.jade_lexer.specs.Alphabet.{is_separator, is_letter, is_word_byte, is_single, is_pair, is_symbol, is_word, is_run, is_token}
+use Rattle.jade_lexer.specs.Alphabet.{is_separator, is_single, is_pair, is_symbol, is_run, is_token}
+use Rattle.jade_alphabet.specs.Letters.{is_letter, is_letter_or_digit, is_word}
 use Rattle.jade_lexer.specs.Reading.{begins_comment}
 use Rattle.jade_lexer.specs.Cut.{IsLongest}
 use Rattle.jade_layout.specs.Spelling.{Token}
@@ -70,7 +71,7 @@ token_no_comment (b ∷ d ∷ u) is =
 -- a byte that is no letter, no digit and in no symbol begins no token
 no_token_from : (b : ℕ) (u : List ℕ) → is_letter b ≡ false → is_ascii_digit b ≡ false → is_single b ≡ false → list_any (λ x. eqb x b) (codes "=!<>") ≡ false → list_any (λ x. eqb x b) (codes "&|.") ≡ false → is_token (b ∷ u) ≡ false
 no_token_from b u letter digit single equals doubles =
-    none_of (is_word (b ∷ u)) (is_run (b ∷ u)) (is_symbol (b ∷ u)) (and_left (is_letter b) (list_all is_word_byte u) letter) (and_left (is_ascii_digit b) (list_all is_ascii_digit u) digit) (symbol u)
+    none_of (is_word (b ∷ u)) (is_run (b ∷ u)) (is_symbol (b ∷ u)) (and_left (is_letter b) (list_all is_letter_or_digit u) letter) (and_left (is_ascii_digit b) (list_all is_ascii_digit u) digit) (symbol u)
   where
     symbol : (v : List ℕ) → is_symbol (b ∷ v) ≡ false
     symbol [] = single
@@ -96,7 +97,7 @@ pub apart_cutter : (t : Token) (c : ℕ) → is_token t ≡ true → list_any (�
 apart_cutter [] c is h = absurd (true≢false (sym is))
 apart_cutter (b ∷ t) c is h = record {
   no_longer = λ u. none_of (is_word (b ∷ t ++ c ∷ u)) (is_run (b ∷ t ++ c ∷ u)) (is_symbol (b ∷ t ++ c ∷ u))
-      (and_right (is_letter b) (list_all is_word_byte (t ++ c ∷ u)) (all_stops is_word_byte t c u (among_not is_word_byte cutters refl c h)))
+      (and_right (is_letter b) (list_all is_letter_or_digit (t ++ c ∷ u)) (all_stops is_letter_or_digit t c u (among_not is_letter_or_digit cutters refl c h)))
       (and_right (is_ascii_digit b) (list_all is_ascii_digit (t ++ c ∷ u)) (all_stops is_ascii_digit t c u (among_not is_ascii_digit cutters refl c h)))
       (symbol_stops (b ∷ t) c u (omega arith) (λ one. cutter_pair b c h));
   no_letter = λ run. among_not is_letter cutters refl c h;
@@ -111,7 +112,7 @@ apart_cutter (b ∷ t) c is h = record {
 pub apart_single : (b c : ℕ) → is_letter b ≡ false → is_ascii_digit b ≡ false → eqb b 47 ≡ false → is_pair b c ≡ false → Apart (b ∷ []) c
 apart_single b c letter digit slash pair = record {
   no_longer = λ u. none_of (is_word (b ∷ c ∷ u)) (is_run (b ∷ c ∷ u)) (is_symbol (b ∷ c ∷ u))
-      (and_left (is_letter b) (list_all is_word_byte (c ∷ u)) letter) (and_left (is_ascii_digit b) (list_all is_ascii_digit (c ∷ u)) digit) (symbol_stops (b ∷ []) c u (omega arith) (λ one. pair));
+      (and_left (is_letter b) (list_all is_letter_or_digit (c ∷ u)) letter) (and_left (is_ascii_digit b) (list_all is_ascii_digit (c ∷ u)) digit) (symbol_stops (b ∷ []) c u (omega arith) (λ one. pair));
   no_letter = λ run. absurd (true≢false (sym run ∙ and_left (is_ascii_digit b) true digit));
   no_comment = λ u. and_left (eqb b 47) (eqb c 47) slash;
 }

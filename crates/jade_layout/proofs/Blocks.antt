@@ -4,7 +4,7 @@ use Rattle.std.proofs.Math.Dec.{leb}
 use Rattle.std.specs.List.{flat_map, list_all}
 use Rattle.std.proofs.lemmas.Bool.{and_parts, leb-true}
 use Rattle.jade_syntax.specs.declared.shapes.extent.Extent.{Extent}
-use Rattle.jade_syntax.specs.declared.shapes.place.Place.TheVariants.{Main}
+use Rattle.jade_syntax.specs.declared.shapes.place.BlockKind.TheVariants.{Main}
 use Rattle.jade_syntax.specs.declared.tree.ValueKind.{ValueKind}
 use Rattle.jade_syntax.specs.declared.tree.ValueKind.TheVariants.{Int, Bool as BoolWord}
 use Rattle.jade_syntax.specs.declared.tree.DeclareWord.{DeclareWord}

@@ -8,7 +8,8 @@ use Rattle.std.specs.Fmt.{decimal}
 use Rattle.std.proofs.lemmas.Fmt.{decimal_by_steps, decimal_digit, first_decimal}
 use Rattle.std.proofs.lemmas.List.Folds.{list_all-append}
 use Rattle.std.proofs.lemmas.Bool.{and_from, and_left, and_right, and_parts, or_from, or_cases, eqb-true, leb-true, le-leb, lt-ltb, true≢false, not-true, ne_eqb, false_from_ne_true}
-use Rattle.jade_lexer.specs.Alphabet.{is_letter, is_word_byte, is_word, is_run, is_symbol, is_number, is_opener, is_closer, value_after}
+use Rattle.jade_lexer.specs.Alphabet.{is_run, is_symbol, is_number, is_opener, is_closer, value_after}
+use Rattle.jade_alphabet.specs.Letters.{is_letter, is_letter_or_digit, is_word}
 use Rattle.jade_syntax.specs.Names.{is_name, is_spelled, is_reserved}
 use Rattle.jade_syntax.specs.Numbering.{same_name}
 use Rattle.jade_layout.specs.Spelling.{Token, Tokens}
@@ -142,7 +143,7 @@ name_plain [] h = absurd (true≢false (sym h))
 name_plain (b ∷ u) h =
     let p = and_parts (leb (length (b ∷ u)) 64 && is_spelled (b ∷ u)) (not (is_reserved (b ∷ u))) h in
     let q = and_parts (leb (length (b ∷ u)) 64) (is_spelled (b ∷ u)) p.0 in
-    let r = and_parts (is_letter b) (list_all is_word_byte u) q.1 in
+    let r = and_parts (is_letter b) (list_all is_letter_or_digit u) q.1 in
     let word : is_word (b ∷ u) ≡ true = q.1 in
     let run : is_run (b ∷ u) ≡ false = and_left (is_ascii_digit b) (list_all is_ascii_digit u) (letter_is_no_digit b r.0) in
     plain_from is_letter b u refl r.0 (λ i. (word i || is_run (b ∷ u) || is_symbol (b ∷ u)) && (not (word i) || q.0 i) && (not (run i) || is_number (b ∷ u) []))
@@ -188,7 +189,7 @@ numeral_plain n (b ∷ u) p zeros le =
     let r = and_parts (is_ascii_digit b) (list_all is_ascii_digit u) p.digits in
     let v = p.value in
     let run : is_run (b ∷ u) ≡ true = p.digits in
-    let word : is_word (b ∷ u) ≡ false = and_left (is_letter b) (list_all is_word_byte u) (digit_is_no_letter b r.0) in
+    let word : is_word (b ∷ u) ≡ false = and_left (is_letter b) (list_all is_letter_or_digit u) (digit_is_no_letter b r.0) in
     let small : leb (value_after 0 (b ∷ u)) 9223372036854775807 ≡ true = le-leb (value_after 0 (b ∷ u)) 9223372036854775807 (omega arith) in
     let number : is_number (b ∷ u) [] ≡ true = (λ i. zeros i && small i && true) in
     plain_from is_ascii_digit b u refl r.0 (λ i. (word i || run i || is_symbol (b ∷ u)) && (not (word i) || leb (length (b ∷ u)) 64) && (not (run i) || number i))

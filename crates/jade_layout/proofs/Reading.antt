@@ -6,7 +6,8 @@ use Rattle.std.proofs.Math.Dec.{eqb, leb, ltb}
 use Rattle.std.specs.List.{list_any, list_all}
 use Rattle.std.proofs.lemmas.Bool.{cases_Bool, and_from, and_parts, or_cases, leb-true, ltb-true, true≢false, not-true, cond-true, cond-false}
 use Rattle.jade_base.specs.declared.place.Pos.{Pos}
-use Rattle.jade_lexer.specs.Alphabet.{is_separator, is_letter, is_word, is_run, is_token, is_number, is_opener}
+use Rattle.jade_lexer.specs.Alphabet.{is_separator, is_run, is_token, is_number, is_opener}
+use Rattle.jade_alphabet.specs.Letters.{is_letter, is_word}
 use Rattle.jade_lexer.specs.Lexemes.{TokenAt, TokenList}
 use Rattle.jade_lexer.specs.Reading.{reading, Whole, pos_after, depth_after as brackets_after}
 use Rattle.jade_lexer.specs.Cut.{one_separator, Cut, IsCut, nothing, blank, token}

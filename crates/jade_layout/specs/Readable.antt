@@ -1,6 +1,7 @@
 -- Which tokens, laid out, are read as the same tokens.
 use Rattle.std.specs.Prelude.{◌≡◌, ℕ, Bool, true, not, ◌&&◌, ◌||◌, ◌==◌, nat_le, nat_lt, List, [], ◌∷◌, length, map, codes, slice_index}
-use Rattle.jade_lexer.specs.Alphabet.{is_word, is_run, is_token, is_number, is_opener}
+use Rattle.jade_lexer.specs.Alphabet.{is_run, is_token, is_number, is_opener}
+use Rattle.jade_alphabet.specs.Letters.{is_word}
 use Rattle.jade_lexer.specs.Lexemes.{TokenList}
 use Rattle.jade_lexer.specs.Reading.{reading, Whole, depth_after as brackets_after}
 use Rattle.jade_syntax.specs.Numbering.{same_name}

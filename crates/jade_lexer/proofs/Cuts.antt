@@ -1,5 +1,41 @@
 -- A text reads as these tokens exactly where it is cut into them, and as a refusal exactly where that is refused.
-use Rattle.std.proofs.Common.{◌≡◌, ℕ, zero, suc, ◌+◌, ◌-◌, ◌<◌, ◌≤◌, Bool, true, false, not, ◌||◌, List, [], ◌∷◌, ◌++◌, length, take, drop, get_or, Result, Ok, Err, refl, sym, ap, subst, ◌∙◌, ⊎_elim, arith, length-append, length-drop, length-take-le, get_or-take}
+use Rattle.std.proofs.Common.{
+  ◌≡◌,
+  ℕ,
+  zero,
+  suc,
+  ◌+◌,
+  ◌-◌,
+  ◌<◌,
+  ◌≤◌,
+  Bool,
+  true,
+  false,
+  not,
+  ◌||◌,
+  List,
+  [],
+  ◌∷◌,
+  ◌++◌,
+  length,
+  take,
+  drop,
+  get_or,
+  Result,
+  Ok,
+  Err,
+  refl,
+  sym,
+  ap,
+  subst,
+  ◌∙◌,
+  ⊎_elim,
+  arith,
+  length-append,
+  length-drop,
+  length-take-le,
+  get_or-take,
+}
 use Rattle.std.proofs.Math.Dec.{eqb, ltb}
 use Rattle.std.proofs.Math.ListN.{get_or-append}
 use Rattle.std.proofs.Math.Seq.{take-append_seam, drop-append_seam}
@@ -7,19 +43,86 @@ use Rattle.std.proofs.Math.Nat.{eq-zero-or-pos}
 use Rattle.std.proofs.lemmas.List.{take-append-drop}
 use Rattle.std.specs.List.{list_all}
 use Rattle.std.specs.Char.{is_ascii_digit}
-use Rattle.std.proofs.lemmas.Bool.{and_parts, and_from, and_left, and_right, and_cases, or_cases, cases_Bool, true≢false, lt-ltb, ltb-true, ltb-false, le-ltb, not-true, not-false, eqb-true, ne_eqb, false_from_ne_true}
+use Rattle.std.proofs.lemmas.Bool.{
+  and_parts,
+  and_from,
+  and_left,
+  and_right,
+  and_cases,
+  or_cases,
+  cases_Bool,
+  true≢false,
+  lt-ltb,
+  ltb-true,
+  ltb-false,
+  le-ltb,
+  not-true,
+  not-false,
+  eqb-true,
+  ne_eqb,
+  false_from_ne_true,
+}
 use Rattle.jade_base.specs.declared.place.Pos.{Pos}
 use Rattle.jade_lexer.specs.declared.lexeme.LexError.{LexError}
 use Rattle.jade_lexer.specs.declared.lexeme.LexError.TheVariants.{Byte, Number, Deep}
 use Rattle.jade_lexer.specs.declared.lexer.Part.{Part}
 use Rattle.jade_lexer.specs.declared.lexer.Part.TheVariants.{Blank, Token}
 use Rattle.jade_lexer.specs.declared.lexer.Spot.{Spot}
-use Rattle.jade_lexer.specs.Alphabet.{is_separator, is_letter, is_word_byte, is_word, is_run, is_token, is_number, is_opener, longest}
+use Rattle.jade_lexer.specs.Alphabet.{is_separator, is_run, is_token, is_number, is_opener, longest}
+use Rattle.jade_alphabet.specs.Letters.{is_letter, is_letter_or_digit, is_word}
 use Rattle.jade_lexer.specs.Lexemes.{TokenAt, TokenList}
 use Rattle.jade_lexer.specs.Reading.{Reading, Whole, Refused, add, read_from, first_part, token_part, spot_after, depth_after, begins_comment, pos_after}
-use Rattle.jade_lexer.specs.Cut.{IsBlank, one_separator, comment, IsLongest, IsSound, Breaks, long_word, bad_number, deep, Cut, nothing, blank, token, Stops, after_blank, after_token, no_token, breaks}
-use Rattle.jade_lexer.proofs.Longest.{prefix_passes, letter_token, digit_token, letter_is_no_digit, longest-le, longest_token, longest_above, longest_is, longest_zero}
-use Rattle.jade_lexer.proofs.Parts.{line_len, part_separator, part_comment, part_token, comment_no_separator, too_long, no_number, too_deep, token_none, token_long, token_number, token_deep, token_fine, line_len_is, line_ends, line_begins, line_some, begins_more}
+use Rattle.jade_lexer.specs.Cut.{
+  IsBlank,
+  one_separator,
+  comment,
+  IsLongest,
+  IsSound,
+  Breaks,
+  long_word,
+  bad_number,
+  deep,
+  Cut,
+  nothing,
+  blank,
+  token,
+  Stops,
+  after_blank,
+  after_token,
+  no_token,
+  breaks,
+}
+use Rattle.jade_lexer.proofs.Longest.{
+  prefix_passes,
+  letter_token,
+  digit_token,
+  letter_is_no_digit,
+  longest-le,
+  longest_token,
+  longest_above,
+  longest_is,
+  longest_zero,
+}
+use Rattle.jade_lexer.proofs.Parts.{
+  line_len,
+  part_separator,
+  part_comment,
+  part_token,
+  comment_no_separator,
+  too_long,
+  no_number,
+  too_deep,
+  token_none,
+  token_long,
+  token_number,
+  token_deep,
+  token_fine,
+  line_len_is,
+  line_ends,
+  line_begins,
+  line_some,
+  begins_more,
+}
 use Rattle.jade_lexer.proofs.Steps.{token_at, blank_read, token_read, refused_read}
 
 abbrev blank_of : ℕ → Result Part LexError
@@ -35,7 +138,7 @@ token_some (b ∷ t) is = omega arith
 
 word_head : (t : List ℕ) → is_word t ≡ true → is_letter (get_or t 0 0) ≡ true
 word_head [] is = absurd (true≢false (sym is))
-word_head (b ∷ t) is = (and_parts (is_letter b) (list_all is_word_byte t) is).0
+word_head (b ∷ t) is = (and_parts (is_letter b) (list_all is_letter_or_digit t) is).0
 
 run_head : (t : List ℕ) → is_run t ≡ true → is_ascii_digit (get_or t 0 0) ≡ true
 run_head [] is = absurd (true≢false (sym is))
@@ -43,7 +146,7 @@ run_head (b ∷ t) is = (and_parts (is_ascii_digit b) (list_all is_ascii_digit t
 
 word_from_head : (t : List ℕ) → is_token t ≡ true → is_letter (get_or t 0 0) ≡ true → is_word t ≡ true
 word_from_head [] is letter = absurd (true≢false (sym is))
-word_from_head (b ∷ t) is letter = and_from (is_letter b) (list_all is_word_byte t) letter (sym (letter_token b letter t) ∙ is)
+word_from_head (b ∷ t) is letter = and_from (is_letter b) (list_all is_letter_or_digit t) letter (sym (letter_token b letter t) ∙ is)
 
 run_from_head : (t : List ℕ) → is_token t ≡ true → is_ascii_digit (get_or t 0 0) ≡ true → is_run t ≡ true
 run_from_head [] is digit = absurd (true≢false (sym is))
@@ -52,7 +155,8 @@ run_from_head (b ∷ t) is digit =
     and_from (is_ascii_digit b) (list_all is_ascii_digit t) digit (sym (digit_token b letter digit t) ∙ is)
 
 -- from a cut to the reading
-blank_step : (spot : Spot) (front after : List ℕ) (r : Reading) → IsBlank front after → read_from 0 (spot_after spot front spot.depth) after ≡ r → read_from 0 spot (front ++ after) ≡ r
+blank_step : (spot : Spot) (front after : List ℕ) (r : Reading) → IsBlank front after → read_from 0 (spot_after spot front spot.depth) after ≡ r
+    → read_from 0 spot (front ++ after) ≡ r
 blank_step spot (b ∷ []) after r (one_separator separator) rest =
     blank_read spot (b ∷ after) 1 (omega arith) (omega arith) (sym (part_separator spot (b ∷ after) separator)) ∙ rest
 blank_step spot front after r (comment begins line ends) rest =
@@ -113,7 +217,9 @@ first_longest spot t after first =
 some_bytes : (t after : List ℕ) → IsLongest t after → 0 < length (t ++ after)
 some_bytes t after first = let some = token_some t first.a_token in omega (arith, length-append t after)
 
-token_step : (spot : Spot) (t : TokenAt) (after : List ℕ) (r : Reading) → t.start ≡ spot.start → t.pos ≡ spot.pos → IsLongest t.bytes after → IsSound spot.depth t.bytes after → read_from 0 (spot_after spot t.bytes (depth_after spot.depth (get_or t.bytes 0 0))) after ≡ r → read_from 0 spot (t.bytes ++ after) ≡ add t r
+token_step : (spot : Spot) (t : TokenAt) (after : List ℕ) (r : Reading) → t.start ≡ spot.start → t.pos ≡ spot.pos → IsLongest t.bytes after
+    → IsSound spot.depth t.bytes after → read_from 0 (spot_after spot t.bytes (depth_after spot.depth (get_or t.bytes 0 0))) after ≡ r
+    → read_from 0 spot (t.bytes ++ after) ≡ add t r
 token_step spot t after r start pos first sound rest =
     let bytes = t.bytes ++ after in
     let n = length t.bytes in
@@ -122,7 +228,8 @@ token_step spot t after r start pos first sound rest =
     let part : first_part spot bytes ≡ token_of_length n = first_longest spot t.bytes after first ∙ token_fits spot t.bytes after first sound in
     let same : token_at spot t.bytes ≡ t = (λ i. record { bytes = t.bytes; start = sym start i; pos = sym pos i }) in
     token_read spot bytes n (some_bytes t.bytes after first) some (sym part)
-    ∙ (λ i. add (token_at spot (take-append_seam t.bytes after i)) (read_from 0 (spot_after spot (take-append_seam t.bytes after i) (depth_after spot.depth (head i))) (drop-append_seam t.bytes after i)))
+    ∙ (λ i. add (token_at spot (take-append_seam t.bytes after i))
+    (read_from 0 (spot_after spot (take-append_seam t.bytes after i) (depth_after spot.depth (head i))) (drop-append_seam t.bytes after i)))
     ∙ (λ i. add (same i) (rest i))
 
 abbrev whole_of : Pos → List TokenAt → Reading
@@ -131,10 +238,12 @@ whole_of end tokens = Whole (record { lexemes = tokens; end = end })
 pub cut_whole : (end : Pos) (spot : Spot) (bytes : List ℕ) (tokens : List TokenAt) → Cut end spot bytes tokens → read_from 0 spot bytes ≡ whole_of end tokens
 cut_whole end spot [] [] (nothing is) = ap (λ p. whole_of p []) (sym is)
 cut_whole end spot bytes tokens (blank front after is is_blank rest) =
-    ap (λ l. read_from 0 spot l) is ∙ blank_step spot front after (whole_of end tokens) is_blank (cut_whole end (spot_after spot front spot.depth) after tokens rest)
+    ap (λ l. read_from 0 spot l) is
+    ∙ blank_step spot front after (whole_of end tokens) is_blank (cut_whole end (spot_after spot front spot.depth) after tokens rest)
 cut_whole end spot bytes (t ∷ tokens) (token after is start pos first sound rest) =
     ap (λ l. read_from 0 spot l) is
-    ∙ token_step spot t after (whole_of end tokens) start pos first sound (cut_whole end (spot_after spot t.bytes (depth_after spot.depth (get_or t.bytes 0 0))) after tokens rest)
+    ∙ token_step spot t after (whole_of end tokens) start pos first sound
+    (cut_whole end (spot_after spot t.bytes (depth_after spot.depth (get_or t.bytes 0 0))) after tokens rest)
 
 abbrev err_of : LexError → Result Part LexError
 err_of e = Err e
@@ -143,7 +252,8 @@ err_of e = Err e
 token_breaks : (spot : Spot) (t after : List ℕ) (e : LexError) → IsLongest t after → Breaks spot t after e → token_part spot t after ≡ err_of e
 token_breaks spot t after e first (long_word word long is) =
     let some = token_some t first.a_token in
-    token_long spot t after (ne_eqb (length t) 0 (λ none. omega arith)) (and_from (is_letter (get_or t 0 0)) (ltb 64 (length t)) (word_head t word) (lt-ltb 64 (length t) long)) ∙ ap err_of (sym is)
+    token_long spot t after (ne_eqb (length t) 0 (λ none. omega arith))
+    (and_from (is_letter (get_or t 0 0)) (ltb 64 (length t)) (word_head t word) (lt-ltb 64 (length t) long)) ∙ ap err_of (sym is)
 token_breaks spot t after e first (bad_number run bad is) =
     let some = token_some t first.a_token in
     token_number spot t after (ne_eqb (length t) 0 (λ none. omega arith))
@@ -161,7 +271,8 @@ stop_refused e spot bytes (after_blank front after is is_blank rest) =
     ap (λ l. read_from 0 spot l) is ∙ blank_step spot front after (Refused e) is_blank (stop_refused e (spot_after spot front spot.depth) after rest)
 stop_refused e spot bytes (after_token front after is first sound rest) =
     ap (λ l. read_from 0 spot l) is
-    ∙ token_step spot (token_at spot front) after (Refused e) refl refl first sound (stop_refused e (spot_after spot front (depth_after spot.depth (get_or front 0 0))) after rest)
+    ∙ token_step spot (token_at spot front) after (Refused e) refl refl first sound
+    (stop_refused e (spot_after spot front (depth_after spot.depth (get_or front 0 0))) after rest)
 stop_refused e spot bytes (no_token nonempty separator begins none is) =
     let part : first_part spot bytes ≡ err_of e =
     part_token spot bytes separator begins
@@ -170,23 +281,27 @@ stop_refused e spot bytes (no_token nonempty separator begins none is) =
     refused_read spot bytes e nonempty (sym part)
 stop_refused e spot bytes (breaks front after is first broken) =
     ap (λ l. read_from 0 spot l) is
-    ∙ refused_read spot (front ++ after) e (some_bytes front after first) (sym (first_longest spot front after first ∙ token_breaks spot front after e first broken))
+    ∙ refused_read spot (front ++ after) e (some_bytes front after first)
+    (sym (first_longest spot front after first ∙ token_breaks spot front after e first broken))
 
 -- what a reading says of some bytes
 abbrev Sees : Reading → Spot → List ℕ → Type 0
 Sees (Whole tokens) spot bytes = Cut tokens.end spot bytes tokens.lexemes
 Sees (Refused e) spot bytes = Stops e spot bytes
 
-sees_blank : (r : Reading) (spot : Spot) (front after bytes : List ℕ) → bytes ≡ front ++ after → IsBlank front after → Sees r (spot_after spot front spot.depth) after → Sees r spot bytes
+sees_blank : (r : Reading) (spot : Spot) (front after bytes : List ℕ) → bytes ≡ front ++ after → IsBlank front after
+    → Sees r (spot_after spot front spot.depth) after → Sees r spot bytes
 sees_blank (Whole tokens) spot front after bytes is is_blank rest = blank front after is is_blank rest
 sees_blank (Refused e) spot front after bytes is is_blank rest = after_blank front after is is_blank rest
 
-sees_token : (r : Reading) (spot : Spot) (front after bytes : List ℕ) → bytes ≡ front ++ after → IsLongest front after → IsSound spot.depth front after → Sees r (spot_after spot front (depth_after spot.depth (get_or front 0 0))) after → Sees (add (token_at spot front) r) spot bytes
+sees_token : (r : Reading) (spot : Spot) (front after bytes : List ℕ) → bytes ≡ front ++ after → IsLongest front after → IsSound spot.depth front after
+    → Sees r (spot_after spot front (depth_after spot.depth (get_or front 0 0))) after → Sees (add (token_at spot front) r) spot bytes
 sees_token (Whole tokens) spot front after bytes is first sound rest = token {t = token_at spot front} after is refl refl first sound rest
 sees_token (Refused e) spot front after bytes is first sound rest = after_token front after is first sound rest
 
 -- the longest token of bytes where one begins
-longest_of : (bytes : List ℕ) → 0 < longest bytes → is_separator (get_or bytes 0 0) ≡ false → begins_comment bytes ≡ false → IsLongest (take (longest bytes) bytes) (drop (longest bytes) bytes)
+longest_of : (bytes : List ℕ) → 0 < longest bytes → is_separator (get_or bytes 0 0) ≡ false → begins_comment bytes ≡ false
+    → IsLongest (take (longest bytes) bytes) (drop (longest bytes) bytes)
 longest_of bytes some separator begins =
     let n = longest bytes in
     let whole : take n bytes ++ drop n bytes ≡ bytes = take-append-drop n bytes in
@@ -199,7 +314,8 @@ longest_of bytes some separator begins =
       longest = λ k over under. ap (λ l. is_token (take k l)) whole ∙ longest_above bytes k (omega arith) (omega arith);
     }
 
-sound_of : (spot : Spot) (t after : List ℕ) → too_long spot t after ≡ false → no_number spot t after ≡ false → too_deep spot t after ≡ false → IsSound spot.depth t after
+sound_of : (spot : Spot) (t after : List ℕ) → too_long spot t after ≡ false → no_number spot t after ≡ false → too_deep spot t after ≡ false
+    → IsSound spot.depth t after
 sound_of spot t after long number deeper = record {
   short = λ word. ⊎_elim
       (λ other. absurd (true≢false (sym (word_head t word) ∙ other)))
@@ -232,10 +348,12 @@ token_seen spot bytes shorter nonempty some separator begins =
     λ e is broken. subst (λ r. Sees r spot bytes) (sym (refused_read spot bytes e nonempty (sym (part ∙ is)))) (breaks t after whole first broken) in
     ⊎_elim
     (λ long. let parts = and_parts (is_letter (get_or t 0 0)) (ltb 64 (length t)) long in
-    refuse (Byte (pos_after spot.pos (take 64 t))) (token_long spot t after there long) (long_word (word_from_head t first.a_token parts.0) (ltb-true 64 (length t) parts.1) refl))
+    refuse (Byte (pos_after spot.pos (take 64 t))) (token_long spot t after there long)
+    (long_word (word_from_head t first.a_token parts.0) (ltb-true 64 (length t) parts.1) refl))
     (λ short. ⊎_elim
     (λ bad. let parts = and_parts (is_ascii_digit (get_or t 0 0)) (not (is_number t after)) bad in
-    refuse (Number spot.pos) (token_number spot t after there short bad) (bad_number (run_from_head t first.a_token parts.0) (not-true (is_number t after) parts.1) refl))
+    refuse (Number spot.pos) (token_number spot t after there short bad)
+    (bad_number (run_from_head t first.a_token parts.0) (not-true (is_number t after) parts.1) refl))
     (λ good. ⊎_elim
     (λ below. let parts = and_parts (is_opener (get_or t 0 0)) (ltb 63 spot.depth) below in
     refuse (Deep spot.pos) (token_deep spot t after there short good below) (deep parts.0 (omega (arith, ltb-true 63 spot.depth parts.1)) refl))
@@ -244,14 +362,16 @@ token_seen spot bytes shorter nonempty some separator begins =
     let head : get_or t 0 0 ≡ get_or bytes 0 0 = get_or-take n bytes 0 0 some in
     let next = spot_after spot t (depth_after spot.depth (get_or t 0 0)) in
     let read : read_from 0 spot bytes ≡ add (token_at spot t) (read_from 0 next after) =
-    token_read spot bytes n nonempty some fine ∙ ap (λ b. add (token_at spot t) (read_from 0 (spot_after spot t (depth_after spot.depth b)) after)) (sym head) in
+    token_read spot bytes n nonempty some fine
+    ∙ ap (λ b. add (token_at spot t) (read_from 0 (spot_after spot t (depth_after spot.depth b)) after)) (sym head) in
     subst (λ r. Sees r spot bytes) (sym read)
     (sees_token (read_from 0 next after) spot t after bytes whole first (sound_of spot t after short good shallow) (shorter next after (omega arith))))
     (cases_Bool (too_deep spot t after)))
     (cases_Bool (no_number spot t after)))
     (cases_Bool (too_long spot t after))
 
-none_seen : (spot : Spot) (bytes : List ℕ) → 0 < length bytes → longest bytes ≡ 0 → is_separator (get_or bytes 0 0) ≡ false → begins_comment bytes ≡ false → Sees (read_from 0 spot bytes) spot bytes
+none_seen : (spot : Spot) (bytes : List ℕ) → 0 < length bytes → longest bytes ≡ 0 → is_separator (get_or bytes 0 0) ≡ false → begins_comment bytes ≡ false
+    → Sees (read_from 0 spot bytes) spot bytes
 none_seen spot bytes nonempty none separator begins =
     let part : first_part spot bytes ≡ err_of (Byte spot.pos) =
     part_token spot bytes separator begins
@@ -276,10 +396,12 @@ seen_below : (fuel : ℕ) (spot : Spot) (bytes : List ℕ) → length bytes ≤ 
 seen_below fuel spot [] bound = nothing refl
 seen_below zero spot (b ∷ bytes) bound = absurd (omega arith)
 seen_below (suc fuel) spot (b ∷ bytes) bound =
-    let shorter : (next : Spot) (after : List ℕ) → length after < length (b ∷ bytes) → Sees (read_from 0 next after) next after = λ next after less. seen_below fuel next after (omega arith) in
+    let shorter : (next : Spot) (after : List ℕ) → length after < length (b ∷ bytes) → Sees (read_from 0 next after) next after =
+    λ next after less. seen_below fuel next after (omega arith) in
     let next = spot_after spot (b ∷ []) spot.depth in
     ⊎_elim
-    (λ separator. subst (λ r. Sees r spot (b ∷ bytes)) (sym (blank_read spot (b ∷ bytes) 1 (omega arith) (omega arith) (sym (part_separator spot (b ∷ bytes) separator))))
+    (λ separator. subst (λ r. Sees r spot (b ∷ bytes))
+    (sym (blank_read spot (b ∷ bytes) 1 (omega arith) (omega arith) (sym (part_separator spot (b ∷ bytes) separator))))
     (sees_blank (read_from 0 next bytes) spot (b ∷ []) bytes (b ∷ bytes) refl (one_separator separator) (shorter next bytes (omega arith))))
     (λ other. ⊎_elim
     (λ begins. comment_seen spot (b ∷ bytes) shorter (omega arith) other begins)

@@ -1,19 +1,65 @@
 -- Which token is the longest one that begins some bytes.
-use Rattle.std.proofs.Common.{◌≡◌, ℕ, zero, suc, ◌+◌, ◌<◌, ◌≤◌, Bool, true, false, not, ◌&&◌, ◌||◌, List, [], ◌∷◌, length, take, get_or, codes, refl, sym, ap, subst, ◌∙◌, ⊎_elim, arith}
+use Rattle.std.proofs.Common.{
+  ◌≡◌,
+  ℕ,
+  zero,
+  suc,
+  ◌+◌,
+  ◌<◌,
+  ◌≤◌,
+  Bool,
+  true,
+  false,
+  not,
+  ◌&&◌,
+  ◌||◌,
+  List,
+  [],
+  ◌∷◌,
+  length,
+  take,
+  get_or,
+  codes,
+  refl,
+  sym,
+  ap,
+  subst,
+  ◌∙◌,
+  ⊎_elim,
+  arith,
+}
 use Rattle.std.proofs.Math.Dec.{eqb, leb}
 use Rattle.std.specs.List.{list_any, list_all, prefix_len}
 use Rattle.std.specs.Char.{is_ascii_digit, is_ascii_alphabetic}
 use Rattle.std.specs.Int.{is_in_range}
-use Rattle.std.proofs.lemmas.Bool.{cases_lt, cases_Bool, cond-true, cond-false, and_from, and_left, and_right, and_parts, or_from, or_cases, eqb-true, leb-true, true≢false, not-true, false_from_ne_true}
+use Rattle.std.proofs.lemmas.Bool.{
+  cases_lt,
+  cases_Bool,
+  cond-true,
+  cond-false,
+  and_from,
+  and_left,
+  and_right,
+  and_parts,
+  or_from,
+  or_cases,
+  eqb-true,
+  leb-true,
+  true≢false,
+  not-true,
+  false_from_ne_true,
+}
 use Rattle.std.proofs.lemmas.List.Sums.{prefix_len-le-length}
-use Rattle.jade_lexer.specs.Alphabet.{is_letter, is_word_byte, is_single, is_pair, is_symbol, is_word, is_run, is_token, greatest, longest}
+use Rattle.jade_lexer.specs.Alphabet.{is_single, is_pair, is_symbol, is_run, is_token, greatest, longest}
+use Rattle.jade_alphabet.specs.Letters.{is_letter, is_letter_or_digit, is_word}
 
 -- a number up to n that passes, above which none does, is the greatest
 greatest_is : (p : ℕ → Bool) (n k : ℕ) → k ≤ n → (0 < k → p k ≡ true) → ((j : ℕ) → k < j → j ≤ n → p j ≡ false) → greatest p n ≡ k
 greatest_is p zero k le passes above = omega arith
 greatest_is p (suc n) k le passes above =
     ⊎_elim
-    (λ below. cond-false (p (suc n)) (suc n) (greatest p n) (above (suc n) below (omega arith)) ∙ greatest_is p n k (omega arith) passes (λ j over under. above j over (omega arith)))
+    (λ below. cond-false (p (suc n)) (suc n) (greatest p n) (above (suc n) below (omega arith))
+    ∙ greatest_is p n k (omega arith) passes (λ j over under. above j over (omega arith)))
     (λ beyond. let same : suc n ≡ k = omega arith in
     cond-true (p (suc n)) (suc n) (greatest p n) (subst (λ m. p m ≡ true) (sym same) (passes (omega arith))) ∙ same)
     (cases_lt k (suc n))
@@ -40,7 +86,8 @@ prefix_fails q (suc k) (x ∷ xs) over le =
     (cases_Bool (q x))
 
 -- where a first byte makes a token exactly of what passes, the longest is the prefix that passes
-above_prefix : (q : ℕ → Bool) (b : ℕ) (bytes : List ℕ) → ((t : List ℕ) → is_token (b ∷ t) ≡ list_all q t) → (j : ℕ) → suc (prefix_len q bytes) < j → j ≤ suc (length bytes) → is_token (take j (b ∷ bytes)) ≡ false
+above_prefix : (q : ℕ → Bool) (b : ℕ) (bytes : List ℕ) → ((t : List ℕ) → is_token (b ∷ t) ≡ list_all q t) → (j : ℕ) → suc (prefix_len q bytes) < j
+    → j ≤ suc (length bytes) → is_token (take j (b ∷ bytes)) ≡ false
 above_prefix q b bytes same zero over under = absurd (omega arith)
 above_prefix q b bytes same (suc j) over under = same (take j bytes) ∙ prefix_fails q j bytes (omega arith) (omega arith)
 
@@ -79,7 +126,8 @@ no_such f (c ∷ cs) none b holds =
     (no_such f cs parts.1 b holds)
 
 -- a byte of a class that has no first byte of a symbol begins none
-no_symbol : (f : ℕ → Bool) → list_all (λ c. not (f c)) (codes "{}()[];:,=<>+-*/%!") ≡ true → list_all (λ c. not (f c)) (codes "=!<>") ≡ true → list_all (λ c. not (f c)) (codes "&|.") ≡ true → (b : ℕ) → f b ≡ true → (t : List ℕ) → is_symbol (b ∷ t) ≡ false
+no_symbol : (f : ℕ → Bool) → list_all (λ c. not (f c)) (codes "{}()[];:,=<>+-*/%!") ≡ true → list_all (λ c. not (f c)) (codes "=!<>") ≡ true
+    → list_all (λ c. not (f c)) (codes "&|.") ≡ true → (b : ℕ) → f b ≡ true → (t : List ℕ) → is_symbol (b ∷ t) ≡ false
 no_symbol f singles equals doubles b holds [] = no_such f (codes "{}()[];:,=<>+-*/%!") singles b holds
 no_symbol f singles equals doubles b holds (c ∷ []) =
     or_from (eqb c 61 && list_any (λ x. eqb x b) (codes "=!<>")) (eqb c b && list_any (λ x. eqb x b) (codes "&|."))
@@ -101,36 +149,41 @@ letter_is_no_digit b letter =
     (λ underscore. let is : b ≡ 95 = eqb-true b 95 underscore in omega arith)
     (or_cases (is_ascii_alphabetic b) (eqb b 95) letter))
 
-pub letter_token : (b : ℕ) → is_letter b ≡ true → (t : List ℕ) → is_token (b ∷ t) ≡ list_all is_word_byte t
+pub letter_token : (b : ℕ) → is_letter b ≡ true → (t : List ℕ) → is_token (b ∷ t) ≡ list_all is_letter_or_digit t
 letter_token b letter t =
-    first_only (is_word (b ∷ t)) (is_run (b ∷ t)) (is_symbol (b ∷ t)) (and_left (is_ascii_digit b) (list_all is_ascii_digit t) (letter_is_no_digit b letter)) (no_symbol is_letter refl refl refl b letter t)
-    ∙ and_true (is_letter b) (list_all is_word_byte t) letter
+    first_only (is_word (b ∷ t)) (is_run (b ∷ t)) (is_symbol (b ∷ t)) (and_left (is_ascii_digit b) (list_all is_ascii_digit t) (letter_is_no_digit b letter))
+    (no_symbol is_letter refl refl refl b letter t)
+    ∙ and_true (is_letter b) (list_all is_letter_or_digit t) letter
 
 pub digit_token : (b : ℕ) → is_letter b ≡ false → is_ascii_digit b ≡ true → (t : List ℕ) → is_token (b ∷ t) ≡ list_all is_ascii_digit t
 digit_token b letter digit t =
-    second_only (is_word (b ∷ t)) (is_run (b ∷ t)) (is_symbol (b ∷ t)) (and_left (is_letter b) (list_all is_word_byte t) letter) (no_symbol is_ascii_digit refl refl refl b digit t)
+    second_only (is_word (b ∷ t)) (is_run (b ∷ t)) (is_symbol (b ∷ t)) (and_left (is_letter b) (list_all is_letter_or_digit t) letter)
+    (no_symbol is_ascii_digit refl refl refl b digit t)
     ∙ and_true (is_ascii_digit b) (list_all is_ascii_digit t) digit
 
 symbol_token : (b : ℕ) → is_letter b ≡ false → is_ascii_digit b ≡ false → (t : List ℕ) → is_token (b ∷ t) ≡ is_symbol (b ∷ t)
 symbol_token b letter digit t =
-    third_only (is_word (b ∷ t)) (is_run (b ∷ t)) (is_symbol (b ∷ t)) (and_left (is_letter b) (list_all is_word_byte t) letter) (and_left (is_ascii_digit b) (list_all is_ascii_digit t) digit)
+    third_only (is_word (b ∷ t)) (is_run (b ∷ t)) (is_symbol (b ∷ t)) (and_left (is_letter b) (list_all is_letter_or_digit t) letter)
+    (and_left (is_ascii_digit b) (list_all is_ascii_digit t) digit)
 
 -- the longest token of bytes that begin with a letter is as long as a word can be
-pub longest_word : (bytes : List ℕ) → 0 < length bytes → is_letter (get_or bytes 0 0) ≡ true → longest bytes ≡ prefix_len is_word_byte bytes
+pub longest_word : (bytes : List ℕ) → 0 < length bytes → is_letter (get_or bytes 0 0) ≡ true → longest bytes ≡ prefix_len is_letter_or_digit bytes
 longest_word [] some letter = absurd (omega arith)
 longest_word (b ∷ bytes) some letter =
-    longest_prefix is_word_byte b bytes (letter_token b letter)
-    ∙ sym (cond-true (is_word_byte b) (1 + prefix_len is_word_byte bytes) 0 (ap (λ x. x || is_ascii_digit b) letter) ∙ omega arith)
+    longest_prefix is_letter_or_digit b bytes (letter_token b letter)
+    ∙ sym (cond-true (is_letter_or_digit b) (1 + prefix_len is_letter_or_digit bytes) 0 (ap (λ x. x || is_ascii_digit b) letter) ∙ omega arith)
 
 -- the like for digits
-pub longest_run : (bytes : List ℕ) → 0 < length bytes → is_letter (get_or bytes 0 0) ≡ false → is_ascii_digit (get_or bytes 0 0) ≡ true → longest bytes ≡ prefix_len is_ascii_digit bytes
+pub longest_run : (bytes : List ℕ) → 0 < length bytes → is_letter (get_or bytes 0 0) ≡ false → is_ascii_digit (get_or bytes 0 0) ≡ true → longest bytes
+    ≡ prefix_len is_ascii_digit bytes
 longest_run [] some letter digit = absurd (omega arith)
 longest_run (b ∷ bytes) some letter digit =
     longest_prefix is_ascii_digit b bytes (digit_token b letter digit)
     ∙ sym (cond-true (is_ascii_digit b) (1 + prefix_len is_ascii_digit bytes) 0 digit ∙ omega arith)
 
 -- no symbol has three bytes
-above_pair : (b c : ℕ) (more : List ℕ) → ((t : List ℕ) → is_token (b ∷ t) ≡ is_symbol (b ∷ t)) → (j : ℕ) → 2 < j → j ≤ suc (suc (length more)) → is_token (take j (b ∷ c ∷ more)) ≡ false
+above_pair : (b c : ℕ) (more : List ℕ) → ((t : List ℕ) → is_token (b ∷ t) ≡ is_symbol (b ∷ t)) → (j : ℕ) → 2 < j → j ≤ suc (suc (length more))
+    → is_token (take j (b ∷ c ∷ more)) ≡ false
 above_pair b c more same zero over under = absurd (omega arith)
 above_pair b c more same (suc zero) over under = absurd (omega arith)
 above_pair b c more same (suc (suc zero)) over under = absurd (omega arith)
@@ -138,7 +191,8 @@ above_pair b c [] same (suc (suc (suc j))) over under = absurd (omega arith)
 above_pair b c (d ∷ more) same (suc (suc (suc j))) over under = same (c ∷ d ∷ take j more)
 
 -- a symbol of two bytes is the longest token
-pub longest_pair : (bytes : List ℕ) → 1 < length bytes → is_letter (get_or bytes 0 0) ≡ false → is_ascii_digit (get_or bytes 0 0) ≡ false → is_pair (get_or bytes 0 0) (get_or bytes 1 0) ≡ true → longest bytes ≡ 2
+pub longest_pair : (bytes : List ℕ) → 1 < length bytes → is_letter (get_or bytes 0 0) ≡ false → is_ascii_digit (get_or bytes 0 0) ≡ false
+    → is_pair (get_or bytes 0 0) (get_or bytes 1 0) ≡ true → longest bytes ≡ 2
 longest_pair [] two letter digit pair = absurd (omega arith)
 longest_pair (b ∷ []) two letter digit pair = absurd (omega arith)
 longest_pair (b ∷ c ∷ more) two letter digit pair =
@@ -146,7 +200,8 @@ longest_pair (b ∷ c ∷ more) two letter digit pair =
     (λ _. symbol_token b letter digit (c ∷ []) ∙ pair)
     (above_pair b c more (symbol_token b letter digit))
 
-above_single : (b : ℕ) (bytes : List ℕ) → ((t : List ℕ) → is_token (b ∷ t) ≡ is_symbol (b ∷ t)) → (0 < length bytes → is_pair b (get_or bytes 0 0) ≡ false) → (j : ℕ) → 1 < j → j ≤ suc (length bytes) → is_token (take j (b ∷ bytes)) ≡ false
+above_single : (b : ℕ) (bytes : List ℕ) → ((t : List ℕ) → is_token (b ∷ t) ≡ is_symbol (b ∷ t)) → (0 < length bytes → is_pair b (get_or bytes 0 0) ≡ false)
+    → (j : ℕ) → 1 < j → j ≤ suc (length bytes) → is_token (take j (b ∷ bytes)) ≡ false
 above_single b bytes same no_pair zero over under = absurd (omega arith)
 above_single b bytes same no_pair (suc zero) over under = absurd (omega arith)
 above_single b [] same no_pair (suc (suc j)) over under = absurd (omega arith)
@@ -154,20 +209,23 @@ above_single b (c ∷ more) same no_pair (suc (suc zero)) over under = same (c �
 above_single b (c ∷ more) same no_pair (suc (suc (suc j))) over under = above_pair b c more same (suc (suc (suc j))) (omega arith) under
 
 -- a symbol of one byte is the longest token where the next byte makes no symbol with it
-pub longest_single : (bytes : List ℕ) → 0 < length bytes → is_letter (get_or bytes 0 0) ≡ false → is_ascii_digit (get_or bytes 0 0) ≡ false → (1 < length bytes → is_pair (get_or bytes 0 0) (get_or bytes 1 0) ≡ false) → is_single (get_or bytes 0 0) ≡ true → longest bytes ≡ 1
+pub longest_single : (bytes : List ℕ) → 0 < length bytes → is_letter (get_or bytes 0 0) ≡ false → is_ascii_digit (get_or bytes 0 0) ≡ false
+    → (1 < length bytes → is_pair (get_or bytes 0 0) (get_or bytes 1 0) ≡ false) → is_single (get_or bytes 0 0) ≡ true → longest bytes ≡ 1
 longest_single [] some letter digit no_pair single = absurd (omega arith)
 longest_single (b ∷ bytes) some letter digit no_pair single =
     greatest_is (λ n. is_token (take n (b ∷ bytes))) (suc (length bytes)) 1 (omega arith)
     (λ _. symbol_token b letter digit [] ∙ single)
     (above_single b bytes (symbol_token b letter digit) (λ more. no_pair (omega arith)))
 
-above_none : (b : ℕ) (bytes : List ℕ) → ((t : List ℕ) → is_token (b ∷ t) ≡ is_symbol (b ∷ t)) → (0 < length bytes → is_pair b (get_or bytes 0 0) ≡ false) → is_single b ≡ false → (j : ℕ) → 0 < j → j ≤ suc (length bytes) → is_token (take j (b ∷ bytes)) ≡ false
+above_none : (b : ℕ) (bytes : List ℕ) → ((t : List ℕ) → is_token (b ∷ t) ≡ is_symbol (b ∷ t)) → (0 < length bytes → is_pair b (get_or bytes 0 0) ≡ false)
+    → is_single b ≡ false → (j : ℕ) → 0 < j → j ≤ suc (length bytes) → is_token (take j (b ∷ bytes)) ≡ false
 above_none b bytes same no_pair no_single zero over under = absurd (omega arith)
 above_none b bytes same no_pair no_single (suc zero) over under = same [] ∙ no_single
 above_none b bytes same no_pair no_single (suc (suc j)) over under = above_single b bytes same no_pair (suc (suc j)) (omega arith) under
 
 -- where neither is a symbol, no token begins
-pub longest_none : (bytes : List ℕ) → 0 < length bytes → is_letter (get_or bytes 0 0) ≡ false → is_ascii_digit (get_or bytes 0 0) ≡ false → (1 < length bytes → is_pair (get_or bytes 0 0) (get_or bytes 1 0) ≡ false) → is_single (get_or bytes 0 0) ≡ false → longest bytes ≡ 0
+pub longest_none : (bytes : List ℕ) → 0 < length bytes → is_letter (get_or bytes 0 0) ≡ false → is_ascii_digit (get_or bytes 0 0) ≡ false
+    → (1 < length bytes → is_pair (get_or bytes 0 0) (get_or bytes 1 0) ≡ false) → is_single (get_or bytes 0 0) ≡ false → longest bytes ≡ 0
 longest_none [] some letter digit no_pair no_single = absurd (omega arith)
 longest_none (b ∷ bytes) some letter digit no_pair no_single =
     greatest_is (λ n. is_token (take n (b ∷ bytes))) (suc (length bytes)) 0 (omega arith)
@@ -214,7 +272,8 @@ longest_token bytes some = greatest_passes (λ n. is_token (take n bytes)) (leng
 pub longest_above : (bytes : List ℕ) (k : ℕ) → longest bytes < k → k ≤ length bytes → is_token (take k bytes) ≡ false
 longest_above bytes k over under = greatest_above (λ n. is_token (take n bytes)) (length bytes) k over under
 
-pub longest_is : (bytes : List ℕ) (n : ℕ) → n ≤ length bytes → is_token (take n bytes) ≡ true → ((k : ℕ) → n < k → k ≤ length bytes → is_token (take k bytes) ≡ false) → longest bytes ≡ n
+pub longest_is : (bytes : List ℕ) (n : ℕ) → n ≤ length bytes → is_token (take n bytes) ≡ true
+    → ((k : ℕ) → n < k → k ≤ length bytes → is_token (take k bytes) ≡ false) → longest bytes ≡ n
 longest_is bytes n within token above = greatest_is (λ k. is_token (take k bytes)) (length bytes) n within (λ _. token) above
 
 pub longest_zero : (bytes : List ℕ) → ((k : ℕ) → 0 < k → k ≤ length bytes → is_token (take k bytes) ≡ false) → longest bytes ≡ 0

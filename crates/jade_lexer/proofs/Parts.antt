@@ -1,5 +1,35 @@
 -- What stands first at a spot, by what the bytes begin with.
-use Rattle.std.proofs.Common.{◌≡◌, ℕ, suc, ◌+◌, ◌<◌, Bool, true, false, not, cond, ◌&&◌, List, [], ◌∷◌, ◌++◌, length, take, drop, get_or, Result, Ok, Err, refl, sym, ap, subst, ◌∙◌, ⊎_elim, arith}
+use Rattle.std.proofs.Common.{
+  ◌≡◌,
+  ℕ,
+  suc,
+  ◌+◌,
+  ◌<◌,
+  Bool,
+  true,
+  false,
+  not,
+  cond,
+  ◌&&◌,
+  List,
+  [],
+  ◌∷◌,
+  ◌++◌,
+  length,
+  take,
+  drop,
+  get_or,
+  Result,
+  Ok,
+  Err,
+  refl,
+  sym,
+  ap,
+  subst,
+  ◌∙◌,
+  ⊎_elim,
+  arith,
+}
 use Rattle.std.proofs.Math.Dec.{eqb, ltb}
 use Rattle.std.specs.List.{list_all, prefix_len}
 use Rattle.std.specs.Char.{is_ascii_digit}
@@ -10,7 +40,8 @@ use Rattle.jade_lexer.specs.declared.lexeme.LexError.TheVariants.{Byte, Number, 
 use Rattle.jade_lexer.specs.declared.lexer.Part.{Part}
 use Rattle.jade_lexer.specs.declared.lexer.Part.TheVariants.{Blank, Token}
 use Rattle.jade_lexer.specs.declared.lexer.Spot.{Spot}
-use Rattle.jade_lexer.specs.Alphabet.{is_separator, is_letter, is_number, is_opener, longest}
+use Rattle.jade_lexer.specs.Alphabet.{is_separator, is_number, is_opener, longest}
+use Rattle.jade_alphabet.specs.Letters.{is_letter}
 use Rattle.jade_lexer.specs.Reading.{first_part, token_part, begins_comment, pos_after}
 use Rattle.jade_lexer.specs.Cut.{EndsLine}
 
@@ -22,21 +53,25 @@ abbrev rest_part : Spot → List ℕ → Result Part LexError
 rest_part spot bytes = token_part spot (take (longest bytes) bytes) (drop (longest bytes) bytes)
 
 pub part_separator : (spot : Spot) (bytes : List ℕ) → is_separator (get_or bytes 0 0) ≡ true → first_part spot bytes ≡ Ok (Blank 1)
-part_separator spot bytes separator = cond-true (is_separator (get_or bytes 0 0)) (Ok (Blank 1)) (cond (begins_comment bytes) (Ok (Blank (line_len bytes))) (rest_part spot bytes)) separator
+part_separator spot bytes separator =
+    cond-true (is_separator (get_or bytes 0 0)) (Ok (Blank 1)) (cond (begins_comment bytes) (Ok (Blank (line_len bytes))) (rest_part spot bytes)) separator
 
-pub part_comment : (spot : Spot) (bytes : List ℕ) → is_separator (get_or bytes 0 0) ≡ false → begins_comment bytes ≡ true → first_part spot bytes ≡ Ok (Blank (line_len bytes))
+pub part_comment : (spot : Spot) (bytes : List ℕ) → is_separator (get_or bytes 0 0) ≡ false → begins_comment bytes ≡ true → first_part spot bytes
+    ≡ Ok (Blank (line_len bytes))
 part_comment spot bytes separator comment =
     cond-false (is_separator (get_or bytes 0 0)) (Ok (Blank 1)) (cond (begins_comment bytes) (Ok (Blank (line_len bytes))) (rest_part spot bytes)) separator
     ∙ cond-true (begins_comment bytes) (Ok (Blank (line_len bytes))) (rest_part spot bytes) comment
 
-pub part_token : (spot : Spot) (bytes : List ℕ) → is_separator (get_or bytes 0 0) ≡ false → begins_comment bytes ≡ false → first_part spot bytes ≡ token_part spot (take (longest bytes) bytes) (drop (longest bytes) bytes)
+pub part_token : (spot : Spot) (bytes : List ℕ) → is_separator (get_or bytes 0 0) ≡ false → begins_comment bytes ≡ false → first_part spot bytes
+    ≡ token_part spot (take (longest bytes) bytes) (drop (longest bytes) bytes)
 part_token spot bytes separator comment =
     cond-false (is_separator (get_or bytes 0 0)) (Ok (Blank 1)) (cond (begins_comment bytes) (Ok (Blank (line_len bytes))) (rest_part spot bytes)) separator
     ∙ cond-false (begins_comment bytes) (Ok (Blank (line_len bytes))) (rest_part spot bytes) comment
 
 -- a comment's first byte is no separator
 pub comment_no_separator : (bytes : List ℕ) → begins_comment bytes ≡ true → is_separator (get_or bytes 0 0) ≡ false
-comment_no_separator bytes comment = ap is_separator (eqb-true (get_or bytes 0 0) 47 (and_parts (eqb (get_or bytes 0 0) 47) (eqb (get_or bytes 1 0) 47) comment).0)
+comment_no_separator bytes comment =
+    ap is_separator (eqb-true (get_or bytes 0 0) 47 (and_parts (eqb (get_or bytes 0 0) 47) (eqb (get_or bytes 1 0) 47) comment).0)
 
 -- the tests of a token, in their order
 module _ (spot : Spot) (token after : List ℕ) where
@@ -62,21 +97,26 @@ module _ (spot : Spot) (token after : List ℕ) where
   token_none none = cond-true (eqb (length token) 0) (Err (Byte spot.pos)) from_long none
 
   pub token_long : eqb (length token) 0 ≡ false → too_long ≡ true → token_part spot token after ≡ Err (Byte (pos_after spot.pos (take 64 token)))
-  token_long some long = cond-false (eqb (length token) 0) (Err (Byte spot.pos)) from_long some ∙ cond-true too_long (Err (Byte (pos_after spot.pos (take 64 token)))) from_number long
+  token_long some long = cond-false (eqb (length token) 0) (Err (Byte spot.pos)) from_long some
+      ∙ cond-true too_long (Err (Byte (pos_after spot.pos (take 64 token)))) from_number long
 
   pub token_number : eqb (length token) 0 ≡ false → too_long ≡ false → no_number ≡ true → token_part spot token after ≡ Err (Number spot.pos)
   token_number some long number =
-      cond-false (eqb (length token) 0) (Err (Byte spot.pos)) from_long some ∙ cond-false too_long (Err (Byte (pos_after spot.pos (take 64 token)))) from_number long
+      cond-false (eqb (length token) 0) (Err (Byte spot.pos)) from_long some
+      ∙ cond-false too_long (Err (Byte (pos_after spot.pos (take 64 token)))) from_number long
       ∙ cond-true no_number (Err (Number spot.pos)) from_deep number
 
   pub token_deep : eqb (length token) 0 ≡ false → too_long ≡ false → no_number ≡ false → too_deep ≡ true → token_part spot token after ≡ Err (Deep spot.pos)
   token_deep some long number deep =
-      cond-false (eqb (length token) 0) (Err (Byte spot.pos)) from_long some ∙ cond-false too_long (Err (Byte (pos_after spot.pos (take 64 token)))) from_number long
+      cond-false (eqb (length token) 0) (Err (Byte spot.pos)) from_long some
+      ∙ cond-false too_long (Err (Byte (pos_after spot.pos (take 64 token)))) from_number long
       ∙ cond-false no_number (Err (Number spot.pos)) from_deep number ∙ cond-true too_deep (Err (Deep spot.pos)) (Ok (Token (length token))) deep
 
-  pub token_fine : eqb (length token) 0 ≡ false → too_long ≡ false → no_number ≡ false → too_deep ≡ false → token_part spot token after ≡ Ok (Token (length token))
+  pub token_fine : eqb (length token) 0 ≡ false → too_long ≡ false → no_number ≡ false → too_deep ≡ false → token_part spot token after
+      ≡ Ok (Token (length token))
   token_fine some long number deep =
-      cond-false (eqb (length token) 0) (Err (Byte spot.pos)) from_long some ∙ cond-false too_long (Err (Byte (pos_after spot.pos (take 64 token)))) from_number long
+      cond-false (eqb (length token) 0) (Err (Byte spot.pos)) from_long some
+      ∙ cond-false too_long (Err (Byte (pos_after spot.pos (take 64 token)))) from_number long
       ∙ cond-false no_number (Err (Number spot.pos)) from_deep number ∙ cond-false too_deep (Err (Deep spot.pos)) (Ok (Token (length token))) deep
 
 -- a comment's line is the comment, where a line could end after it
@@ -85,7 +125,8 @@ line_len_is [] [] whole ends = refl
 line_len_is [] (b ∷ after) whole ends = cond-false (not (eqb b 10)) (1 + line_len after) 0 (ap not (eq-eqb b 10 ends))
 line_len_is (b ∷ blank) after whole ends =
     let parts = and_parts (not (eqb b 10)) (list_all (λ c. not (eqb c 10)) blank) whole in
-    cond-true (not (eqb b 10)) (1 + line_len (blank ++ after)) 0 parts.0 ∙ (let so : line_len (blank ++ after) ≡ length blank = line_len_is blank after parts.1 ends in omega arith)
+    cond-true (not (eqb b 10)) (1 + line_len (blank ++ after)) 0 parts.0
+    ∙ (let so : line_len (blank ++ after) ≡ length blank = line_len_is blank after parts.1 ends in omega arith)
 
 line_len-cons : (b : ℕ) (bytes : List ℕ) → eqb b 10 ≡ false → line_len (b ∷ bytes) ≡ suc (line_len bytes)
 line_len-cons b bytes other = cond-true (not (eqb b 10)) (1 + line_len bytes) 0 (ap not other) ∙ omega arith

@@ -1,5 +1,29 @@
 -- Where the tokens of a cut text stand in it.
-use Rattle.std.proofs.Common.{◌≡◌, ℕ, zero, suc, ◌+◌, ◌≤◌, List, [], ◌∷◌, ◌++◌, length, take, drop, get_or, refl, sym, ap, subst, ◌∙◌, arith, append_assoc, append-nil, length-append}
+use Rattle.std.proofs.Common.{
+  ◌≡◌,
+  ℕ,
+  zero,
+  suc,
+  ◌+◌,
+  ◌≤◌,
+  List,
+  [],
+  ◌∷◌,
+  ◌++◌,
+  length,
+  take,
+  drop,
+  get_or,
+  refl,
+  sym,
+  ap,
+  subst,
+  ◌∙◌,
+  arith,
+  append_assoc,
+  append-nil,
+  length-append,
+}
 use Rattle.std.proofs.Math.Seq.{take-append_seam, drop-append_seam}
 use Rattle.std.specs.List.{All}
 use Rattle.jade_base.specs.declared.place.Pos.{Pos}
@@ -40,7 +64,8 @@ after_more before front spot depth at = record {
   pos = ap (λ p. pos_after p front) at.pos ∙ sym (pos_after-append first_spot.pos before front);
 }
 
-stand : (end : Pos) (before : List ℕ) (spot : Spot) (bytes : List ℕ) (ts : List TokenAt) → IsAfter before spot → Cut end spot bytes ts → Stand (before ++ bytes) spot.start ts end
+stand : (end : Pos) (before : List ℕ) (spot : Spot) (bytes : List ℕ) (ts : List TokenAt) → IsAfter before spot → Cut end spot bytes ts
+    → Stand (before ++ bytes) spot.start ts end
 stand end before spot [] [] at (nothing is) = record {
   each = λ k d within. absurd (omega arith);
   order = tt;
@@ -62,8 +87,10 @@ stand end before spot bytes (t ∷ ts) at (token after is start pos first sound 
     let start_is : t.start ≡ length before = start ∙ at.start in
     let split : before ++ (front ++ after) ≡ before ++ bytes = ap (λ l. before ++ l) (sym is) in
     let here : StandsIn (before ++ (front ++ after)) t = record {
-      bytes = sym (ap (λ k. take (length front) (drop k (before ++ (front ++ after)))) start_is ∙ ap (take (length front)) (drop-append_seam before (front ++ after)) ∙ take-append_seam front after);
-      pos = pos ∙ at.pos ∙ ap (pos_after first_spot.pos) (sym (ap (λ k. take k (before ++ (front ++ after))) start_is ∙ take-append_seam before (front ++ after)));
+      bytes = sym (ap (λ k. take (length front) (drop k (before ++ (front ++ after)))) start_is
+          ∙ ap (take (length front)) (drop-append_seam before (front ++ after)) ∙ take-append_seam front after);
+      pos = pos ∙ at.pos ∙ ap (pos_after first_spot.pos)
+          (sym (ap (λ k. take k (before ++ (front ++ after))) start_is ∙ take-append_seam before (front ++ after)));
     } in
     record {
       each = all_cons (StandsIn (before ++ bytes)) t ts (subst (λ l. StandsIn l t) split here) (subst (λ l. All (StandsIn l) ts) whole later.each);

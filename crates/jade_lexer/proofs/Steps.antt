@@ -1,5 +1,32 @@
 -- How a reading goes on from one part of a text to the next.
-use Rattle.std.proofs.Common.{◌≡◌, ℕ, zero, suc, ◌+◌, ◌-◌, ◌<◌, ◌≤◌, List, [], ◌∷◌, ◌++◌, length, get_or, map, take, drop, Ok, Err, refl, sym, ap, ◌∙◌, arith, length-drop, length-take-le}
+use Rattle.std.proofs.Common.{
+  ◌≡◌,
+  ℕ,
+  zero,
+  suc,
+  ◌+◌,
+  ◌-◌,
+  ◌<◌,
+  ◌≤◌,
+  List,
+  [],
+  ◌∷◌,
+  ◌++◌,
+  length,
+  get_or,
+  map,
+  take,
+  drop,
+  Ok,
+  Err,
+  refl,
+  sym,
+  ap,
+  ◌∙◌,
+  arith,
+  length-drop,
+  length-take-le,
+}
 use Rattle.jade_base.specs.declared.place.Pos.{Pos}
 use Rattle.jade_lexer.specs.declared.lexeme.Lexeme.{Lexeme}
 use Rattle.jade_lexer.specs.declared.lexeme.LexError.{LexError}
@@ -37,7 +64,8 @@ passed_one_less zero spot b bytes some = absurd (omega arith)
 passed_one_less (suc n) spot b bytes some = let less : suc n - 1 ≡ n = omega arith in ap (λ k. read_from k spot bytes) less ∙ passed n spot bytes
 
 -- a reading, by its first part
-pub blank_read : (spot : Spot) (bytes : List ℕ) (n : ℕ) → 0 < length bytes → 0 < n → Ok (Blank n) ≡ first_part spot bytes → read_from 0 spot bytes ≡ read_from 0 (spot_after spot (take n bytes) spot.depth) (drop n bytes)
+pub blank_read : (spot : Spot) (bytes : List ℕ) (n : ℕ) → 0 < length bytes → 0 < n → Ok (Blank n) ≡ first_part spot bytes → read_from 0 spot bytes
+    ≡ read_from 0 (spot_after spot (take n bytes) spot.depth) (drop n bytes)
 blank_read spot [] n nonempty some part = absurd (omega arith)
 blank_read spot (b ∷ bytes) n nonempty some part =
     ap (λ p. part_reading spot (b ∷ bytes) p (λ k after. read_from k after bytes)) (sym part)
@@ -46,7 +74,8 @@ blank_read spot (b ∷ bytes) n nonempty some part =
 abbrev pub token_at : Spot → List ℕ → TokenAt
 token_at spot token = record { bytes = token; start = spot.start; pos = spot.pos }
 
-pub token_read : (spot : Spot) (bytes : List ℕ) (n : ℕ) → 0 < length bytes → 0 < n → Ok (Token n) ≡ first_part spot bytes → read_from 0 spot bytes ≡ add (token_at spot (take n bytes)) (read_from 0 (spot_after spot (take n bytes) (depth_after spot.depth (get_or bytes 0 0))) (drop n bytes))
+pub token_read : (spot : Spot) (bytes : List ℕ) (n : ℕ) → 0 < length bytes → 0 < n → Ok (Token n) ≡ first_part spot bytes → read_from 0 spot bytes
+    ≡ add (token_at spot (take n bytes)) (read_from 0 (spot_after spot (take n bytes) (depth_after spot.depth (get_or bytes 0 0))) (drop n bytes))
 token_read spot [] n nonempty some part = absurd (omega arith)
 token_read spot (b ∷ bytes) n nonempty some part =
     ap (λ p. part_reading spot (b ∷ bytes) p (λ k after. read_from k after bytes)) (sym part)
@@ -84,7 +113,8 @@ front_length n rest front after takes = ap length takes.front_is ∙ length-take
 after_length : (n : ℕ) (rest front after : List ℕ) → Takes n rest front after → n + length after ≡ length rest
 after_length n rest front after takes = omega (arith, ap length takes.after_is, length-drop n rest, takes.within)
 
-pub underway_blank : (text : List ℕ) (found : List TokenAt) (spot next : Spot) (n : ℕ) (rest front after : List ℕ) → Underway text found spot rest → Takes n rest front after → Moves spot front spot.depth next → Ok (Blank n) ≡ first_part spot rest → Underway text found next after
+pub underway_blank : (text : List ℕ) (found : List TokenAt) (spot next : Spot) (n : ℕ) (rest front after : List ℕ) → Underway text found spot rest
+    → Takes n rest front after → Moves spot front spot.depth next → Ok (Blank n) ≡ first_part spot rest → Underway text found next after
 underway_blank text found spot next n rest front after so_far takes moves part =
     let front_long = front_length n rest front after takes in
     let after_long = after_length n rest front after takes in
@@ -102,13 +132,16 @@ underway_blank text found spot next n rest front after so_far takes moves part =
       depth = omega (arith, so_far.depth);
     }
 
-pub underway_token : (text : List ℕ) (found new : List TokenAt) (token : TokenAt) (spot next : Spot) (depth n : ℕ) (rest front after : List ℕ) → Underway text found spot rest → Takes n rest front after → Moves spot front depth next → Ok (Token n) ≡ first_part spot rest → depth ≡ depth_after spot.depth (get_or rest 0 0) → depth ≤ spot.depth + 1 → token ≡ token_at spot front → new ≡ found ++ token ∷ [] → Underway text new next after
+pub underway_token : (text : List ℕ) (found new : List TokenAt) (token : TokenAt) (spot next : Spot) (depth n : ℕ) (rest front after : List ℕ)
+    → Underway text found spot rest → Takes n rest front after → Moves spot front depth next → Ok (Token n) ≡ first_part spot rest → depth
+    ≡ depth_after spot.depth (get_or rest 0 0) → depth ≤ spot.depth + 1 → token ≡ token_at spot front → new ≡ found ++ token ∷ [] → Underway text new next after
 underway_token text found new token spot next depth n rest front after so_far takes moves part depth_is bound token_is new_is =
     let front_long = front_length n rest front after takes in
     let after_long = after_length n rest front after takes in
     let some = takes.some in
     let nonempty : 0 < length rest = omega arith in
-    let to_next : spot_after spot (take n rest) (depth_after spot.depth (get_or rest 0 0)) ≡ next = (λ i. spot_after spot (sym takes.front_is i) (sym depth_is i)) ∙ sym moves.is in
+    let to_next : spot_after spot (take n rest) (depth_after spot.depth (get_or rest 0 0)) ≡ next =
+    (λ i. spot_after spot (sym takes.front_is i) (sym depth_is i)) ∙ sym moves.is in
     let to_after : drop n rest ≡ after = sym takes.after_is in
     let to_token : token_at spot (take n rest) ≡ token = ap (token_at spot) (sym takes.front_is) ∙ sym token_is in
     let start_is : next.start ≡ spot.start + length front = ap (λ s. s.start) moves.is in
@@ -125,7 +158,8 @@ underway_token text found new token spot next depth n rest front after so_far ta
     }
 
 -- with nothing left, what was found is the whole reading
-pub underway_end : (text : List ℕ) (found : List TokenAt) (spot : Spot) (rest : List ℕ) → Underway text found spot rest → length rest ≡ 0 → reading text ≡ Whole (record { lexemes = found; end = spot.pos })
+pub underway_end : (text : List ℕ) (found : List TokenAt) (spot : Spot) (rest : List ℕ) → Underway text found spot rest → length rest ≡ 0 → reading text
+    ≡ Whole (record { lexemes = found; end = spot.pos })
 underway_end text found spot [] so_far none = so_far.same ∙ add_all-whole found spot.pos
 underway_end text found spot (b ∷ rest) so_far none = absurd (omega arith)
 
@@ -136,7 +170,8 @@ is_refusal r (Deep p) same = same
 is_refusal r Memory same = tt
 
 -- a refusal at the spot is the text's
-pub underway_refused : (text : List ℕ) (found : List TokenAt) (spot : Spot) (rest : List ℕ) (e : LexError) → Underway text found spot rest → 0 < length rest → Err e ≡ first_part spot rest → IsRefusal (reading text) e
+pub underway_refused : (text : List ℕ) (found : List TokenAt) (spot : Spot) (rest : List ℕ) (e : LexError) → Underway text found spot rest → 0 < length rest
+    → Err e ≡ first_part spot rest → IsRefusal (reading text) e
 underway_refused text found spot rest e so_far nonempty part =
     is_refusal (reading text) e (so_far.same ∙ ap (add_all found) (refused_read spot rest e nonempty part) ∙ add_all-refused found e)
 

@@ -10,10 +10,14 @@ value_after-ge n [] = omega arith
 value_after-ge n (d ∷ digits) = omega (arith, value_after-ge (10 * n + (d - 48)) digits)
 
 -- one more digit read
-pub value_step : (n : ℕ) (digits : List ℕ) (i : ℕ) → i < length digits → value_after n (drop i digits) ≡ value_after (10 * n + (get_or digits i 0 - 48)) (drop (i + 1) digits)
+pub value_step : (n : ℕ) (digits : List ℕ) (i : ℕ) → i < length digits → value_after n (drop i digits)
+    ≡ value_after (10 * n + (get_or digits i 0 - 48)) (drop (i + 1) digits)
 value_step n digits i within = rw (add-one, drop-cons digits i 0) refl
 
 -- a value past the limit stays past it
-pub value_past : (limit n : ℕ) (digits : List ℕ) (i : ℕ) → i < length digits → limit < 10 * n + (get_or digits i 0 - 48) → leb (value_after n (drop i digits)) limit ≡ false
+pub value_past : (limit n : ℕ) (digits : List ℕ) (i : ℕ) → i < length digits → limit < 10 * n + (get_or digits i 0 - 48)
+    → leb (value_after n (drop i digits)) limit ≡ false
 value_past limit n digits i within past =
-    rw (value_step n digits i within) (lt-leb (value_after (10 * n + (get_or digits i 0 - 48)) (drop (i + 1) digits)) limit (omega (arith, value_after-ge (10 * n + (get_or digits i 0 - 48)) (drop (i + 1) digits))))
+    rw (value_step n digits i within)
+    (lt-leb (value_after (10 * n + (get_or digits i 0 - 48)) (drop (i + 1) digits)) limit
+    (omega (arith, value_after-ge (10 * n + (get_or digits i 0 - 48)) (drop (i + 1) digits))))

@@ -1,19 +1,35 @@
 -- The bytes and the tokens of the language, by their classes, and the longest token that begins some bytes.
-use Rattle.std.specs.Prelude.{ℕ, zero, suc, ◌+◌, ◌*◌, ◌-◌, Bool, false, not, ◌&&◌, ◌||◌, ◌==◌, nat_le, List, [], ◌∷◌, length, take, codes, slice_index, if◌then◌else◌}
+use Rattle.std.specs.Prelude.{
+  ℕ,
+  zero,
+  suc,
+  ◌+◌,
+  ◌*◌,
+  ◌-◌,
+  Bool,
+  false,
+  not,
+  ◌&&◌,
+  ◌||◌,
+  ◌==◌,
+  nat_le,
+  List,
+  [],
+  ◌∷◌,
+  length,
+  take,
+  codes,
+  slice_index,
+  if◌then◌else◌,
+}
 use Rattle.std.specs.List.{list_any, list_all}
-use Rattle.std.specs.Char.{is_ascii_digit, is_ascii_alphabetic}
+use Rattle.std.specs.Char.{is_ascii_digit}
+use Rattle.jade_alphabet.specs.Letters.{is_letter, is_word}
+use Rattle.jade_alphabet.specs.declared.TheConstants.{GREATEST_NUMBER}
 
 -- a space, a tab, a carriage return or a line feed
 abbrev pub is_separator : ℕ → Bool
 is_separator b = b == 32 || b == 9 || b == 13 || b == 10
-
--- an ASCII letter or `_`
-abbrev pub is_letter : ℕ → Bool
-is_letter b = is_ascii_alphabetic b || b == 95
-
--- a letter, a digit or `_`
-abbrev pub is_word_byte : ℕ → Bool
-is_word_byte b = is_letter b || is_ascii_digit b
 
 -- one of ( [ {
 abbrev pub is_opener : ℕ → Bool
@@ -22,11 +38,6 @@ is_opener b = b == 40 || b == 91 || b == 123
 -- one of ) ] }
 abbrev pub is_closer : ℕ → Bool
 is_closer b = b == 41 || b == 93 || b == 125
-
--- a letter, and then letters and digits
-abbrev pub is_word : List ℕ → Bool
-is_word [] = false
-is_word (b ∷ bytes) = is_letter b && list_all is_word_byte bytes
 
 -- one or more digits
 abbrev pub is_run : List ℕ → Bool
@@ -66,8 +77,8 @@ abbrev pub value_after : ℕ → List ℕ → ℕ
 value_after n [] = n
 value_after n (d ∷ digits) = value_after (10 * n + (d - 48)) digits
 
--- a run of digits, before these bytes, is a number: it has no needless 0 in front, its value is at most 2 ^ 63 - 1, and no letter follows
+-- a run of digits, before these bytes, is a number: it has no needless 0 in front, its value is at most the greatest number, and no letter follows
 abbrev pub is_number : List ℕ → List ℕ → Bool
 is_number run after =
-    (length run == 1 || not (slice_index run 0 == 48)) && nat_le (value_after 0 run) 9223372036854775807
+    (length run == 1 || not (slice_index run 0 == 48)) && nat_le (value_after 0 run) GREATEST_NUMBER
     && not (is_letter (slice_index after 0))

@@ -1,5 +1,29 @@
 -- How a text reads: as its tokens in order, or as the first refusal. Each text has one reading, since it is a function of the text.
-use Rattle.std.specs.Prelude.{◌≡◌, ℕ, Bool, zero, suc, ◌+◌, ◌-◌, not, ◌&&◌, ◌==◌, nat_lt, List, [], ◌∷◌, length, take, drop, slice_index, Result, Ok, Err, if◌then◌else◌}
+use Rattle.std.specs.Prelude.{
+  ◌≡◌,
+  ℕ,
+  Bool,
+  zero,
+  suc,
+  ◌+◌,
+  ◌-◌,
+  not,
+  ◌&&◌,
+  ◌==◌,
+  nat_lt,
+  nat_le,
+  List,
+  [],
+  ◌∷◌,
+  length,
+  take,
+  drop,
+  slice_index,
+  Result,
+  Ok,
+  Err,
+  if◌then◌else◌,
+}
 use Rattle.std.specs.List.{prefix_len}
 use Rattle.std.specs.Char.{is_ascii_digit}
 use Rattle.jade_base.specs.declared.place.Pos.{Pos}
@@ -8,7 +32,9 @@ use Rattle.jade_lexer.specs.declared.lexeme.LexError.TheVariants.{Byte, Number, 
 use Rattle.jade_lexer.specs.declared.lexer.Part.{Part}
 use Rattle.jade_lexer.specs.declared.lexer.Part.TheVariants.{Blank, Token}
 use Rattle.jade_lexer.specs.declared.lexer.Spot.{Spot}
-use Rattle.jade_lexer.specs.Alphabet.{is_separator, is_letter, is_number, is_opener, is_closer, longest}
+use Rattle.jade_lexer.specs.Alphabet.{is_separator, is_number, is_opener, is_closer, longest}
+use Rattle.jade_alphabet.specs.Letters.{is_letter}
+use Rattle.jade_alphabet.specs.declared.TheConstants.{WORD_LIMIT, DEPTH_LIMIT}
 use Rattle.jade_lexer.specs.Lexemes.{TokenAt, TokenList}
 
 -- the position after a byte: a line ends with a line feed, and any other byte is one column
@@ -34,13 +60,14 @@ spot_after spot bytes depth =
 abbrev pub begins_comment : List ℕ → Bool
 begins_comment bytes = slice_index bytes 0 == 47 && slice_index bytes 1 == 47
 
--- what a longest token at a spot comes to, before the bytes that follow it: a word, which begins with a letter, has at most 64 bytes; a run of digits is a number; at most 64 brackets are open
+-- what a longest token at a spot comes to, before the bytes that follow it: a word, which begins with a letter, has at most 64 bytes; a run of digits
+-- is a number; at most 64 brackets are open
 abbrev pub token_part : Spot → List ℕ → List ℕ → Result Part LexError
 token_part spot token after =
     if length token == 0 then Err (Byte spot.pos)
-    else (if is_letter (slice_index token 0) && nat_lt 64 (length token) then Err (Byte (pos_after spot.pos (take 64 token)))
+    else (if is_letter (slice_index token 0) && nat_lt WORD_LIMIT (length token) then Err (Byte (pos_after spot.pos (take WORD_LIMIT token)))
     else (if is_ascii_digit (slice_index token 0) && not (is_number token after) then Err (Number spot.pos)
-    else (if is_opener (slice_index token 0) && nat_lt 63 spot.depth then Err (Deep spot.pos)
+    else (if is_opener (slice_index token 0) && nat_le DEPTH_LIMIT spot.depth then Err (Deep spot.pos)
     else Ok (Token (length token)))))
 
 -- what stands first at a spot: a separator, a comment up to its line feed or the end, a token, or what is refused

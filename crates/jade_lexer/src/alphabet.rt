@@ -1,31 +1,17 @@
 ghost use Rattle.std.specs.Prelude.{◌≡◌, ◌<◌, ◌==◌, false, not, length, slice_index, nat_le};
 ghost use Rattle.std.specs.List.{prefix_len};
 ghost use Rattle.std.specs.Char.{is_ascii_digit};
-ghost use Rattle.jade_lexer.specs.Alphabet.{is_separator, is_letter, is_word_byte, is_opener, is_closer, is_single, is_pair, longest, value_after, is_number};
+ghost use Rattle.jade_lexer.specs.Alphabet.{is_separator, is_opener, is_closer, is_single, is_pair, longest, value_after, is_number};
+ghost use Rattle.jade_alphabet.specs.Letters.{is_letter, is_letter_or_digit};
 ghost use Rattle.jade_lexer.specs.Reading.{begins_comment};
 
-/// The greatest number that a text may write.
-const GREATEST: u64 = 9223372036854775807;
+use jade_alphabet::{GREATEST_NUMBER, is_letter, is_letter_or_digit};
 
 /// Whether a byte separates tokens.
 pub(crate) fn is_separator(byte: u8) -> bool
     ensures { result ≡ is_separator byte }
 {
     byte == b' ' || byte == b'\t' || byte == b'\r' || byte == b'\n'
-}
-
-/// Whether a word may begin with a byte.
-pub(crate) fn is_letter(byte: u8) -> bool
-    ensures { result ≡ is_letter byte }
-{
-    byte.is_ascii_alphabetic() || byte == b'_'
-}
-
-/// Whether a word may go on with a byte.
-fn is_word_byte(byte: u8) -> bool
-    ensures { result ≡ is_word_byte byte }
-{
-    is_letter(byte) || byte.is_ascii_digit()
 }
 
 /// Whether a byte is an opening bracket.
@@ -74,9 +60,12 @@ fn symbol_length(bytes: &[u8]) -> usize
 
 /// How many bytes a word could take of the front.
 fn word_length(bytes: &[u8]) -> usize
-    ensures { result ≡ prefix_len is_word_byte bytes.now }
+    ensures { result ≡ prefix_len is_letter_or_digit bytes.now }
 {
-    bytes.iter().take_while(|byte| is_word_byte(**byte)).count()
+    bytes
+        .iter()
+        .take_while(|byte| is_letter_or_digit(**byte))
+        .count()
 }
 
 /// How many digits stand at the front.
@@ -119,12 +108,12 @@ pub(crate) fn line_length(bytes: &[u8]) -> usize
 
 /// Whether the value of some digits is no greater than the greatest number.
 fn is_small(digits: &[u8]) -> bool
-    ensures { result ≡ nat_le (value_after 0 digits.now) GREATEST }
+    ensures { result ≡ nat_le (value_after 0 digits.now) GREATEST_NUMBER }
 {
     let mut value: u64 = 0;
     for digit in digits {
         let unit = u64::from(digit.saturating_sub(b'0'));
-        if value > (GREATEST - unit) / 10 {
+        if value > (GREATEST_NUMBER - unit) / 10 {
             return false;
         }
         value = 10 * value + unit;

@@ -2,18 +2,12 @@ ghost use Rattle.std.specs.Prelude.{◌≡◌, ◌+◌, ◌<◌, ◌≤◌, ◌^
 ghost use Rattle.jade_lexer.specs.Reading.{next_pos, pos_after, depth_after, spot_after, token_part, first_part, part_length, reading, Whole, IsRefusal};
 
 use crate::alphabet::{
-    begins_comment, is_closer, is_letter, is_number, is_opener, is_separator, line_length,
-    token_length,
+    begins_comment, is_closer, is_number, is_opener, is_separator, line_length, token_length,
 };
 use crate::lexeme::{LexError, Lexeme, Tokens};
+use jade_alphabet::{DEPTH_LIMIT, WORD_LIMIT, is_letter};
 use jade_base::Pos;
 use std::alloc::Global;
-
-/// The most bytes of a word.
-const WORD_LIMIT: usize = 64;
-
-/// The most brackets that are open at once.
-const DEPTH_LIMIT: u32 = 64;
 
 /// Where the reading of a text stands: the number of bytes before it, the position of the next
 /// byte, and how many brackets are open.
@@ -73,10 +67,10 @@ fn pos_after(mut pos: Pos, bytes: &[u8]) -> Pos
 
 /// The position of the first byte that is too many in a word.
 fn word_limit_pos(pos: Pos, word: &[u8]) -> Pos
-    requires long { 64 ≤ length word.now }
+    requires long { WORD_LIMIT ≤ length word.now }
     requires line { pos.line + length word.now < 2 ^ 32 }
     requires column { pos.column + length word.now < 2 ^ 32 }
-    ensures { result ≡ pos_after pos (take 64 word.now) }
+    ensures { result ≡ pos_after pos (take WORD_LIMIT word.now) }
 {
     let (allowed, _rest) = word.split_at(WORD_LIMIT);
     pos_after(pos, allowed)
@@ -114,7 +108,7 @@ fn token_part(spot: Spot, token: &[u8], after: &[u8]) -> Result<Part, LexError>
     if token[0].is_ascii_digit() && !is_number(token, after) {
         return Err(LexError::Number(spot.pos));
     }
-    if is_opener(token[0]) && spot.depth >= DEPTH_LIMIT {
+    if is_opener(token[0]) && spot.depth as usize >= DEPTH_LIMIT {
         return Err(LexError::Deep(spot.pos));
     }
     Ok(Part::Token(token.len()))

@@ -12,7 +12,28 @@ use Rattle.jade_syntax.specs.declared.tree.ValueKind.TheVariants.{Int}
 use Rattle.jade_syntax.specs.declared.tree.DeclareWord.TheVariants.{Rd, Wr, RdWr, DfWr, NoWr}
 use Rattle.jade_syntax.specs.declared.tree.SumOp.TheVariants.{Plus, Minus}
 use Rattle.jade_syntax.specs.declared.tree.ProductOp.TheVariants.{Times, Over, Remainder}
-use Rattle.jade_syntax.specs.Abstract.{Adds, Multiplies, Whole, Variable, Chain, Cell, Last, Link, Alone, Member, Local, Assign, Store, For, Withonly, With, Declare, Done, Then, AbstractProgram}
+use Rattle.jade_syntax.specs.Abstract.{
+  Adds,
+  Multiplies,
+  Whole,
+  Variable,
+  Chain,
+  Cell,
+  Last,
+  Link,
+  Alone,
+  Member,
+  Local,
+  Assign,
+  Store,
+  For,
+  Withonly,
+  With,
+  Declare,
+  Done,
+  Then,
+  AbstractProgram,
+}
 use Rattle.jade_meaning.specs.Values.{Gives, Fails, multiplied}
 use Rattle.jade_meaning.specs.declared.values.Value.TheVariants.{IntOf}
 use Rattle.jade_meaning.specs.Course.{limit_blame}
@@ -39,33 +60,101 @@ abbrev part : List ℕ → (children steps : ℕ) → PartStep
 part path children steps = record { path = path; children = children; steps = steps }
 
 abbrev one_child : AbstractProgram
-one_child = record { items = single (115 ∷ []) 1 ∷ []; main = (Then (Withonly (at 1 22) (Then (Declare Wr (at 1 33) (Alone (115 ∷ []) (at 1 36))) Done) ([]) (Then (Store (Alone (115 ∷ []) (at 1 50)) (Whole (pos 0)) (Whole (pos 7))) Done)) Done) }
+one_child = record {
+  items = single (115 ∷ []) 1 ∷ [];
+  main =
+      (Then (Withonly (at 1 22) (Then (Declare Wr (at 1 33) (Alone (115 ∷ []) (at 1 36))) Done) ([])
+      (Then (Store (Alone (115 ∷ []) (at 1 50)) (Whole (pos 0)) (Whole (pos 7))) Done)) Done);
+}
 
 abbrev reads_without_right : AbstractProgram
-reads_without_right = record { items = single (115 ∷ []) 1 ∷ []; main = (Then (Withonly (at 3 1) (Then (Declare Wr (at 3 12) (Alone (115 ∷ []) (at 3 15))) Done) ([]) (Then (Store (Alone (115 ∷ []) (at 4 1)) (Whole (pos 0)) (Chain (Cell (Alone (115 ∷ []) (at 4 8)) (Whole (pos 0))) (Link (Adds Plus) (at 4 13) (Whole (pos 1)) Last))) Done)) Done) }
+reads_without_right = record {
+  items = single (115 ∷ []) 1 ∷ [];
+  main =
+      (Then (Withonly (at 3 1) (Then (Declare Wr (at 3 12) (Alone (115 ∷ []) (at 3 15))) Done) ([])
+      (Then (Store (Alone (115 ∷ []) (at 4 1)) (Whole (pos 0)) (Chain (Cell (Alone (115 ∷ []) (at 4 8)) (Whole (pos 0)))
+      (Link (Adds Plus) (at 4 13) (Whole (pos 1)) Last))) Done)) Done);
+}
 
 abbrev right_made_immediate : AbstractProgram
-right_made_immediate = record { items = single (115 ∷ []) 1 ∷ []; main = (Then (Withonly (at 3 1) (Then (Declare DfWr (at 3 12) (Alone (115 ∷ []) (at 3 18))) Done) ([]) (Then (With (at 4 1) (Then (Declare Wr (at 4 8) (Alone (115 ∷ []) (at 4 11))) Done)) (Then (Store (Alone (115 ∷ []) (at 5 1)) (Whole (pos 0)) (Whole (pos 3))) Done))) Done) }
+right_made_immediate = record {
+  items = single (115 ∷ []) 1 ∷ [];
+  main =
+      (Then (Withonly (at 3 1) (Then (Declare DfWr (at 3 12) (Alone (115 ∷ []) (at 3 18))) Done) ([])
+      (Then (With (at 4 1) (Then (Declare Wr (at 4 8) (Alone (115 ∷ []) (at 4 11))) Done))
+      (Then (Store (Alone (115 ∷ []) (at 5 1)) (Whole (pos 0)) (Whole (pos 3))) Done))) Done);
+}
 
 abbrev right_given_up : AbstractProgram
-right_given_up = record { items = single (115 ∷ []) 1 ∷ []; main = (Then (With (at 3 1) (Then (Declare NoWr (at 3 8) (Alone (115 ∷ []) (at 3 14))) (Then (Declare Wr (at 3 18) (Alone (115 ∷ []) (at 3 21))) Done))) (Then (Withonly (at 4 1) (Then (Declare Wr (at 4 12) (Alone (115 ∷ []) (at 4 15))) Done) ([]) Done) Done)) }
+right_given_up = record {
+  items = single (115 ∷ []) 1 ∷ [];
+  main =
+      (Then (With (at 3 1) (Then (Declare NoWr (at 3 8) (Alone (115 ∷ []) (at 3 14))) (Then (Declare Wr (at 3 18) (Alone (115 ∷ []) (at 3 21))) Done)))
+      (Then (Withonly (at 4 1) (Then (Declare Wr (at 4 12) (Alone (115 ∷ []) (at 4 15))) Done) ([]) Done) Done));
+}
 
 abbrev no_such_member : AbstractProgram
-no_such_member = record { items = family (99 ∷ 111 ∷ 108 ∷ []) 4 1 ∷ []; main = (Then (Withonly (at 3 1) (Then (Declare Rd (at 3 12) (Member (99 ∷ 111 ∷ 108 ∷ []) (at 3 15) (Chain (Whole (pos 0)) (Link (Adds Minus) (at 3 21) (Whole (pos 1)) Last)))) Done) ([]) Done) Done) }
+no_such_member = record {
+  items = family (99 ∷ 111 ∷ 108 ∷ []) 4 1 ∷ [];
+  main =
+      (Then (Withonly (at 3 1)
+      (Then (Declare Rd (at 3 12) (Member (99 ∷ 111 ∷ 108 ∷ []) (at 3 15) (Chain (Whole (pos 0)) (Link (Adds Minus) (at 3 21) (Whole (pos 1)) Last)))) Done)
+      ([]) Done) Done);
+}
 
 abbrev grandchild : AbstractProgram
-grandchild = record { items = single (115 ∷ []) 1 ∷ []; main = (Then (Withonly (at 1 22) (Then (Declare RdWr (at 1 33) (Alone (115 ∷ []) (at 1 39))) Done) ([]) (Then (Withonly (at 1 53) (Then (Declare RdWr (at 1 64) (Alone (115 ∷ []) (at 1 70))) Done) ([]) (Then (Store (Alone (115 ∷ []) (at 1 84)) (Whole (pos 0)) (Chain (Cell (Alone (115 ∷ []) (at 1 91)) (Whole (pos 0))) (Link (Adds Plus) (at 1 96) (Whole (pos 1)) Last))) Done)) (Then (Store (Alone (115 ∷ []) (at 1 103)) (Whole (pos 0)) (Chain (Cell (Alone (115 ∷ []) (at 1 110)) (Whole (pos 0))) (Link (Multiplies Times) (at 1 115) (Whole (pos 10)) Last))) Done))) (Then (Withonly (at 1 123) (Then (Declare RdWr (at 1 134) (Alone (115 ∷ []) (at 1 140))) Done) ([]) (Then (Store (Alone (115 ∷ []) (at 1 154)) (Whole (pos 0)) (Chain (Cell (Alone (115 ∷ []) (at 1 161)) (Whole (pos 0))) (Link (Adds Plus) (at 1 166) (Whole (pos 2)) Last))) Done)) Done)) }
+grandchild = record {
+  items = single (115 ∷ []) 1 ∷ [];
+  main =
+      (Then (Withonly (at 1 22) (Then (Declare RdWr (at 1 33) (Alone (115 ∷ []) (at 1 39))) Done) ([])
+      (Then (Withonly (at 1 53) (Then (Declare RdWr (at 1 64) (Alone (115 ∷ []) (at 1 70))) Done) ([])
+      (Then (Store (Alone (115 ∷ []) (at 1 84)) (Whole (pos 0)) (Chain (Cell (Alone (115 ∷ []) (at 1 91)) (Whole (pos 0)))
+      (Link (Adds Plus) (at 1 96) (Whole (pos 1)) Last))) Done))
+      (Then (Store (Alone (115 ∷ []) (at 1 103)) (Whole (pos 0)) (Chain (Cell (Alone (115 ∷ []) (at 1 110)) (Whole (pos 0)))
+      (Link (Multiplies Times) (at 1 115) (Whole (pos 10)) Last))) Done)))
+      (Then (Withonly (at 1 123) (Then (Declare RdWr (at 1 134) (Alone (115 ∷ []) (at 1 140))) Done) ([])
+      (Then (Store (Alone (115 ∷ []) (at 1 154)) (Whole (pos 0)) (Chain (Cell (Alone (115 ∷ []) (at 1 161)) (Whole (pos 0)))
+      (Link (Adds Plus) (at 1 166) (Whole (pos 2)) Last))) Done)) Done));
+}
 
 abbrev column : AbstractProgram
-column = record { items = Input (110 ∷ []) start ∷ family (99 ∷ 111 ∷ 108 ∷ []) 4 2 ∷ []; main = (Then (For (106 ∷ []) (Whole (pos 0)) (Whole (pos 4)) (Then (Withonly (at 5 9) (Then (Declare Wr (at 5 20) (Member (99 ∷ 111 ∷ 108 ∷ []) (at 5 23) (Variable (106 ∷ [])))) Done) ((106 ∷ []) ∷ []) (Then (Store (Member (99 ∷ 111 ∷ 108 ∷ []) (at 6 13) (Variable (106 ∷ []))) (Whole (pos 0)) (Chain (Variable (106 ∷ [])) (Link (Multiplies Times) (at 6 27) (Whole (pos 10)) Last))) (Then (Store (Member (99 ∷ 111 ∷ 108 ∷ []) (at 7 13) (Variable (106 ∷ []))) (Whole (pos 1)) (Variable (110 ∷ []))) Done))) Done)) (Then (For (106 ∷ []) (Whole (pos 1)) (Whole (pos 4)) (Then (Withonly (at 11 9) (Then (Declare Rd (at 11 20) (Member (99 ∷ 111 ∷ 108 ∷ []) (at 11 23) (Chain (Variable (106 ∷ [])) (Link (Adds Minus) (at 11 29) (Whole (pos 1)) Last)))) (Then (Declare RdWr (at 11 36) (Member (99 ∷ 111 ∷ 108 ∷ []) (at 11 42) (Variable (106 ∷ [])))) Done)) ((106 ∷ []) ∷ []) (Then (Store (Member (99 ∷ 111 ∷ 108 ∷ []) (at 12 13) (Variable (106 ∷ []))) (Whole (pos 0)) (Chain (Cell (Member (99 ∷ 111 ∷ 108 ∷ []) (at 12 25) (Variable (106 ∷ []))) (Whole (pos 0))) (Link (Adds Plus) (at 12 35) (Cell (Member (99 ∷ 111 ∷ 108 ∷ []) (at 12 37) (Chain (Variable (106 ∷ [])) (Link (Adds Minus) (at 12 43) (Whole (pos 1)) Last))) (Whole (pos 0))) Last))) Done)) Done)) Done)) }
+column = record {
+  items = Input (110 ∷ []) start ∷ family (99 ∷ 111 ∷ 108 ∷ []) 4 2 ∷ [];
+  main =
+      (Then (For (106 ∷ []) (Whole (pos 0)) (Whole (pos 4))
+      (Then (Withonly (at 5 9) (Then (Declare Wr (at 5 20) (Member (99 ∷ 111 ∷ 108 ∷ []) (at 5 23) (Variable (106 ∷ [])))) Done) ((106 ∷ []) ∷ [])
+      (Then (Store (Member (99 ∷ 111 ∷ 108 ∷ []) (at 6 13) (Variable (106 ∷ []))) (Whole (pos 0))
+      (Chain (Variable (106 ∷ [])) (Link (Multiplies Times) (at 6 27) (Whole (pos 10)) Last)))
+      (Then (Store (Member (99 ∷ 111 ∷ 108 ∷ []) (at 7 13) (Variable (106 ∷ []))) (Whole (pos 1)) (Variable (110 ∷ []))) Done))) Done))
+      (Then (For (106 ∷ []) (Whole (pos 1)) (Whole (pos 4))
+      (Then (Withonly (at 11 9)
+      (Then (Declare Rd (at 11 20) (Member (99 ∷ 111 ∷ 108 ∷ []) (at 11 23) (Chain (Variable (106 ∷ [])) (Link (Adds Minus) (at 11 29) (Whole (pos 1)) Last))))
+      (Then (Declare RdWr (at 11 36) (Member (99 ∷ 111 ∷ 108 ∷ []) (at 11 42) (Variable (106 ∷ [])))) Done)) ((106 ∷ []) ∷ [])
+      (Then (Store (Member (99 ∷ 111 ∷ 108 ∷ []) (at 12 13) (Variable (106 ∷ []))) (Whole (pos 0))
+      (Chain (Cell (Member (99 ∷ 111 ∷ 108 ∷ []) (at 12 25) (Variable (106 ∷ []))) (Whole (pos 0)))
+      (Link (Adds Plus) (at 12 35)
+      (Cell (Member (99 ∷ 111 ∷ 108 ∷ []) (at 12 37) (Chain (Variable (106 ∷ [])) (Link (Adds Minus) (at 12 43) (Whole (pos 1)) Last))) (Whole (pos 0))) Last)))
+      Done)) Done)) Done));
+}
 
 abbrev two_steps : AbstractProgram
 two_steps = record { items = []; main = (Then (Local Int (97 ∷ []) (Whole (pos 1))) (Then (Assign (97 ∷ []) (Whole (pos 2))) Done)) }
 
-one_child_report : report one_child [] 100 ≡ record { objects = (pos 7 ∷ []) ∷ []; faults = []; turns = [] ∷ []; steps = part (0 ∷ []) 0 2 ∷ part (0 ∷ 0 ∷ []) 0 1 ∷ part (0 ∷ []) 1 0 ∷ [] }
+one_child_report : report one_child [] 100 ≡ record {
+  objects = (pos 7 ∷ []) ∷ [];
+  faults = [];
+  turns = [] ∷ [];
+  steps =
+      part (0 ∷ []) 0 2 ∷ part (0 ∷ 0 ∷ []) 0 1 ∷ part (0 ∷ []) 1 0 ∷ [];
+}
 one_child_report = refl
 
-one_child_limit : report one_child [] 1 ≡ record { objects = (pos 0 ∷ []) ∷ []; faults = record { path = 0 ∷ []; children = 0; blame = limit_blame } ∷ []; turns = [] ∷ []; steps = part (0 ∷ []) 0 1 ∷ [] }
+one_child_limit : report one_child [] 1 ≡ record {
+  objects = (pos 0 ∷ []) ∷ [];
+  faults = record { path = 0 ∷ []; children = 0; blame = limit_blame } ∷ [];
+  turns = [] ∷ [];
+  steps = part (0 ∷ []) 0 1 ∷ [];
+}
 one_child_limit = refl
 
 one_child_whole_limit : answer one_child [] 2 ≡ Faulted (0 ∷ 0 ∷ []) limit_blame

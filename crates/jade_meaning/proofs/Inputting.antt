@@ -38,7 +38,8 @@ none_made items numbers h =
       enough = omega arith;
     }
 
-module _ (items : List Item) (numbers : List ℤ) (i j n : ℕ) (scope : Environment) (item : Item) (next : i + 1 ≡ j) (at_i : slice_get items i ≡ Some item) (h : Made items numbers j n scope) where
+module _ (items : List Item) (numbers : List ℤ) (i j n : ℕ) (scope : Environment) (item : Item) (next : i + 1 ≡ j) (at_i : slice_get items i ≡ Some item)
+    (h : Made items numbers j n scope) where
   counted_at : (k : Item) → item ≡ k → n ≡ length (input_names (take i items)) + length (input_names (k ∷ []))
   counted_at k e =
       let lt = slice_get_within items i item at_i in
@@ -55,13 +56,15 @@ module _ (items : List Item) (numbers : List ℤ) (i j n : ℕ) (scope : Environ
   pub input_left : (y : Name) (at : Pos) → item ≡ Input y at → 0 < n
   input_left y at e = omega (arith, counted_at (Input y at) e)
 
-  pub input_made : (y : Name) (at : Pos) (m : ℕ) (new : Environment) → item ≡ Input y at → m + 1 ≡ n → new ≡ record { name = y; value = IntOf (slice_index_or numbers m (pos 0)) } ∷ scope → Made items numbers i m new
+  pub input_made : (y : Name) (at : Pos) (m : ℕ) (new : Environment) → item ≡ Input y at → m + 1 ≡ n
+      → new ≡ record { name = y; value = IntOf (slice_index_or numbers m (pos 0)) } ∷ scope → Made items numbers i m new
   input_made y at m new e f k =
       let z = slice_index_or numbers m (pos 0) in
       let lt : m < length numbers = omega (arith, f, h.enough) in
       let front : drop m numbers ≡ z ∷ drop n numbers = drop-cons numbers m (pos 0) lt ∙ ap (λ t. z ∷ drop t numbers) (sym (add-one m) ∙ f) in
       record {
-        same = k ∙ ap (λ s. record { name = y; value = IntOf z } ∷ s) h.same ∙ ap (inputs (Input y at ∷ drop j items)) (sym front) ∙ ap (λ x. inputs x (drop m numbers)) (sym (rest_is (Input y at) e));
+        same = k ∙ ap (λ s. record { name = y; value = IntOf z } ∷ s) h.same ∙ ap (inputs (Input y at ∷ drop j items)) (sym front)
+            ∙ ap (λ x. inputs x (drop m numbers)) (sym (rest_is (Input y at) e));
         counted = omega (arith, counted_at (Input y at) e, f);
         within = omega (arith, next, h.within);
         enough = omega (arith, f, h.enough);

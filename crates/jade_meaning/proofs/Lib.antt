@@ -4,17 +4,15 @@ mod Bounds
 mod Ascent
 mod Cells
 mod Carrying
-mod Telling
+mod Answering
 mod Scoping
-mod Counting
 mod Covering
 mod Ranging
-mod Opening
 mod Chaining
 mod Framing
-mod Standings
+mod Configurations
 mod Walking
-mod Hearing
+mod Evaluating
 mod Listing
 mod Storing
 mod Performing
@@ -23,3 +21,6 @@ mod Naming
 mod Inputting
 mod Reporting
 mod Examples
+pub mod Opened
+mod Ending
+mod Spreading

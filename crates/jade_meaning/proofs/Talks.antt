@@ -1,5 +1,30 @@
 -- Each task of the serial run says by itself what it does there.
-use Rattle.std.proofs.Common.{◌≡◌, ℕ, suc, ◌<◌, ◌≤◌, Bool, true, false, ◌&&◌, List, [], ◌∷◌, ◌++◌, map, refl, sym, ap, ◌∙◌, subst, Option, Some, None, arith, append-nil}
+use Rattle.std.proofs.Common.{
+  ◌≡◌,
+  ℕ,
+  suc,
+  ◌<◌,
+  ◌≤◌,
+  Bool,
+  true,
+  false,
+  ◌&&◌,
+  List,
+  [],
+  ◌∷◌,
+  ◌++◌,
+  map,
+  refl,
+  sym,
+  ap,
+  ◌∙◌,
+  subst,
+  Option,
+  Some,
+  None,
+  arith,
+  append-nil,
+}
 use Rattle.std.specs.Prelude.{slice_get, zero, ℤ, nat_eq, is_none, if◌then◌else◌}
 use Rattle.std.specs.List.{filter_map, cons_option, flat_map}
 use Rattle.std.proofs.lemmas.List.Elements.{filter_map-append}
@@ -11,9 +36,74 @@ use Rattle.jade_meaning.specs.Specification.{Specification, rights_on, objects}
 use Rattle.jade_syntax.specs.Abstract.{AbstractProgram}
 use Rattle.jade_syntax.specs.Objects.{sizes}
 use Rattle.jade_meaning.specs.Course.{Course, Reads, Writes, Steps, Creates, Changes, Ends, root_course}
-use Rattle.jade_meaning.specs.Talk.{Task, Event, Enter, Enroll, TouchRead, TouchWrite, Wants, Give, Leave, talk, events, Holds, held, when, take_in, first_take, touched, start_holds, start_takes, creation_gives, enters, kept, change_gives, shift, shifts, taken_anew, change_takes, changed, end_gives, end_leaves}
-use Rattle.jade_meaning.specs.Serial.{Mark, Path, Store, Deed, DidRead, DidWrite, DidCreate, DidEnd, serial, own, under, after, cell, with_cell, deeds_at, read_of, same_path, zeros}
-use Rattle.jade_meaning.specs.Laws.{deed_of, deeds, ends_with_resign, IsOver, DoesIts, Every, ChildDoesIts, child_path, root_task, TalkFollowsSerial, Extends, same_events, answered, one_more}
+use Rattle.jade_meaning.specs.Talk.{
+  Task,
+  Event,
+  Enter,
+  Enroll,
+  TouchRead,
+  TouchWrite,
+  Wants,
+  Give,
+  Leave,
+  talk,
+  events,
+  Holds,
+  held,
+  when,
+  take_in,
+  first_take,
+  touched,
+  start_holds,
+  start_takes,
+  creation_gives,
+  enters,
+  kept,
+  change_gives,
+  shift,
+  shifts,
+  taken_anew,
+  change_takes,
+  changed,
+  end_gives,
+  end_leaves,
+}
+use Rattle.jade_meaning.specs.Serial.{
+  Mark,
+  Path,
+  Store,
+  Deed,
+  DidRead,
+  DidWrite,
+  DidCreate,
+  DidEnd,
+  serial,
+  own,
+  under,
+  after,
+  cell,
+  with_cell,
+  deeds_at,
+  read_of,
+  same_path,
+  zeros,
+}
+use Rattle.jade_meaning.specs.Laws.{
+  deed_of,
+  deeds,
+  ends_with_resign,
+  IsOver,
+  DoesIts,
+  Every,
+  ChildDoesIts,
+  child_path,
+  root_task,
+  TalkFollowsSerial,
+  Extends,
+  same_events,
+  answered,
+  one_more,
+}
 
 -- events of which no deed tells
 abbrev IsQuiet : List Event → Type 0
@@ -49,18 +139,22 @@ quiet_starts spec = quiet_all _ (λ o. quiet_take (mode_of (rights_on spec o)) o
 
 quiet_creation : (child : Specification) (h : Holds) → IsQuiet (creation_gives child h ++ enters child)
 quiet_creation child h =
-    quiet_both (creation_gives child h) (enters child) (quiet_all _ (λ o. quiet_when _ (Give o) refl) (objects child)) (quiet_all _ (λ o. quiet_when _ (Enter o (rights_on child o)) refl) (objects child))
+    quiet_both (creation_gives child h) (enters child) (quiet_all _ (λ o. quiet_when _ (Give o) refl) (objects child))
+    (quiet_all _ (λ o. quiet_when _ (Enter o (rights_on child o)) refl) (objects child))
 
 quiet_shift : (old new : Rights) (o : ℕ) → IsQuiet (shift old new o)
 quiet_shift old new o = quiet_if (same_rights old new) _ _ refl (quiet_if (has_rights new) _ _ refl refl)
 
 quiet_change : (old new : Specification) (h : Holds) → IsQuiet (change_gives new h ++ shifts old new ++ change_takes old new h)
 quiet_change old new h =
-    quiet_both (change_gives new h ++ shifts old new) (change_takes old new h) (quiet_both (change_gives new h) (shifts old new) (quiet_all _ (λ o. quiet_when _ (Give o) refl) (objects new)) (quiet_all _ (λ o. quiet_shift (rights_on old o) (rights_on new o) o) (objects new))) (quiet_all _ (λ o. quiet_if (taken_anew old new h o) _ _ (quiet_take (mode_of (rights_on new o)) o) refl) (objects new))
+    quiet_both (change_gives new h ++ shifts old new) (change_takes old new h) (quiet_both (change_gives new h) (shifts old new)
+    (quiet_all _ (λ o. quiet_when _ (Give o) refl) (objects new)) (quiet_all _ (λ o. quiet_shift (rights_on old o) (rights_on new o) o) (objects new)))
+    (quiet_all _ (λ o. quiet_if (taken_anew old new h o) _ _ (quiet_take (mode_of (rights_on new o)) o) refl) (objects new))
 
 quiet_end : (spec : Specification) (h : Holds) → IsQuiet (end_gives spec h ++ end_leaves spec)
 quiet_end spec h =
-    quiet_both (end_gives spec h) (end_leaves spec) (quiet_all _ (λ o. quiet_when _ (Give o) refl) (objects spec)) (quiet_all _ (λ o. quiet_when _ (Leave o) refl) (objects spec))
+    quiet_both (end_gives spec h) (end_leaves spec) (quiet_all _ (λ o. quiet_when _ (Give o) refl) (objects spec))
+    (quiet_all _ (λ o. quiet_when _ (Leave o) refl) (objects spec))
 
 -- marks of a child are none of the task's own
 not_own : (k : ℕ) (ms ns : List Mark) → deeds_at [] (map (under k) ms ++ ns) ≡ deeds_at [] ns
@@ -68,7 +162,8 @@ not_own k [] ns = refl
 not_own k (m ∷ ms) ns = not_own k ms ns
 
 -- what a course does in the serial run is what its events tell
-says : (c : Course) (k n : ℕ) (store : Store) (spec : Specification) (h : Holds) → deeds (events c spec h n (filter_map read_of (deeds_at [] (serial c k n store)))) ≡ deeds_at [] (serial c k n store)
+says : (c : Course) (k n : ℕ) (store : Store) (spec : Specification) (h : Holds)
+    → deeds (events c spec h n (filter_map read_of (deeds_at [] (serial c k n store)))) ≡ deeds_at [] (serial c k n store)
 says (Reads o c on) k n store spec h =
     let v = cell store o c in
     quiet_front (first_take spec h o) _ (quiet_first spec h o) ∙ ap (λ ds. DidRead o c v ∷ ds) (says (on v) k n store spec (touched spec h o))
@@ -80,7 +175,8 @@ says (Creates child body on) k n store spec h =
     let t : Task = record { spec = child; course = body } in
     let e = not_own k inner rest in
     let same = says on (suc k) 0 (after inner store) spec (kept child h) in
-    quiet_front (creation_gives child h ++ enters child) _ (quiet_creation child h) ∙ ap (λ ds. DidCreate t n ∷ ds) (subst (λ ds. deeds (events on spec (kept child h) 0 (filter_map read_of ds)) ≡ ds) (sym e) same)
+    quiet_front (creation_gives child h ++ enters child) _ (quiet_creation child h)
+    ∙ ap (λ ds. DidCreate t n ∷ ds) (subst (λ ds. deeds (events on spec (kept child h) 0 (filter_map read_of ds)) ≡ ds) (sym e) same)
 says (Steps on) k n store spec h = says on k (suc n) store spec h
 says (Changes new on) k n store spec h =
     quiet_front (change_gives new h ++ shifts spec new ++ change_takes spec new h) _ (quiet_change spec new h) ∙ says on k n store new (changed spec new h)
@@ -96,7 +192,8 @@ ends_on' (e ∷ []) [] h = absurd (cc)
 ends_on : (es : List Event) {fs : List Event} → IsOver fs → IsOver (es ++ fs)
 ends_on es {fs} h = record { over = ends_on' es fs h.over }
 
-finishes : (c : Course) (k n : ℕ) (store : Store) (spec : Specification) (h : Holds) → IsOver (events c spec h n (filter_map read_of (deeds_at [] (serial c k n store))))
+finishes : (c : Course) (k n : ℕ) (store : Store) (spec : Specification) (h : Holds)
+    → IsOver (events c spec h n (filter_map read_of (deeds_at [] (serial c k n store))))
 finishes (Reads o c on) k n store spec h =
     let v = cell store o c in
     ends_on (first_take spec h o) (ends_on (TouchRead o c v ∷ []) (finishes (on v) k n store spec (touched spec h o)))
@@ -106,7 +203,8 @@ finishes (Creates child body on) k n store spec h =
     let inner = serial body 0 0 store in
     let rest = serial on (suc k) 0 (after inner store) in
     let t : Task = record { spec = child; course = body } in
-    let go = subst (λ ds. IsOver (events on spec (kept child h) 0 (filter_map read_of ds))) (sym (not_own k inner rest)) (finishes on (suc k) 0 (after inner store) spec (kept child h)) in
+    let go = subst (λ ds. IsOver (events on spec (kept child h) 0 (filter_map read_of ds))) (sym (not_own k inner rest))
+    (finishes on (suc k) 0 (after inner store) spec (kept child h)) in
     ends_on (creation_gives child h ++ enters child) (ends_on (Enroll t n ∷ []) go)
 finishes (Steps on) k n store spec h = finishes on k (suc n) store spec h
 finishes (Changes new on) k n store spec h =
@@ -149,7 +247,8 @@ lie_from (Reads o c on) k n store = (omega arith, lie_from (on (cell store o c))
 lie_from (Writes o c v on) k n store = (omega arith, lie_from on k n (with_cell store o c v))
 lie_from (Creates child body on) k n store =
     let inner = serial body 0 0 store in
-    let later = every_with (λ (m : Mark). suc k ≤ first_of m.path m.children) (λ (m : Mark). k ≤ first_of m.path m.children) (λ m h. omega arith) _ (lie_from on (suc k) 0 (after inner store)) in
+    let later = every_with (λ (m : Mark). suc k ≤ first_of m.path m.children) (λ (m : Mark). k ≤ first_of m.path m.children) (λ m h. omega arith) _
+    (lie_from on (suc k) 0 (after inner store)) in
     (omega arith, every_append _ (map (under k) inner) _ (every_map _ (under k) inner (every_true _ (λ m. omega arith) inner)) later)
 lie_from (Steps on) k n store = lie_from on k (suc n) store
 lie_from (Changes new on) k n store = lie_from on k n store
@@ -177,7 +276,8 @@ same_number k = eq-eqb k k refl
 below : (k : ℕ) (q : Path) (ms : List Mark) → deeds_at (k ∷ q) (map (under k) ms) ≡ deeds_at q ms
 below k q [] = refl
 below k q (m ∷ ms) =
-    ap (λ b. cons_option (if b && same_path m.path q then Some m.deed else None) (deeds_at (k ∷ q) (map (under k) ms))) (same_number k) ∙ ap (λ ds. cons_option (seen m.path m.deed q) ds) (below k q ms)
+    ap (λ b. cons_option (if b && same_path m.path q then Some m.deed else None) (deeds_at (k ∷ q) (map (under k) ms))) (same_number k)
+    ∙ ap (λ ds. cons_option (seen m.path m.deed q) ds) (below k q ms)
 
 -- and no other's
 beside : (k j : ℕ) (q : Path) (ms : List Mark) → nat_eq k j ≡ false → deeds_at (j ∷ q) (map (under k) ms) ≡ []
@@ -201,19 +301,24 @@ ChildrenDo ms ns = Every (λ m. ChildDoesIts ms (child_path m.path m.children) m
 
 one_more_own : (k : ℕ) (d : Deed) (ms : List Mark) → ChildrenDo ms ms → ChildrenDo (own k d ∷ ms) ms
 one_more_own k d ms h =
-    every_with (λ (m : Mark). ChildDoesIts ms (child_path m.path m.children) m.deed) _ (λ m g. moved ms (own k d ∷ ms) (child_path m.path m.children) (child_path m.path m.children) m.deed (longer m.path m.children d (deeds_at (child_path m.path m.children) ms)) g) ms h
+    every_with (λ (m : Mark). ChildDoesIts ms (child_path m.path m.children) m.deed) _ (λ m g. moved ms (own k d ∷ ms) (child_path m.path m.children)
+    (child_path m.path m.children) m.deed (longer m.path m.children d (deeds_at (child_path m.path m.children) ms)) g) ms h
 
 -- marks of another child in front do not matter to a child that comes later
-past_other : (k : ℕ) (inner rest : List Mark) (p : Path) (part : ℕ) → suc k ≤ first_of p part → deeds_at (child_path p part) (map (under k) inner ++ rest) ≡ deeds_at (child_path p part) rest
+past_other : (k : ℕ) (inner rest : List Mark) (p : Path) (part : ℕ) → suc k ≤ first_of p part → deeds_at (child_path p part) (map (under k) inner ++ rest)
+    ≡ deeds_at (child_path p part) rest
 past_other k inner rest [] part le =
     filter_map-append _ (map (under k) inner) rest ∙ ap (λ ds. ds ++ deeds_at (part ∷ []) rest) (beside k part [] inner (ne_eqb k part (λ e. omega arith)))
 past_other k inner rest (j ∷ p) part le =
-    filter_map-append _ (map (under k) inner) rest ∙ ap (λ ds. ds ++ deeds_at (child_path (j ∷ p) part) rest) (beside k j (child_path p part) inner (ne_eqb k j (λ e. omega arith)))
+    filter_map-append _ (map (under k) inner) rest ∙ ap (λ ds. ds ++ deeds_at (child_path (j ∷ p) part) rest)
+    (beside k j (child_path p part) inner (ne_eqb k j (λ e. omega arith)))
 
 -- and those of what comes later do not matter to the child
-before_other : (k : ℕ) (q : Path) (inner rest : List Mark) → Every (λ m. suc k ≤ first_of m.path m.children) rest → deeds_at (k ∷ q) (map (under k) inner ++ rest) ≡ deeds_at q inner
+before_other : (k : ℕ) (q : Path) (inner rest : List Mark) → Every (λ m. suc k ≤ first_of m.path m.children) rest
+    → deeds_at (k ∷ q) (map (under k) inner ++ rest) ≡ deeds_at q inner
 before_other k q inner rest h =
-    filter_map-append _ (map (under k) inner) rest ∙ ap (λ ds. deeds_at (k ∷ q) (map (under k) inner) ++ ds) (not_yet rest (suc k) k q (omega arith) h) ∙ append-nil _ ∙ below k q inner
+    filter_map-append _ (map (under k) inner) rest ∙ ap (λ ds. deeds_at (k ∷ q) (map (under k) inner) ++ ds) (not_yet rest (suc k) k q (omega arith) h)
+    ∙ append-nil _ ∙ below k q inner
 
 each : (c : Course) (k n : ℕ) (store : Store) → ChildrenDo (serial c k n store) (serial c k n store)
 each (Reads o c on) k n store = let v = cell store o c in (tt, one_more_own k (DidRead o c v) _ (each (on v) k n store))
@@ -225,8 +330,13 @@ each (Creates child body on) k n store =
     let both = map (under k) inner ++ rest in
     let late = lie_from on (suc k) 0 (after inner store) in
     let first : DoesIts (deeds_at (k ∷ []) both) t = subst (λ ds. DoesIts ds t) (sym (before_other k [] inner rest late)) (does_its t 0 store) in
-    let inside = every_map (λ (m : Mark). ChildDoesIts both (child_path m.path m.children) m.deed) (under k) inner (every_with (λ (m : Mark). ChildDoesIts inner (child_path m.path m.children) m.deed) _ (λ m g. moved inner both (child_path m.path m.children) (k ∷ child_path m.path m.children) m.deed (before_other k (child_path m.path m.children) inner rest late) g) inner (each body 0 0 store)) in
-    let later = every_with (λ (m : Mark). ChildDoesIts rest (child_path m.path m.children) m.deed × (suc k ≤ first_of m.path m.children)) (λ (m : Mark). ChildDoesIts both (child_path m.path m.children) m.deed) (λ m g. moved rest both (child_path m.path m.children) (child_path m.path m.children) m.deed (past_other k inner rest m.path m.children g.1) g.0) rest (every_both _ _ rest (each on (suc k) 0 (after inner store)) late) in
+    let inside = every_map (λ (m : Mark). ChildDoesIts both (child_path m.path m.children) m.deed) (under k) inner
+    (every_with (λ (m : Mark). ChildDoesIts inner (child_path m.path m.children) m.deed) _ (λ m g. moved inner both (child_path m.path m.children)
+    (k ∷ child_path m.path m.children) m.deed (before_other k (child_path m.path m.children) inner rest late) g) inner (each body 0 0 store)) in
+    let later = every_with (λ (m : Mark). ChildDoesIts rest (child_path m.path m.children) m.deed × (suc k ≤ first_of m.path m.children))
+    (λ (m : Mark). ChildDoesIts both (child_path m.path m.children) m.deed) (λ m g. moved rest both (child_path m.path m.children)
+    (child_path m.path m.children) m.deed (past_other k inner rest m.path m.children g.1) g.0) rest
+    (every_both _ _ rest (each on (suc k) 0 (after inner store)) late) in
     (first, one_more_own k (DidCreate t n) both (every_append _ (map (under k) inner) rest inside later))
 each (Steps on) k n store = each on k (suc n) store
 each (Changes new on) k n store = each on k n store
@@ -239,7 +349,9 @@ talk_follows_serial p ns limit =
     let ms = serial c 0 0 store in
     record {
       root = subst (λ ds. DoesIts ds (root_task p ns limit)) (sym (below 0 [] ms)) (does_its (root_task p ns limit) 0 store);
-      children = every_map (λ (m : Mark). ChildDoesIts (map (under 0) ms) (child_path m.path m.children) m.deed) (under 0) ms (every_with (λ (m : Mark). ChildDoesIts ms (child_path m.path m.children) m.deed) _ (λ m g. moved ms (map (under 0) ms) (child_path m.path m.children) (0 ∷ child_path m.path m.children) m.deed (below 0 (child_path m.path m.children) ms) g) ms (each c 0 0 store));
+      children = every_map (λ (m : Mark). ChildDoesIts (map (under 0) ms) (child_path m.path m.children) m.deed) (under 0) ms
+          (every_with (λ (m : Mark). ChildDoesIts ms (child_path m.path m.children) m.deed) _ (λ m g. moved ms (map (under 0) ms) (child_path m.path m.children)
+          (0 ∷ child_path m.path m.children) m.deed (below 0 (child_path m.path m.children) ms) g) ms (each c 0 0 store));
     }
 
 -- more answers

@@ -6,7 +6,25 @@ use Rattle.jade_base.specs.declared.report.Blame.{Blame}
 use Rattle.jade_syntax.specs.Abstract.{AbstractProgram}
 use Rattle.jade_syntax.specs.Objects.{sizes}
 use Rattle.jade_meaning.specs.Course.{Course, Reads, Writes, Steps, Creates, Changes, Ends, root_course, limit_blame}
-use Rattle.jade_meaning.specs.Serial.{Path, Store, Mark, Deed, DidRead, DidWrite, DidCreate, DidEnd, own, under, after, cell, with_cell, zeros, Part, parts, serial_run}
+use Rattle.jade_meaning.specs.Serial.{
+  Path,
+  Store,
+  Mark,
+  Deed,
+  DidRead,
+  DidWrite,
+  DidCreate,
+  DidEnd,
+  own,
+  under,
+  after,
+  cell,
+  with_cell,
+  zeros,
+  Part,
+  parts,
+  serial_run,
+}
 
 -- what a program answers: the task that faults first and why, or the cells of its objects
 pub data Answer : Type 0 where
@@ -16,6 +34,20 @@ pub data Answer : Type 0 where
 -- a part's key: the path, and the number of children created before it
 abbrev pub key : Part → Path
 key p = key_at p.path p.children
+
+-- a part among others that stand by ascending key
+abbrev pub filed : Part → List Part → List Part
+filed p [] = p ∷ []
+filed p (q ∷ qs) = if is_before (key q) (key p) then q ∷ filed p qs else p ∷ (q ∷ qs)
+
+-- parts by ascending key, in whatever order they are noted
+abbrev pub by_key : List Part → List Part
+by_key [] = []
+by_key (p ∷ ps) = filed p (by_key ps)
+
+-- the parts of marks by ascending key
+abbrev pub parts_by_key : List Mark → List Part
+parts_by_key ms = by_key (parts ms)
 
 -- the first part with a fault
 abbrev pub first_fault : List Part → Option Part
@@ -43,7 +75,7 @@ decided (Some f) (Some l) store = if is_before (key f) (key l) then Faulted f.pa
 abbrev pub answer : AbstractProgram → List ℤ → ℕ → Answer
 answer p ns limit =
     let ms = serial_run p ns limit in
-    decided (first_fault (parts ms)) (limit_place limit (parts ms)) (after ms (zeros (sizes p.items)))
+    decided (first_fault (parts_by_key ms)) (limit_place limit (parts_by_key ms)) (after ms (zeros (sizes p.items)))
 
 -- a run that stops at the first fault, or at the first step beyond the limit; what it did until then
 pub data Run : Type 0 where
@@ -103,6 +135,10 @@ accesses ms = filter_map (λ m. access_deed m.deed m) ms
 abbrev pub stopping_run : AbstractProgram → List ℤ → ℕ → Run
 stopping_run p ns limit =
     let store = zeros (sizes p.items) in then_on 0 (stopping (root_course p ns limit) 0 limit store) (λ left ms. Through left [])
+
+-- the parts of the serial run stand by ascending key already
+pub record PartsStandByKey (p : AbstractProgram) (ns : List ℤ) (limit : ℕ) : Type 0 where
+  pub same : parts_by_key (serial_run p ns limit) ≡ parts (serial_run p ns limit)
 
 -- the run that stops has the answer, and what it does is what the serial run does first
 pub record StoppingAgrees (p : AbstractProgram) (ns : List ℤ) (limit : ℕ) : Type 0 where

@@ -1,9 +1,11 @@
 -- What the words of a section mean: a child's rights in a `withonly`, changes of the task's own in a `with`.
 use Rattle.std.specs.Prelude.{Option, Some, None}
-use Rattle.jade_base.specs.declared.rights.Right.{Right}
-use Rattle.jade_base.specs.declared.rights.Right.TheVariants.{Absent, Deferred, Immediate}
+use Rattle.jade_base.specs.declared.rights.Right.TheVariants.{Deferred, Immediate}
 use Rattle.jade_base.specs.declared.rights.Rights.{Rights}
 use Rattle.jade_base.specs.Rights.{no_rights, both_rights}
+use Rattle.access_spec.specs.declared.change.Change.{Change}
+use Rattle.access_spec.specs.declared.change.Change.TheVariants.{Reads, Writes, Both, NoReads, NoWrites, Neither}
+use Rattle.access_spec.specs.Amended.{amended as amended_by}
 use Rattle.jade_syntax.specs.declared.tree.DeclareWord.{DeclareWord}
 use Rattle.jade_syntax.specs.declared.tree.DeclareWord.TheVariants.{Rd, Wr, RdWr, DfRd, DfWr, DfRdWr, NoRd, NoWr, NoRdWr}
 
@@ -19,35 +21,23 @@ declared NoRd = no_rights
 declared NoWr = no_rights
 declared NoRdWr = no_rights
 
--- a right that is asked for at once: none where there is none
-abbrev pub at_once : Right → Option Right
-at_once Absent = None
-at_once Deferred = Some Immediate
-at_once Immediate = Some Immediate
+-- the change that a word of a `with` asks for; a deferred declaration asks for none
+abbrev pub change_of : DeclareWord → Option Change
+change_of Rd = Some Reads
+change_of Wr = Some Writes
+change_of RdWr = Some Both
+change_of NoRd = Some NoReads
+change_of NoWr = Some NoWrites
+change_of NoRdWr = Some Neither
+change_of DfRd = None
+change_of DfWr = None
+change_of DfRdWr = None
 
--- the rights with this right to read, if there is one
-abbrev pub with_reads : Option Right → Rights → Option Rights
-with_reads None a = None
-with_reads (Some r) a = Some (record a { reads = r })
-
--- the rights with this right to write, if there is one
-abbrev pub with_writes : Option Right → Rights → Option Rights
-with_writes None a = None
-with_writes (Some w) a = Some (record a { writes = w })
-
--- the rights with these two, if both are there
-abbrev pub with_both : Option Right → Option Right → Rights → Option Rights
-with_both None w a = None
-with_both (Some r) w a = with_writes w (record a { reads = r })
+-- the rights after a change, if one is asked for
+abbrev pub after_change : Option Change → Rights → Option Rights
+after_change None a = Some a
+after_change (Some change) a = amended_by change a
 
 -- the task's own rights after a word of a `with`; none is the fault `change`
 abbrev pub amended : DeclareWord → Rights → Option Rights
-amended Rd a = with_reads (at_once a.reads) a
-amended Wr a = with_writes (at_once a.writes) a
-amended RdWr a = with_both (at_once a.reads) (at_once a.writes) a
-amended NoRd a = Some (record a { reads = Absent })
-amended NoWr a = Some (record a { writes = Absent })
-amended NoRdWr a = Some (record a { reads = Absent; writes = Absent })
-amended DfRd a = Some a
-amended DfWr a = Some a
-amended DfRdWr a = Some a
+amended how a = after_change (change_of how) a

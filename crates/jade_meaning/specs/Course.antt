@@ -1,5 +1,30 @@
 -- What a task goes on to do, as a tree: each read has a branch for each value that may be read.
-use Rattle.std.specs.Prelude.{ℕ, zero, suc, ◌+◌, ◌-◌, Bool, true, false, List, [], ◌∷◌, ◌++◌, length, drop, Option, Some, None, ℤ, pos, ◌+ℤ◌, nat_lt, slice_set, replicate, if◌then◌else◌}
+use Rattle.std.specs.Prelude.{
+  ℕ,
+  zero,
+  suc,
+  ◌+◌,
+  ◌-◌,
+  Bool,
+  true,
+  false,
+  List,
+  [],
+  ◌∷◌,
+  ◌++◌,
+  length,
+  drop,
+  Option,
+  Some,
+  None,
+  ℤ,
+  pos,
+  ◌+ℤ◌,
+  nat_lt,
+  slice_set,
+  replicate,
+  if◌then◌else◌,
+}
 use Rattle.jade_base.specs.declared.place.Pos.{Pos}
 use Rattle.jade_base.specs.declared.report.FaultKind.{FaultKind}
 use Rattle.jade_base.specs.declared.report.FaultKind.TheVariants.{Index, Object, Right as RightFault, Cover, Change, Limit}
@@ -9,13 +34,43 @@ use Rattle.jade_base.specs.Rights.{no_rights, both_rights, is_immediate, join}
 use Rattle.jade_syntax.specs.declared.tree.Item.{Item}
 use Rattle.jade_syntax.specs.declared.tree.Item.TheVariants.{Input, Single, Family}
 use Rattle.jade_syntax.specs.declared.tree.DeclareWord.{DeclareWord}
-use Rattle.jade_syntax.specs.Abstract.{Name, Expression, Whole, Truth, Variable, Group, Signed, Chain, Cell, Links, Last, Link, Place, Alone, Member, Action, Local, Assign, Store, If, IfElse, For, Withonly, With, Declare, Actions, Done, Then, AbstractProgram}
+use Rattle.jade_syntax.specs.Abstract.{
+  Name,
+  Expression,
+  Whole,
+  Truth,
+  Variable,
+  Group,
+  Signed,
+  Chain,
+  Cell,
+  Links,
+  Last,
+  Link,
+  Place,
+  Alone,
+  Member,
+  Action,
+  Local,
+  Assign,
+  Store,
+  If,
+  IfElse,
+  For,
+  Withonly,
+  With,
+  Declare,
+  Actions,
+  Done,
+  Then,
+  AbstractProgram,
+}
 use Rattle.jade_syntax.specs.Numbering.{same_name}
 use Rattle.jade_syntax.specs.Objects.{amount, sizes}
 use Rattle.jade_meaning.specs.declared.values.Value.{Value}
 use Rattle.jade_meaning.specs.declared.values.Value.TheVariants.{IntOf, BoolOf}
-use Rattle.jade_meaning.specs.declared.found.Range.{Range}
-use Rattle.jade_meaning.specs.declared.found.Found.{Found}
+use Rattle.jade_meaning.specs.declared.resolve.Range.{Range}
+use Rattle.jade_meaning.specs.declared.resolve.ResolvedObject.{ResolvedObject}
 use Rattle.jade_meaning.specs.Values.{Given, Gives, Fails, operated, decides, signed, whole, holds, is_index, magnitude, turn_count}
 use Rattle.jade_meaning.specs.Specification.{Specification, rights_on, covers, fitted}
 use Rattle.jade_meaning.specs.Changes.{declared, amended}
@@ -131,12 +186,12 @@ place_of (Alone x at) = at
 place_of (Member x at e) = at
 
 -- a member of a family, or the fault `object`
-abbrev pub member : Range → ℤ → Pos → Mine → (Found → Course) → Course
+abbrev pub member : Range → ℤ → Pos → Mine → (ResolvedObject → Course) → Course
 member r i at m on =
     choose (is_index i r.count) (λ n. on (record { number = r.first + magnitude i; size = r.size })) (fault Object at) m
 
 -- a cell of an object, or the fault `index`
-abbrev pub reach : Found → ℤ → Pos → Mine → (ℕ → Course) → Course
+abbrev pub reach : ResolvedObject → ℤ → Pos → Mine → (ℕ → Course) → Course
 reach o i at m on = choose (is_index i o.size) (λ n. on (magnitude i)) (fault Index at) m
 
 -- a cell is read, or the fault `right`
@@ -192,7 +247,8 @@ child_start env spec = record { env = env; spec = spec; draft = NoDraft; taken =
 abbrev pub create : Setting → Pos → List Name → On → On → On
 create s at names body on m =
     let child = fitted m.spec (drafted m.draft) in
-    choose (covers m.spec child) (λ n. Creates child (body (child_start (copied names n.env ++ s.given) child)) (on (record n { draft = NoDraft }))) (fault Cover at) m
+    choose (covers m.spec child) (λ n. Creates child (body (child_start (copied names n.env ++ s.given) child)) (on (record n { draft = NoDraft })))
+    (fault Cover at) m
 
 -- the task's own specification as the section of a `with` leaves it
 abbrev pub working : Draft → Specification → Specification
@@ -230,7 +286,7 @@ module _ (s : Setting) where
         choose (decides op v) (λ n. on v) (λ n. eval e n (λ w. given (operated op v w) at n (λ u. eval_links links u n on))) m
 
     -- the object that is meant, and what follows is given it
-    pub find : Place → Mine → (Found → Course) → Course
+    pub find : Place → Mine → (ResolvedObject → Course) → Course
     find (Alone x at) m on = let r = range_from 0 x s.items in on (record { number = r.first; size = r.size })
     find (Member x at e) m on = eval e m (λ i. member (range_from 0 x s.items) (whole i) at m on)
 

@@ -9,24 +9,29 @@ use Rattle.jade_base.specs.declared.report.Report.{Report}
 use Rattle.jade_syntax.specs.Abstract.{AbstractProgram}
 use Rattle.jade_syntax.specs.Objects.{sizes}
 use Rattle.jade_meaning.specs.Laws.{Every}
-use Rattle.jade_meaning.specs.Serial.{Path, Mark, Part, parts, after, Store, zeros, serial_run}
+use Rattle.jade_meaning.specs.Answer.{parts_by_key}
+use Rattle.jade_meaning.specs.Serial.{Path, Mark, Part, after, Store, zeros, serial_run}
 
 -- the note of a part that ended with a fault
 abbrev pub fault_of : Option Blame → Part → Option FaultNote
 fault_of None p = None
 fault_of (Some b) p = Some (record { path = p.path; children = p.children; blame = b })
 
--- the faults in serial order
+-- the notes of the parts that ended with a fault
+abbrev pub fault_notes : List Part → List FaultNote
+fault_notes ps = filter_map (λ p. fault_of p.blame p) ps
+
+-- the faults of marks by ascending key
 abbrev pub faults : List Mark → List FaultNote
-faults ms = filter_map (λ p. fault_of p.blame p) (parts ms)
+faults ms = fault_notes (parts_by_key ms)
 
 -- the note of a part's steps
 abbrev pub step_of : Part → PartStep
 step_of p = record { path = p.path; children = p.children; steps = p.steps }
 
--- the steps of the parts in serial order
+-- the steps of the parts of marks by ascending key
 abbrev pub steps_of : List Mark → List PartStep
-steps_of ms = map step_of (parts ms)
+steps_of ms = map step_of (parts_by_key ms)
 
 -- the report of these marks, from a store on, in which no object was taken for commuting
 abbrev pub reported : List Mark → Store → Report

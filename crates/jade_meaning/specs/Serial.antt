@@ -1,7 +1,8 @@
 -- The serial run: one map from objects to lists of cells, and each child run whole where it is created.
-use Rattle.std.specs.Prelude.{ℕ, suc, Bool, true, false, ◌&&◌, List, [], ◌∷◌, ◌++◌, map, Option, Some, None, ℤ, pos, slice_index_or, slice_set, nat_eq, replicate, if◌then◌else◌}
+use Rattle.std.specs.Prelude.{ℕ, suc, List, [], ◌∷◌, ◌++◌, map, Option, Some, None, ℤ, pos, slice_index_or, slice_set, replicate, if◌then◌else◌}
 use Rattle.std.specs.List.{filter_map}
 use Rattle.jade_base.specs.declared.report.Blame.{Blame}
+pub use Rattle.jade_base.specs.Places.{same_path}
 use Rattle.jade_syntax.specs.Abstract.{AbstractProgram}
 use Rattle.jade_syntax.specs.Objects.{sizes}
 use Rattle.jade_meaning.specs.Course.{Course, Reads, Writes, Steps, Creates, Changes, Ends, root_course}
@@ -28,13 +29,17 @@ pub record Mark : Type 0 where
   pub children : ℕ
   pub deed : Deed
 
+-- the cells of an object
+abbrev pub at_object : Store → ℕ → List ℤ
+at_object store o = slice_index_or store o []
+
 -- what a cell holds
 abbrev pub cell : Store → ℕ → ℕ → ℤ
-cell store o c = slice_index_or (slice_index_or store o []) c (pos 0)
+cell store o c = slice_index_or (at_object store o) c (pos 0)
 
 -- the store with another number in a cell
 abbrev pub with_cell : Store → ℕ → ℕ → ℤ → Store
-with_cell store o c v = slice_set store o (slice_set (slice_index_or store o []) c v)
+with_cell store o c v = slice_set store o (slice_set (at_object store o) c v)
 
 -- the store after one deed
 abbrev pub done_to : Deed → Store → Store
@@ -93,15 +98,9 @@ part_of_deed (DidEnd b n) m = Some (record { path = m.path; children = m.childre
 part_of_deed (DidRead o c v) m = None
 part_of_deed (DidWrite o c v) m = None
 
--- the parts in serial order
+-- the parts in the order of the marks
 abbrev pub parts : List Mark → List Part
 parts ms = filter_map (λ m. part_of_deed m.deed m) ms
-
--- the same task
-abbrev pub same_path : Path → Path → Bool
-same_path [] [] = true
-same_path (i ∷ p) (j ∷ q) = nat_eq i j && same_path p q
-same_path _ _ = false
 
 -- the deeds of the task at a path
 abbrev pub deeds_at : Path → List Mark → List Deed

@@ -1,5 +1,28 @@
 -- The events of one task, whose reads are answered by a list.
-use Rattle.std.specs.Prelude.{ℕ, suc, Bool, true, false, not, ◌&&◌, ◌||◌, List, [], ◌∷◌, ◌++◌, map, Option, Some, None, is_none, is_some, ℤ, slice_index_or, slice_set, if◌then◌else◌}
+use Rattle.std.specs.Prelude.{
+  ℕ,
+  suc,
+  Bool,
+  true,
+  false,
+  not,
+  ◌&&◌,
+  ◌||◌,
+  List,
+  [],
+  ◌∷◌,
+  ◌++◌,
+  map,
+  Option,
+  Some,
+  None,
+  is_none,
+  is_some,
+  ℤ,
+  slice_index_or,
+  slice_set,
+  if◌then◌else◌,
+}
 use Rattle.std.specs.List.{flat_map}
 use Rattle.jade_base.specs.declared.report.Blame.{Blame}
 use Rattle.jade_base.specs.declared.rights.Rights.{Rights}

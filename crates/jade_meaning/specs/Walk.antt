@@ -1,7 +1,5 @@
 -- A task that tells its events one after another, and what it is seen as.
-use Rattle.std.specs.Prelude.{◌≡◌, ℕ, suc, ◌+◌, Bool, true, false, List, [], ◌∷◌, ◌++◌, map, length, drop, Option, Some, None, is_some, is_none, ℤ, replicate}
-use Rattle.jade_base.specs.declared.place.ObjectId.{ObjectId}
-use Rattle.jade_base.specs.declared.report.Blame.{Blame}
+use Rattle.std.specs.Prelude.{◌≡◌, ℕ, suc, Bool, true, false, List, [], ◌∷◌, ◌++◌, length, drop, Option, Some, None, ℤ, replicate}
 use Rattle.jade_syntax.specs.declared.tree.Item.{Item}
 use Rattle.jade_syntax.specs.declared.tree.Statement.{Statement}
 use Rattle.jade_syntax.specs.Image.{block}
@@ -12,18 +10,11 @@ use Rattle.jade_meaning.specs.declared.walker.Carried.TheVariants as carried
 use Rattle.jade_syntax.specs.declared.tree.Program.{Program}
 use Rattle.jade_syntax.specs.Objects.{sizes}
 use Rattle.jade_base.specs.Rights.{both_rights}
-use Rattle.jade_meaning.specs.declared.holds.Told.{Told}
-use Rattle.jade_meaning.specs.declared.holds.Told.TheVariants as told
-use Rattle.jade_meaning.specs.declared.standing.Stage.{Stage}
-use Rattle.jade_meaning.specs.declared.standing.Stage.TheVariants.{Going, Asking, Over}
 use Rattle.jade_meaning.specs.Walks.{Walk}
+pub use Rattle.jade_meaning.specs.Walks.{setting_of}
 use Rattle.jade_meaning.specs.Specification.{Specification}
-use Rattle.jade_meaning.specs.Course.{Environment, Setting, inputs, finish, run_all, child_start}
+use Rattle.jade_meaning.specs.Course.{Environment, inputs, finish, run_all, child_start}
 use Rattle.jade_meaning.specs.Talk.{Task, Event, Enter, Enroll, Take, TouchRead, TouchWrite, Wants, Give, Leave, Shift, Resign, talk}
-
--- what every task of the run has
-abbrev pub setting_of : Walk → Setting
-setting_of w = record { items = w.items; given = w.given; limit = w.limit }
 
 -- the task
 abbrev pub task_of : Walk → Task
@@ -100,16 +91,6 @@ is_answered (Leave o) = false
 is_answered (Shift o a) = false
 is_answered (Resign b n) = false
 
--- whether a task may go past an event that carries this, with this value
-abbrev pub goes_with : Carried → Option ℤ → Bool
-goes_with (carried.Read o c) v = is_some v
-goes_with (carried.Ended b n) v = false
-goes_with carried.Nothing v = is_none v
-goes_with (carried.Rights a) v = is_none v
-goes_with (carried.Mode m) v = is_none v
-goes_with (carried.Write o c z) v = is_none v
-goes_with (carried.Steps n) v = is_none v
-
 -- one event further, with this answer, if there is one
 abbrev pub moved : Option ℤ → Walk → Walk
 moved None w = record w { done = suc w.done }
@@ -147,25 +128,3 @@ begun_as items given limit env spec body =
 abbrev pub root_walk : Program → List ℤ → (limit : ℕ) → Walk
 root_walk p ns limit =
     begun_as p.items (inputs p.items ns) limit (inputs p.items ns) (replicate (length (sizes p.items)) both_rights) p.main
-
--- what the read that is asked for carries
-abbrev pub read_of : Stage → Carried
-read_of (Asking o c) = carried.Read o c
-read_of Going = carried.Nothing
-read_of Over = carried.Nothing
-
--- whether an event of code is a creation
-abbrev pub enrolls : Told → Bool
-enrolls (told.Enroll n) = true
-enrolls (told.Enter o a) = false
-enrolls (told.Take o m) = false
-enrolls (told.Write o c v) = false
-enrolls (told.Give o) = false
-enrolls (told.Leave o) = false
-enrolls (told.Shift o a) = false
-enrolls (told.Resign b n) = false
-
--- whether the first is one
-abbrev pub creates : List Told → Bool
-creates [] = false
-creates (e ∷ es) = enrolls e

@@ -1,11 +1,12 @@
 //! What the words of a section make.
 
 ghost use Rattle.std.specs.Prelude.{◌≡◌, [], MatchResult, IfOk, Ok, Err};
-ghost use Rattle.jade_meaning.specs.Changes.{declared, at_once, amended};
+ghost use Rattle.jade_meaning.specs.Changes.{declared, change_of, after_change};
 ghost use Rattle.jade_meaning.specs.Course.{NoDraft, Building, Amending, drafted, working};
-ghost use Rattle.jade_meaning.specs.Direct.{drafted_with};
+ghost use Rattle.jade_meaning.specs.steps.Direct.{drafted_with};
 
-use crate::grants::Grants;
+use crate::dense_spec::DenseSpec;
+use access_spec::Change;
 use jade_base::{Blame, FaultKind, Memory, Pos, Right, Rights};
 use jade_syntax::tree::DeclareWord;
 use std::alloc::Global;
@@ -23,7 +24,7 @@ enum DraftKind {
 #[derive(Drop)]
 pub(crate) struct Draft {
     kind: DraftKind,
-    grants: Grants,
+    spec: DenseSpec,
 }
 
 impl Model for Draft {
@@ -31,9 +32,9 @@ impl Model for Draft {
 
     ghost Value = { DraftOf };
 
-    ghost use Rattle.jade_meaning.specs.Drafts.{draft_of};
+    ghost use Rattle.jade_meaning.specs.steps.Drafts.{draft_of};
 
-    ghost view = { λ d. draft_of d.kind d.grants };
+    ghost view = { λ d. draft_of d.kind d.spec };
 }
 
 impl Draft {
@@ -43,27 +44,27 @@ impl Draft {
     {
         Draft {
             kind: DraftKind::Absent,
-            grants: Grants::empty(alloc),
+            spec: DenseSpec::empty(alloc),
         }
     }
 
     /// The section of a `withonly`.
-    pub(crate) fn building(grants: Grants) -> Draft
-        ensures { result ≡ Building grants }
+    pub(crate) fn building(spec: DenseSpec) -> Draft
+        ensures { result ≡ Building spec }
     {
         Draft {
             kind: DraftKind::Building,
-            grants,
+            spec,
         }
     }
 
     /// The section of a `with`.
-    pub(crate) fn amending(grants: Grants) -> Draft
-        ensures { result ≡ Amending grants }
+    pub(crate) fn amending(spec: DenseSpec) -> Draft
+        ensures { result ≡ Amending spec }
     {
         Draft {
             kind: DraftKind::Amending,
-            grants,
+            spec,
         }
     }
 
@@ -71,29 +72,29 @@ impl Draft {
     pub(crate) fn copy(&self, alloc: Global) -> Result<Draft, Memory>
         ensures { IfOk result (λ copy. copy ≡ self.now) }
     {
-        let grants = self.grants.copy(alloc)?;
+        let spec = self.spec.copy(alloc)?;
         Ok(Draft {
             kind: self.kind,
-            grants,
+            spec,
         })
     }
 
     /// The child's specification at the end of a section.
-    pub(crate) fn into_drafted(self, alloc: Global) -> Grants
+    pub(crate) fn into_drafted(self, alloc: Global) -> DenseSpec
         ensures { result ≡ drafted self }
     {
         match self.kind {
-            DraftKind::Absent => Grants::empty(alloc),
-            DraftKind::Building | DraftKind::Amending => self.grants,
+            DraftKind::Absent => DenseSpec::empty(alloc),
+            DraftKind::Building | DraftKind::Amending => self.spec,
         }
     }
 
     /// The task's own specification as the section of a `with` leaves it.
-    pub(crate) fn into_working(self, before: Grants) -> Grants
+    pub(crate) fn into_working(self, before: DenseSpec) -> DenseSpec
         ensures { result ≡ working self before }
     {
         match self.kind {
-            DraftKind::Amending => self.grants,
+            DraftKind::Amending => self.spec,
             DraftKind::Absent | DraftKind::Building => before,
         }
     }
@@ -105,13 +106,13 @@ impl Draft {
         match self.kind {
             DraftKind::Absent => Ok(()),
             DraftKind::Building => {
-                let rights = self.grants.on(object).join(declared(word));
-                self.grants.set(object, rights);
+                let rights = self.spec.on(object).join(declared(word));
+                self.spec.set(object, rights);
                 Ok(())
             }
-            DraftKind::Amending => match amended(word, self.grants.on(object)) {
+            DraftKind::Amending => match after_change(change_of(word), self.spec.on(object)) {
                 Some(rights) => {
-                    self.grants.set(object, rights);
+                    self.spec.set(object, rights);
                     Ok(())
                 }
                 None => Err(Blame {
@@ -148,47 +149,31 @@ fn declared(word: DeclareWord) -> Rights
     }
 }
 
-// A right that is asked for at once; none where there is none.
-fn at_once(right: Right) -> Option<Right>
-    ensures { result ≡ at_once right }
+// The change that a word of a `with` asks for.
+fn change_of(word: DeclareWord) -> Option<Change>
+    ensures { result ≡ change_of word }
 {
-    match right {
-        Right::Absent => None,
-        Right::Deferred | Right::Immediate => Some(Right::Immediate),
+    match word {
+        DeclareWord::Rd => Some(Change::Reads),
+        DeclareWord::Wr => Some(Change::Writes),
+        DeclareWord::RdWr => Some(Change::Both),
+        DeclareWord::NoRd => Some(Change::NoReads),
+        DeclareWord::NoWr => Some(Change::NoWrites),
+        DeclareWord::NoRdWr => Some(Change::Neither),
+        DeclareWord::DfRd | DeclareWord::DfWr | DeclareWord::DfRdWr => None,
     }
 }
 
-// A task's own rights after a word of a `with`; none is the fault `change`.
-fn amended(word: DeclareWord, rights: Rights) -> Option<Rights>
-    ensures { result ≡ amended word rights }
+// The rights after a change, if one is asked for; none where it asks for a right that is not
+// there.
+fn after_change(change: Option<Change>, rights: Rights) -> Option<Rights>
+    ensures { result ≡ after_change change rights }
 {
-    match word {
-        DeclareWord::Rd => Some(Rights {
-            reads: at_once(rights.reads)?,
-            ..rights
-        }),
-        DeclareWord::Wr => Some(Rights {
-            writes: at_once(rights.writes)?,
-            ..rights
-        }),
-        DeclareWord::RdWr => Some(Rights {
-            reads: at_once(rights.reads)?,
-            writes: at_once(rights.writes)?,
-            ..rights
-        }),
-        DeclareWord::NoRd => Some(Rights {
-            reads: Right::Absent,
-            ..rights
-        }),
-        DeclareWord::NoWr => Some(Rights {
-            writes: Right::Absent,
-            ..rights
-        }),
-        DeclareWord::NoRdWr => Some(Rights {
-            reads: Right::Absent,
-            writes: Right::Absent,
-            ..rights
-        }),
-        DeclareWord::DfRd | DeclareWord::DfWr | DeclareWord::DfRdWr => Some(rights),
+    match change {
+        None => Some(rights),
+        Some(change) => match change.amend(rights) {
+            Ok(after) => Some(after),
+            Err(_) => None,
+        },
     }
 }

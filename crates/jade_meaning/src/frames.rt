@@ -5,11 +5,11 @@ ghost use Rattle.jade_meaning.specs.declared.values.Value.TheVariants.{IntOf};
 ghost use Rattle.jade_syntax.specs.declared.tree.ValueKind.{ValueKind};
 ghost use Rattle.jade_syntax.specs.Image.{expression, reference, object, action, block};
 ghost use Rattle.jade_syntax.specs.Abstract as abstract;
-ghost use Rattle.jade_meaning.specs.Heard.{heard, source};
-ghost use Rattle.jade_meaning.specs.Perform.{shown};
-ghost use Rattle.jade_meaning.specs.Frames.{Did, DoesNext, GoesOn, Enters, chosen, told_store, told_bounds, paused_as, course_of};
+ghost use Rattle.jade_meaning.specs.steps.Evaluation.{evaluated, source};
+ghost use Rattle.jade_meaning.specs.steps.Perform.{shown};
+ghost use Rattle.jade_meaning.specs.steps.Frames.{Did, DoesNext, GoesOn, Enters, chosen, evaluate_store, evaluate_bounds, paused_as, course_of};
 
-use crate::grants::Grants;
+use crate::dense_spec::DenseSpec;
 use crate::scope::Scope;
 use crate::setting::{Setting, Task, blame_at, cell_of};
 use crate::source::{Cells, Pause};
@@ -39,20 +39,20 @@ pub(crate) enum Frame<'c> {
 #[derive(Drop)]
 pub(crate) struct Newborn<'c> {
     pub(crate) scope: Scope<'c>,
-    pub(crate) grants: Grants,
+    pub(crate) spec: DenseSpec,
     pub(crate) body: &'c Block,
 }
 
 /// What a task does next: nothing that others see, the beginning of a step, a read that has no
 /// answer yet, a write, a creation, a change to these rights, or its end.
 #[derive(Drop)]
-pub(crate) enum Deed<'c> {
+pub(crate) enum Transition<'c> {
     Silent,
     Stepped,
     Asked(usize, usize),
     Wrote((usize, usize, i64)),
     Created(Newborn<'c>),
-    Changed(Grants),
+    Changed(DenseSpec),
     Ended(Option<Blame>),
 }
 
@@ -89,53 +89,53 @@ fn after_first(range: (i64, i64)) -> (i64, i64)
 }
 
 // What a pause lets a task do.
-fn paused<'c>(pause: Pause) -> Deed<'c>
+fn paused<'c>(pause: Pause) -> Transition<'c>
     ensures { result ≡ paused_as pause }
 {
     match pause {
-        Pause::Fault(blame) => Deed::Ended(Some(blame)),
-        Pause::Awaits(object, cell) => Deed::Asked(object, cell),
+        Pause::Fault(blame) => Transition::Ended(Some(blame)),
+        Pause::Awaits(object, cell) => Transition::Asked(object, cell),
     }
 }
 
 impl<'c> Setting<'c> {
     // A new variable.
-    fn local_deed(
+    fn local_transition(
         &self,
         name: &'c Name,
         value: &Expr,
         answers: &[i64],
         run: &mut Running<'c>,
-    ) -> Result<Deed<'c>, Memory>
-        ensures { (kind : ValueKind) → IfOk result (λ deed. Did (shown self.now) answers.now deed (abstract.Local kind name.now (expression value.now)) run.old run.new) }
+    ) -> Result<Transition<'c>, Memory>
+        ensures { (kind : ValueKind) → IfOk result (λ transition. Did (shown self.now) answers.now transition (abstract.Local kind name.now (expression value.now)) run.old run.new) }
     {
         let mut used = run.used;
-        match self.told(&run.task, &Cells::Answered(answers), &mut used, value) {
+        match self.evaluate(&run.task, &Cells::Answered(answers), &mut used, value) {
             Ok(value) => {
                 run.task.scope.bind(name, value)?;
                 run.used = used;
-                Ok(Deed::Silent)
+                Ok(Transition::Silent)
             }
             Err(pause) => Ok(paused(pause)),
         }
     }
 
     // Another value for a variable.
-    fn assign_deed(
+    fn assign_transition(
         &self,
         name: &Name,
         value: &Expr,
         answers: &[i64],
         run: &mut Running<'c>,
-    ) -> Deed<'c>
+    ) -> Transition<'c>
         ensures { Did (shown self.now) answers.now result (abstract.Assign name.now (expression value.now)) run.old run.new }
     {
         let mut used = run.used;
-        match self.told(&run.task, &Cells::Answered(answers), &mut used, value) {
+        match self.evaluate(&run.task, &Cells::Answered(answers), &mut used, value) {
             Ok(value) => {
                 run.task.scope.assign(name, value);
                 run.used = used;
-                Deed::Silent
+                Transition::Silent
             }
             Err(pause) => paused(pause),
         }
@@ -150,9 +150,9 @@ impl<'c> Setting<'c> {
         cells: &Cells,
         used: &mut usize,
     ) -> Result<(usize, usize, i64), Pause>
-        ensures { heard result used.new ≡ told_store self.now.items task.now.scope task.now.grants (source cells.now) (reference target.now).place (reference target.now).cell (expression value.now) used.old }
+        ensures { evaluated result used.new ≡ evaluate_store self.now.items task.now.scope task.now.spec (source cells.now) (reference target.now).place (reference target.now).cell (expression value.now) used.old }
     {
-        let found = match self.told_place(
+        let found = match self.evaluate_object(
             task,
             cells,
             used,
@@ -163,7 +163,7 @@ impl<'c> Setting<'c> {
             Ok(found) => found,
             Err(pause) => return Err(pause),
         };
-        let index = match self.told(task, cells, used, &target.cell) {
+        let index = match self.evaluate(task, cells, used, &target.cell) {
             Ok(value) => value.whole(),
             Err(pause) => return Err(pause),
         };
@@ -171,11 +171,11 @@ impl<'c> Setting<'c> {
             Ok(cell) => cell,
             Err(blame) => return Err(Pause::Fault(blame)),
         };
-        let number = match self.told(task, cells, used, value) {
+        let number = match self.evaluate(task, cells, used, value) {
             Ok(value) => value.whole(),
             Err(pause) => return Err(pause),
         };
-        match task.grants.on(found.number).writes {
+        match task.spec.on(found.number).writes {
             Right::Immediate => Ok((found.number, cell, number)),
             Right::Absent | Right::Deferred => {
                 Err(Pause::Fault(blame_at(FaultKind::Right, target.pos)))
@@ -184,13 +184,13 @@ impl<'c> Setting<'c> {
     }
 
     // A write of a cell.
-    fn store_deed(
+    fn store_transition(
         &self,
         target: &CellRef,
         value: &Expr,
         answers: &[i64],
         run: &mut Running<'c>,
-    ) -> Deed<'c>
+    ) -> Transition<'c>
         ensures { Did (shown self.now) answers.now result (abstract.Store (reference target.now).place (reference target.now).cell (expression value.now)) run.old run.new }
     {
         let mut used = run.used;
@@ -203,25 +203,25 @@ impl<'c> Setting<'c> {
         ) {
             Ok(written) => {
                 run.used = used;
-                Deed::Wrote(written)
+                Transition::Wrote(written)
             }
             Err(pause) => paused(pause),
         }
     }
 
     // A word of a section.
-    fn declare_deed(
+    fn declare_transition(
         &self,
         word: DeclareWord,
         at: Pos,
         of: &ObjectRef,
         answers: &[i64],
         run: &mut Running<'c>,
-    ) -> Deed<'c>
+    ) -> Transition<'c>
         ensures { Did (shown self.now) answers.now result (abstract.Declare word at (object of.now)) run.old run.new }
     {
         let mut used = run.used;
-        match self.told_place(
+        match self.evaluate_object(
             &run.task,
             &Cells::Answered(answers),
             &mut used,
@@ -232,38 +232,38 @@ impl<'c> Setting<'c> {
             Ok(found) => match run.task.draft.declare(word, found.number, at) {
                 Ok(()) => {
                     run.used = used;
-                    Deed::Silent
+                    Transition::Silent
                 }
-                Err(blame) => Deed::Ended(Some(blame)),
+                Err(blame) => Transition::Ended(Some(blame)),
             },
             Err(pause) => paused(pause),
         }
     }
 
     // A test, and the block that it chooses, if there is one.
-    fn if_deed(
+    fn if_transition(
         &self,
         test: &Expr,
         then: &'c Block,
         otherwise: &'c Option<Block>,
         answers: &[i64],
         run: &mut Running<'c>,
-    ) -> Result<Deed<'c>, Memory>
-        ensures { IfOk result (λ deed. Did (shown self.now) answers.now deed (chosen (expression test.now) then.now otherwise.now) run.old run.new) }
+    ) -> Result<Transition<'c>, Memory>
+        ensures { IfOk result (λ transition. Did (shown self.now) answers.now transition (chosen (expression test.now) then.now otherwise.now) run.old run.new) }
     {
         let mut used = run.used;
-        match self.told(&run.task, &Cells::Answered(answers), &mut used, test) {
+        match self.evaluate(&run.task, &Cells::Answered(answers), &mut used, test) {
             Ok(value) => {
                 run.used = used;
                 if value.holds() {
                     enter(run, then)?;
-                    return Ok(Deed::Silent);
+                    return Ok(Transition::Silent);
                 }
                 match otherwise {
-                    None => Ok(Deed::Silent),
+                    None => Ok(Transition::Silent),
                     Some(block) => {
                         enter(run, block)?;
-                        Ok(Deed::Silent)
+                        Ok(Transition::Silent)
                     }
                 }
             }
@@ -280,28 +280,28 @@ impl<'c> Setting<'c> {
         cells: &Cells,
         used: &mut usize,
     ) -> Result<(i64, i64), Pause>
-        ensures { heard result used.new ≡ told_bounds self.now.items task.now.scope task.now.grants (source cells.now) (expression low.now) (expression high.now) used.old }
+        ensures { evaluated result used.new ≡ evaluate_bounds self.now.items task.now.scope task.now.spec (source cells.now) (expression low.now) (expression high.now) used.old }
     {
-        let low = match self.told(task, cells, used, low) {
+        let low = match self.evaluate(task, cells, used, low) {
             Ok(value) => value.whole(),
             Err(pause) => return Err(pause),
         };
-        match self.told(task, cells, used, high) {
+        match self.evaluate(task, cells, used, high) {
             Ok(value) => Ok((low, value.whole())),
             Err(pause) => Err(pause),
         }
     }
 
     // A loop before its first turn.
-    fn for_deed(
+    fn for_transition(
         &self,
         name: &'c Name,
         range: (&Expr, &Expr),
         body: &'c Block,
         answers: &[i64],
         run: &mut Running<'c>,
-    ) -> Result<Deed<'c>, Memory>
-        ensures { IfOk result (λ deed. Did (shown self.now) answers.now deed (abstract.For name.now (expression range.entry.0.now) (expression range.entry.1.now) (block body.now)) run.old run.new) }
+    ) -> Result<Transition<'c>, Memory>
+        ensures { IfOk result (λ transition. Did (shown self.now) answers.now transition (abstract.For name.now (expression range.entry.0.now) (expression range.entry.1.now) (block body.now)) run.old run.new) }
     {
         let mut used = run.used;
         let (low, high) = range;
@@ -309,81 +309,87 @@ impl<'c> Setting<'c> {
             Ok(range) => {
                 run.frames.push(Frame::Turning(name, body, range))?;
                 run.used = used;
-                Ok(Deed::Silent)
+                Ok(Transition::Silent)
             }
             Err(pause) => Ok(paused(pause)),
         }
     }
 
     // The section of a `withonly`, after which the child is made.
-    fn withonly_deed(
+    fn withonly_transition(
         &self,
         at: Pos,
         section: &'c Block,
         names: &'c NameList,
         body: &'c Block,
         run: &mut Running<'c>,
-    ) -> Result<Deed<'c>, Memory>
-        ensures { (vs : List ℤ) → IfOk result (λ deed. Did (shown self.now) vs deed (abstract.Withonly at (block section.now) (map (λ n. n.name) names.now) (block body.now)) run.old run.new) }
+    ) -> Result<Transition<'c>, Memory>
+        ensures { (vs : List ℤ) → IfOk result (λ transition. Did (shown self.now) vs transition (abstract.Withonly at (block section.now) (map (λ n. n.name) names.now) (block body.now)) run.old run.new) }
     {
         self.begin_building(&mut run.task)?;
         run.frames.push(Frame::Creating(at, names, body))?;
         enter(run, section)?;
-        Ok(Deed::Silent)
+        Ok(Transition::Silent)
     }
 
     // The section of a `with`, after which the task's own rights change.
-    fn with_deed(
+    fn with_transition(
         &self,
         at: Pos,
         section: &'c Block,
         run: &mut Running<'c>,
-    ) -> Result<Deed<'c>, Memory>
-        ensures { (vs : List ℤ) → IfOk result (λ deed. Did (shown self.now) vs deed (abstract.With at (block section.now)) run.old run.new) }
+    ) -> Result<Transition<'c>, Memory>
+        ensures { (vs : List ℤ) → IfOk result (λ transition. Did (shown self.now) vs transition (abstract.With at (block section.now)) run.old run.new) }
     {
         self.begin_amending(&mut run.task)?;
         run.frames.push(Frame::Changing)?;
         enter(run, section)?;
-        Ok(Deed::Silent)
+        Ok(Transition::Silent)
     }
 
     // A statement whose step has begun.
-    fn statement_deed(
+    fn statement_transition(
         &self,
         statement: &'c Statement,
         answers: &[i64],
         run: &mut Running<'c>,
-    ) -> Result<Deed<'c>, Memory>
-        ensures { IfOk result (λ deed. Did (shown self.now) answers.now deed (action statement.now) run.old run.new) }
+    ) -> Result<Transition<'c>, Memory>
+        ensures { IfOk result (λ transition. Did (shown self.now) answers.now transition (action statement.now) run.old run.new) }
     {
-        let deed = match statement {
-            Statement::Local { name, value, .. } => self.local_deed(name, value, answers, run)?,
-            Statement::Assign { name, value, .. } => self.assign_deed(name, value, answers, run),
-            Statement::Store { target, value } => self.store_deed(target, value, answers, run),
+        let transition = match statement {
+            Statement::Local { name, value, .. } => self.local_transition(
+                name, value, answers, run,
+            )?,
+            Statement::Assign { name, value, .. } => self.assign_transition(
+                name, value, answers, run,
+            ),
+            Statement::Store { target, value } => self.store_transition(
+                target, value, answers, run,
+            ),
             Statement::If {
                 test,
                 then,
                 otherwise,
-            } => self.if_deed(test, then, otherwise, answers, run)?,
+            } => self.if_transition(test, then, otherwise, answers, run)?,
             Statement::For {
                 name,
                 low,
                 high,
                 body,
                 ..
-            } => self.for_deed(name, (low, high), body, answers, run)?,
+            } => self.for_transition(name, (low, high), body, answers, run)?,
             Statement::Withonly {
                 pos,
                 section,
                 names,
                 body,
-            } => self.withonly_deed(*pos, section, names, body, run)?,
-            Statement::With { pos, section } => self.with_deed(*pos, section, run)?,
+            } => self.withonly_transition(*pos, section, names, body, run)?,
+            Statement::With { pos, section } => self.with_transition(*pos, section, run)?,
             Statement::Declare { word, pos, object } => {
-                self.declare_deed(*word, *pos, object, answers, run)
+                self.declare_transition(*word, *pos, object, answers, run)
             }
         };
-        Ok(deed)
+        Ok(transition)
     }
 
     // A statement whose step has begun; where an answer is wanting it stays to be done.
@@ -392,128 +398,133 @@ impl<'c> Setting<'c> {
         statement: &'c Statement,
         answers: &[i64],
         run: &mut Running<'c>,
-    ) -> Result<Deed<'c>, Memory>
-        ensures { IfOk result (λ deed. DoesNext (shown self.now) answers.now deed (Frame.Doing statement.entry) run.old run.new) }
+    ) -> Result<Transition<'c>, Memory>
+        ensures { IfOk result (λ transition. DoesNext (shown self.now) answers.now transition (Frame.Doing statement.entry) run.old run.new) }
     {
-        match self.statement_deed(statement, answers, run)? {
-            Deed::Asked(object, cell) => {
+        match self.statement_transition(statement, answers, run)? {
+            Transition::Asked(object, cell) => {
                 run.frames.push(Frame::Doing(statement))?;
-                Ok(Deed::Asked(object, cell))
+                Ok(Transition::Asked(object, cell))
             }
-            deed => Ok(deed),
+            transition => Ok(transition),
         }
     }
 
     // The statements of a block from one on: the next one's step begins.
-    fn rest(&self, block: &'c Block, next: usize, run: &mut Running<'c>) -> Result<Deed<'c>, Memory>
-        ensures { (vs : List ℤ) → IfOk result (λ deed. DoesNext (shown self.now) vs deed (Frame.Rest block.entry next) run.old run.new) }
+    fn rest(
+        &self,
+        block: &'c Block,
+        next: usize,
+        run: &mut Running<'c>,
+    ) -> Result<Transition<'c>, Memory>
+        ensures { (vs : List ℤ) → IfOk result (λ transition. DoesNext (shown self.now) vs transition (Frame.Rest block.entry next) run.old run.new) }
     {
         if next < block.len() {
             let statement = block.at(next);
             match run.task.tally.begin_step(self.limit) {
                 Ok(()) => {}
-                Err(blame) => return Ok(Deed::Ended(Some(blame))),
+                Err(blame) => return Ok(Transition::Ended(Some(blame))),
             }
             run.frames.push(Frame::Rest(block, next + 1))?;
             run.frames.push(Frame::Doing(statement))?;
-            Ok(Deed::Stepped)
+            Ok(Transition::Stepped)
         } else {
-            Ok(Deed::Silent)
+            Ok(Transition::Silent)
         }
     }
 
     // The turns of a loop: the next one's step begins, and its block with the loop's variable.
-    fn turn_deed(
+    fn turn_transition(
         &self,
         name: &'c Name,
         body: &'c Block,
         range: (i64, i64),
         run: &mut Running<'c>,
-    ) -> Result<Deed<'c>, Memory>
-        ensures { (vs : List ℤ) → IfOk result (λ deed. DoesNext (shown self.now) vs deed (Frame.Turning name.entry body.entry range) run.old run.new) }
+    ) -> Result<Transition<'c>, Memory>
+        ensures { (vs : List ℤ) → IfOk result (λ transition. DoesNext (shown self.now) vs transition (Frame.Turning name.entry body.entry range) run.old run.new) }
     {
         if is_left(range) {
             match run.task.tally.begin_step(self.limit) {
                 Ok(()) => {}
-                Err(blame) => return Ok(Deed::Ended(Some(blame))),
+                Err(blame) => return Ok(Transition::Ended(Some(blame))),
             }
             run.frames
                 .push(Frame::Turning(name, body, after_first(range)))?;
             run.frames.push(Frame::Leaving(run.task.scope.len()))?;
             run.frames.push(Frame::Rest(body, 0))?;
             run.task.scope.bind(name, first_of(range))?;
-            Ok(Deed::Stepped)
+            Ok(Transition::Stepped)
         } else {
-            Ok(Deed::Silent)
+            Ok(Transition::Silent)
         }
     }
 
     // The end of the section of a `withonly`: a child, or the fault `cover`.
-    fn create_deed(
+    fn create_transition(
         &self,
         at: Pos,
         names: &'c NameList,
         body: &'c Block,
         run: &mut Running<'c>,
-    ) -> Result<Deed<'c>, Memory>
-        ensures { (vs : List ℤ) → IfOk result (λ deed. DoesNext (shown self.now) vs deed (Frame.Creating at names.entry body.entry) run.old run.new) }
+    ) -> Result<Transition<'c>, Memory>
+        ensures { (vs : List ℤ) → IfOk result (λ transition. DoesNext (shown self.now) vs transition (Frame.Creating at names.entry body.entry) run.old run.new) }
     {
-        let grants = self.end_building(&mut run.task)?;
-        if !run.task.grants.covers(&grants) {
-            return Ok(Deed::Ended(Some(blame_at(FaultKind::Cover, at))));
+        let spec = self.end_building(&mut run.task)?;
+        if !run.task.spec.covers(&spec) {
+            return Ok(Transition::Ended(Some(blame_at(FaultKind::Cover, at))));
         }
         let scope = self.copied(names, &run.task)?;
-        Ok(Deed::Created(Newborn {
-            scope,
-            grants,
-            body,
-        }))
+        Ok(Transition::Created(Newborn { scope, spec, body }))
     }
 
     // The end of the section of a `with`.
-    fn change_deed(&self, run: &mut Running<'c>) -> Result<Deed<'c>, Memory>
-        ensures { (vs : List ℤ) → IfOk result (λ deed. DoesNext (shown self.now) vs deed Frame.Changing run.old run.new) }
+    fn change_transition(&self, run: &mut Running<'c>) -> Result<Transition<'c>, Memory>
+        ensures { (vs : List ℤ) → IfOk result (λ transition. DoesNext (shown self.now) vs transition Frame.Changing run.old run.new) }
     {
         self.end_amending(&mut run.task)?;
-        let new = run.task.grants.copy(self.alloc)?;
-        Ok(Deed::Changed(new))
+        let new = run.task.spec.copy(self.alloc)?;
+        Ok(Transition::Changed(new))
     }
 
     // The next thing that is left to do.
-    fn frame_deed(
+    fn frame_transition(
         &self,
         frame: Frame<'c>,
         answers: &[i64],
         run: &mut Running<'c>,
-    ) -> Result<Deed<'c>, Memory>
-        ensures { IfOk result (λ deed. DoesNext (shown self.now) answers.now deed frame.entry run.old run.new) }
+    ) -> Result<Transition<'c>, Memory>
+        ensures { IfOk result (λ transition. DoesNext (shown self.now) answers.now transition frame.entry run.old run.new) }
     {
         match frame {
             Frame::Rest(block, next) => self.rest(block, next, run),
             Frame::Doing(statement) => self.doing(statement, answers, run),
             Frame::Leaving(variables) => {
                 run.task.scope.leave(variables);
-                Ok(Deed::Silent)
+                Ok(Transition::Silent)
             }
             Frame::Turning(name, body, range) => {
-                let deed = self.turn_deed(name, body, range, run)?;
-                Ok(deed)
+                let transition = self.turn_transition(name, body, range, run)?;
+                Ok(transition)
             }
-            Frame::Creating(at, names, body) => self.create_deed(at, names, body, run),
-            Frame::Changing => self.change_deed(run),
+            Frame::Creating(at, names, body) => self.create_transition(at, names, body, run),
+            Frame::Changing => self.change_transition(run),
         }
     }
 
     /// What a task does next.
-    pub(crate) fn deed(&self, answers: &[i64], run: &mut Running<'c>) -> Result<Deed<'c>, Memory>
-        ensures { IfOk result (λ deed. GoesOn (shown self.now) answers.now deed (course_of (shown self.now) answers.now run.old) run.new) }
+    pub(crate) fn transition(
+        &self,
+        answers: &[i64],
+        run: &mut Running<'c>,
+    ) -> Result<Transition<'c>, Memory>
+        ensures { IfOk result (λ transition. GoesOn (shown self.now) answers.now transition (course_of (shown self.now) answers.now run.old) run.new) }
     {
         match run.frames.pop() {
             Some(frame) => {
-                let deed = self.frame_deed(frame, answers, run)?;
-                Ok(deed)
+                let transition = self.frame_transition(frame, answers, run)?;
+                Ok(transition)
             }
-            None => Ok(Deed::Ended(None)),
+            None => Ok(Transition::Ended(None)),
         }
     }
 }

@@ -4,9 +4,9 @@ ghost use Rattle.std.specs.Prelude.{◌≡◌, [], ◌++◌, map, is_some, slice
 ghost use Rattle.jade_base.specs.Rights.{mode_of, is_immediate, same_rights};
 ghost use Rattle.jade_meaning.specs.Specification.{yields, same_hold, objects};
 ghost use Rattle.jade_meaning.specs.Talk.{Task, held, made_immediate, when, take_in, shift};
-ghost use Rattle.jade_meaning.specs.Holding.{event_of, events_of, listed, all_listed, kept_as, kept_on, is_taken_anew};
+ghost use Rattle.jade_meaning.specs.steps.Holding.{event_of, events_of, listed, all_listed, kept_as, kept_on, is_taken_anew};
 
-use crate::grants::Grants;
+use crate::dense_spec::DenseSpec;
 use access_spec::{gives_way, mode_of};
 use jade_base::{Blame, Memory, Mode, ObjectId, Right, Rights};
 use std::alloc::Global;
@@ -14,7 +14,7 @@ use std::marker::Model;
 
 /// What a task tells of itself, but for a read of a cell.
 #[derive(Clone, Copy)]
-pub(crate) enum Told {
+pub(crate) enum PendingEvent {
     Enter(ObjectId, Rights),
     Enroll(u64),
     Take(ObjectId, Mode),
@@ -104,8 +104,8 @@ impl Holds {
         &self,
         alloc: Global,
         kind: Keeping,
-        old: &Grants,
-        new: &Grants,
+        old: &DenseSpec,
+        new: &DenseSpec,
     ) -> Result<Holds, Memory>
         ensures { IfOk result (λ holds. holds ≡ map (λ o. kept_on kind old.now new.now self.now o) (objects new.now)) }
     {
@@ -190,19 +190,19 @@ fn kept_as(kind: Keeping, old: Rights, new: Rights, hold: Option<Mode>) -> Optio
 }
 
 // An event, where the test says so.
-fn when(test: bool, told: Told) -> Option<Told>
-    ensures { (t : Task) → events_of t result ≡ when test (event_of t told) }
+fn when(test: bool, event: PendingEvent) -> Option<PendingEvent>
+    ensures { (t : Task) → events_of t result ≡ when test (event_of t event) }
 {
-    if test { Some(told) } else { None }
+    if test { Some(event) } else { None }
 }
 
 // An object is taken in a mode, where there is one.
-pub(crate) fn take_in(mode: Option<Mode>, object: ObjectId) -> Option<Told>
+pub(crate) fn take_in(mode: Option<Mode>, object: ObjectId) -> Option<PendingEvent>
     ensures { (t : Task) → events_of t result ≡ take_in mode object.0 }
 {
     match mode {
         None => None,
-        Some(mode) => Some(Told::Take(object, mode)),
+        Some(mode) => Some(PendingEvent::Take(object, mode)),
     }
 }
 
@@ -214,15 +214,15 @@ fn same_rights(left: Rights, right: Rights) -> bool
 }
 
 // The entry on an object follows its rights.
-fn shift(old: Rights, new: Rights, object: ObjectId) -> Option<Told>
+fn shift(old: Rights, new: Rights, object: ObjectId) -> Option<PendingEvent>
     ensures { (t : Task) → events_of t result ≡ shift old new object.0 }
 {
     if same_rights(old, new) {
         None
     } else if new.any() {
-        Some(Told::Shift(object, new))
+        Some(PendingEvent::Shift(object, new))
     } else {
-        Some(Told::Leave(object))
+        Some(PendingEvent::Leave(object))
     }
 }
 
@@ -233,14 +233,14 @@ fn listed(
     new: Rights,
     hold: Option<Mode>,
     object: ObjectId,
-) -> Option<Told>
+) -> Option<PendingEvent>
     ensures { (t : Task) → events_of t result ≡ listed kind old new hold object.0 }
 {
     match kind {
         Listing::StartTakes => take_in(mode_of(new), object),
-        Listing::CreationGives => when(yields(hold, new), Told::Give(object)),
-        Listing::Enters => when(new.any(), Told::Enter(object, new)),
-        Listing::ChangeGives => when(given_back(hold, new), Told::Give(object)),
+        Listing::CreationGives => when(yields(hold, new), PendingEvent::Give(object)),
+        Listing::Enters => when(new.any(), PendingEvent::Enter(object, new)),
+        Listing::ChangeGives => when(given_back(hold, new), PendingEvent::Give(object)),
         Listing::Shifts => shift(old, new, object),
         Listing::ChangeTakes => {
             if taken_anew(old, new, hold) {
@@ -249,8 +249,8 @@ fn listed(
                 None
             }
         }
-        Listing::EndGives => when(hold.is_some(), Told::Give(object)),
-        Listing::EndLeaves => when(new.any(), Told::Leave(object)),
+        Listing::EndGives => when(hold.is_some(), PendingEvent::Give(object)),
+        Listing::EndLeaves => when(new.any(), PendingEvent::Leave(object)),
     }
 }
 
@@ -267,10 +267,10 @@ pub(crate) fn named(object: usize) -> Result<ObjectId, Memory>
 /// Tells of each object, ascending, where the rights on it were these and are those.
 pub(crate) fn tell(
     kind: Listing,
-    old: &Grants,
-    new: &Grants,
+    old: &DenseSpec,
+    new: &DenseSpec,
     holds: &Holds,
-    events: &mut Vec<Told>,
+    events: &mut Vec<PendingEvent>,
 ) -> Result<(), Memory>
     ensures { OnOk result ((t : Task) → map (event_of t) events.new.items ≡ map (event_of t) events.old.items ++ all_listed kind old.now new.now holds.now) }
 {
@@ -285,11 +285,11 @@ pub(crate) fn tell(
 }
 
 // An event more, if there is one.
-pub(crate) fn add(events: &mut Vec<Told>, told: Option<Told>) -> Result<(), Memory>
-    ensures { OnOk result ((t : Task) → map (event_of t) events.new.items ≡ map (event_of t) events.old.items ++ events_of t told) }
+pub(crate) fn add(events: &mut Vec<PendingEvent>, event: Option<PendingEvent>) -> Result<(), Memory>
+    ensures { OnOk result ((t : Task) → map (event_of t) events.new.items ≡ map (event_of t) events.old.items ++ events_of t event) }
 {
-    match told {
-        Some(told) => Ok(events.push(told)?),
+    match event {
+        Some(event) => Ok(events.push(event)?),
         None => Ok(()),
     }
 }

@@ -1,14 +1,17 @@
 //! What is proved of the meaning, for whoever stands on it.
 
 ghost use Rattle.std.specs.Prelude.{ℕ, ℤ, List, ◌++◌};
+ghost use Rattle.jade_base.specs.declared.place.ObjectId.{ObjectId};
+ghost use Rattle.jade_base.specs.declared.rights.Rights.{Rights};
 ghost use Rattle.jade_syntax.specs.Abstract.{AbstractProgram};
-ghost use Rattle.jade_meaning.specs.Answer.{StoppingAgrees};
+ghost use Rattle.jade_meaning.specs.Answer.{PartsStandByKey, StoppingAgrees};
 ghost use Rattle.jade_meaning.specs.Course.{root_spec, root_course};
 ghost use Rattle.jade_meaning.specs.Laws.{TalkFollowsSerial, Extends};
 ghost use Rattle.jade_meaning.specs.Proper.{Proper};
 ghost use Rattle.jade_meaning.specs.Report.{ReportAscends};
+ghost use Rattle.jade_meaning.specs.Spread.{SpreadAgrees};
 ghost use Rattle.jade_meaning.specs.Talk.{Task, talk};
-ghost use Rattle.jade_meaning.specs.Told.{ReportTells};
+ghost use Rattle.jade_meaning.specs.ReportAnswer.{ReportTells};
 
 /// Each task of the serial run says by itself what it does there, when its reads are answered as
 /// they are there.
@@ -32,6 +35,11 @@ pub fn keeps()
     ensures { (p : AbstractProgram) (numbers : List ℤ) (limit : ℕ) → Proper (root_spec p) (root_course p numbers limit) }
 {}
 
+/// The parts of the serial run stand by ascending key already.
+pub fn parts_stand_by_key()
+    ensures { (p : AbstractProgram) (numbers : List ℤ) (limit : ℕ) → PartsStandByKey p numbers limit }
+{}
+
 /// A report has its parts and its faults by ascending key.
 pub fn report_ascends()
     ensures { (p : AbstractProgram) (numbers : List ℤ) (limit : ℕ) → ReportAscends p numbers limit }
@@ -40,4 +48,10 @@ pub fn report_ascends()
 /// The report of the serial run tells the answer.
 pub fn report_tells()
     ensures { (p : AbstractProgram) (numbers : List ℤ) (limit : ℕ) → ReportTells p numbers limit }
+{}
+
+/// A specification by its objects and the same by object number have the same rights, and cover
+/// the same.
+pub fn spread_agrees()
+    ensures { (n : ℕ) (parent child : List (ObjectId × Rights)) → SpreadAgrees n parent child }
 {}

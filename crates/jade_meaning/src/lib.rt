@@ -1,19 +1,19 @@
 //! The meaning of programs: what each task says of itself, the serial run, and the answer.
 #![tactic(auto)]
 
+mod configuration;
+mod dense_spec;
 mod draft;
-mod found;
 mod frames;
-mod grants;
 mod holds;
 pub mod laws;
-mod ledger;
 pub mod ready;
+mod resolve;
+mod run_state;
 mod scope;
 pub mod serial;
 mod setting;
 mod source;
-mod standing;
 mod statements;
 mod stop;
 mod tally;

@@ -3,7 +3,7 @@
 ghost use Rattle.std.specs.Prelude.{◌≡◌, ◌-◌, [], ◌∷◌, length, drop, IfOk, OnOk};
 ghost use Rattle.jade_meaning.specs.Course.{value_of, assigned};
 
-use crate::found::same_name;
+use crate::resolve::same_name;
 use crate::values::Value;
 use jade_base::Memory;
 use jade_syntax::Name;
@@ -28,7 +28,7 @@ impl<'c> Model for Scope<'c> {
 
     ghost Value = { Environment };
 
-    ghost use Rattle.jade_meaning.specs.Scopes.{in_scope};
+    ghost use Rattle.jade_meaning.specs.steps.Scopes.{in_scope};
 
     ghost view = { λ s. in_scope s.bounds.items };
 }

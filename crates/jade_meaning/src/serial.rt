@@ -6,9 +6,9 @@ ghost use Rattle.jade_syntax.specs.Objects.{input_names, sizes};
 ghost use Rattle.jade_meaning.specs.Course.{inputs};
 ghost use Rattle.jade_meaning.specs.Report.{report};
 
-use crate::found::Declared;
-use crate::grants::Grants;
-use crate::ledger::Ledger;
+use crate::dense_spec::DenseSpec;
+use crate::resolve::Declared;
+use crate::run_state::RunState;
 use crate::scope::Scope;
 use crate::setting::Setting;
 use crate::values::Value;
@@ -48,17 +48,17 @@ pub fn serial_program(
     let items = Declared::of(&program.items);
     let given = inputs(alloc, &program.items, numbers)?;
     let scope = given.copy(alloc)?;
-    let grants = Grants::all(alloc, items.objects())?;
+    let spec = DenseSpec::all(alloc, items.objects())?;
     let path = Path::root(alloc)?;
-    let mut ledger = Ledger::start(alloc, &program.items)?;
+    let mut state = RunState::start(alloc, &program.items)?;
     let setting = Setting {
         alloc,
         items,
         given,
         limit,
     };
-    setting.run(scope, grants, &program.main, &path, &mut ledger)?;
-    ledger.into_report(alloc)
+    setting.run(scope, spec, &program.main, &path, &mut state)?;
+    state.into_report(alloc)
 }
 
 // The inputs as variables with these values.

@@ -3,13 +3,13 @@
 ghost use Rattle.std.specs.Prelude.{◌≡◌, ◌+◌, ◌≤◌};
 ghost use Rattle.jade_syntax.specs.Abstract.{Cell};
 ghost use Rattle.jade_syntax.specs.Image.{expression, and_expression, compare_expression, sum_expression, product_expression, unary_expression, atom_expression, reference, placed, member};
-ghost use Rattle.jade_meaning.specs.Direct.{worth, located, blame_at, member_of, index_in, indexed};
-ghost use Rattle.jade_meaning.specs.Heard.{heard, source, told, told_place, told_cell};
+ghost use Rattle.jade_meaning.specs.steps.Direct.{worth, located, blame_at, member_of, index_in, indexed};
+ghost use Rattle.jade_meaning.specs.steps.Evaluation.{evaluated, source, evaluate, evaluate_object, evaluate_read};
 
+use crate::dense_spec::DenseSpec;
 use crate::draft::Draft;
-use crate::found::{Declared, Found, Range};
-use crate::grants::Grants;
-use crate::ledger::Store;
+use crate::resolve::{Declared, Range, ResolvedObject};
+use crate::run_state::Store;
 use crate::scope::Scope;
 use crate::source::{Cells, Pause};
 use crate::tally::Tally;
@@ -23,7 +23,7 @@ use std::alloc::Global;
 #[derive(Drop)]
 pub(crate) struct Task<'c> {
     pub(crate) scope: Scope<'c>,
-    pub(crate) grants: Grants,
+    pub(crate) spec: DenseSpec,
     pub(crate) draft: Draft,
     pub(crate) tally: Tally,
 }
@@ -49,12 +49,12 @@ pub(crate) fn blame_at(kind: FaultKind, at: Pos) -> Blame
 }
 
 /// A member of a family, or the fault `object`.
-fn member_of(range: Range, index: i64, at: Pos) -> Result<Found, Blame>
+fn member_of(range: Range, index: i64, at: Pos) -> Result<ResolvedObject, Blame>
     requires { range.first + range.count ≤ 4096 }
     ensures { result ≡ member_of range index at }
 {
     match index_below(index, range.count) {
-        Some(index) => Ok(Found {
+        Some(index) => Ok(ResolvedObject {
             number: range.first + index,
             size: range.size,
         }),
@@ -63,7 +63,7 @@ fn member_of(range: Range, index: i64, at: Pos) -> Result<Found, Blame>
 }
 
 /// A cell of an object, or the fault `index`.
-pub(crate) fn cell_of(found: Found, index: i64, at: Pos) -> Result<usize, Blame>
+pub(crate) fn cell_of(found: ResolvedObject, index: i64, at: Pos) -> Result<usize, Blame>
     ensures { result ≡ indexed (index_in index found.size) FaultKind.Index at }
 {
     match index_below(index, found.size) {
@@ -74,16 +74,16 @@ pub(crate) fn cell_of(found: Found, index: i64, at: Pos) -> Result<usize, Blame>
 
 /// What a cell holds, or the fault `right`.
 fn read(
-    grants: &Grants,
+    spec: &DenseSpec,
     cells: &Cells,
     used: &mut usize,
     object: usize,
     cell: usize,
     at: Pos,
 ) -> Result<Value, Pause>
-    ensures { heard result used.new ≡ told_cell grants.now (source cells.now) object cell at used.old }
+    ensures { evaluated result used.new ≡ evaluate_read spec.now (source cells.now) object cell at used.old }
 {
-    match grants.on(object).reads {
+    match spec.on(object).reads {
         Right::Immediate => match cells.next(object, cell, used) {
             Some(number) => Ok(Value::IntOf(number)),
             None => Err(Pause::Awaits(object, cell)),
@@ -94,17 +94,17 @@ fn read(
 
 impl<'c> Setting<'c> {
     /// The value of an expression, or its fault.
-    #[cycle(told)]
-    pub(crate) fn told(
+    #[cycle(evaluate)]
+    pub(crate) fn evaluate(
         &self,
         task: &Task<'c>,
         cells: &Cells,
         used: &mut usize,
         e: &Expr,
     ) -> Result<Value, Pause>
-        ensures { heard result used.new ≡ told self.now.items task.now.scope task.now.grants (source cells.now) (expression e.now) used.old }
+        ensures { evaluated result used.new ≡ evaluate self.now.items task.now.scope task.now.spec (source cells.now) (expression e.now) used.old }
     {
-        let mut value = match self.and_told(task, cells, used, &e.first) {
+        let mut value = match self.evaluate_and(task, cells, used, &e.first) {
             Ok(value) => value,
             Err(pause) => return Err(pause),
         };
@@ -113,7 +113,7 @@ impl<'c> Setting<'c> {
             if value.decides_or() {
                 return Ok(value);
             }
-            value = match self.and_told(task, cells, used, operand) {
+            value = match self.evaluate_and(task, cells, used, operand) {
                 Ok(value) => value,
                 Err(pause) => return Err(pause),
             };
@@ -121,17 +121,17 @@ impl<'c> Setting<'c> {
         Ok(value)
     }
 
-    #[cycle(told)]
-    fn and_told(
+    #[cycle(evaluate)]
+    fn evaluate_and(
         &self,
         task: &Task<'c>,
         cells: &Cells,
         used: &mut usize,
         e: &AndExpr,
     ) -> Result<Value, Pause>
-        ensures { heard result used.new ≡ told self.now.items task.now.scope task.now.grants (source cells.now) (and_expression e.now) used.old }
+        ensures { evaluated result used.new ≡ evaluate self.now.items task.now.scope task.now.spec (source cells.now) (and_expression e.now) used.old }
     {
-        let mut value = match self.compare_told(task, cells, used, &e.first) {
+        let mut value = match self.evaluate_compare(task, cells, used, &e.first) {
             Ok(value) => value,
             Err(pause) => return Err(pause),
         };
@@ -140,7 +140,7 @@ impl<'c> Setting<'c> {
             if value.decides_and() {
                 return Ok(value);
             }
-            value = match self.compare_told(task, cells, used, operand) {
+            value = match self.evaluate_compare(task, cells, used, operand) {
                 Ok(value) => value,
                 Err(pause) => return Err(pause),
             };
@@ -148,46 +148,46 @@ impl<'c> Setting<'c> {
         Ok(value)
     }
 
-    #[cycle(told)]
-    fn compare_told(
+    #[cycle(evaluate)]
+    fn evaluate_compare(
         &self,
         task: &Task<'c>,
         cells: &Cells,
         used: &mut usize,
         e: &Compare,
     ) -> Result<Value, Pause>
-        ensures { heard result used.new ≡ told self.now.items task.now.scope task.now.grants (source cells.now) (compare_expression e.now) used.old }
+        ensures { evaluated result used.new ≡ evaluate self.now.items task.now.scope task.now.spec (source cells.now) (compare_expression e.now) used.old }
     {
-        let left = match self.sum_told(task, cells, used, &e.left) {
+        let left = match self.evaluate_sum(task, cells, used, &e.left) {
             Ok(value) => value,
             Err(pause) => return Err(pause),
         };
         match &e.right {
             None => Ok(left),
-            Some((relation, _, right)) => match self.sum_told(task, cells, used, right) {
+            Some((relation, _, right)) => match self.evaluate_sum(task, cells, used, right) {
                 Ok(right) => Ok(left.compared(*relation, right)),
                 Err(pause) => Err(pause),
             },
         }
     }
 
-    #[cycle(told)]
-    fn sum_told(
+    #[cycle(evaluate)]
+    fn evaluate_sum(
         &self,
         task: &Task<'c>,
         cells: &Cells,
         used: &mut usize,
         e: &Sum,
     ) -> Result<Value, Pause>
-        ensures { heard result used.new ≡ told self.now.items task.now.scope task.now.grants (source cells.now) (sum_expression e.now) used.old }
+        ensures { evaluated result used.new ≡ evaluate self.now.items task.now.scope task.now.spec (source cells.now) (sum_expression e.now) used.old }
     {
-        let mut value = match self.product_told(task, cells, used, &e.first) {
+        let mut value = match self.evaluate_product(task, cells, used, &e.first) {
             Ok(value) => value,
             Err(pause) => return Err(pause),
         };
         for i in 0..e.rest.len() {
             let (op, at, operand) = e.rest.at(i);
-            let right = match self.product_told(task, cells, used, operand) {
+            let right = match self.evaluate_product(task, cells, used, operand) {
                 Ok(value) => value,
                 Err(pause) => return Err(pause),
             };
@@ -199,23 +199,23 @@ impl<'c> Setting<'c> {
         Ok(value)
     }
 
-    #[cycle(told)]
-    fn product_told(
+    #[cycle(evaluate)]
+    fn evaluate_product(
         &self,
         task: &Task<'c>,
         cells: &Cells,
         used: &mut usize,
         e: &Product,
     ) -> Result<Value, Pause>
-        ensures { heard result used.new ≡ told self.now.items task.now.scope task.now.grants (source cells.now) (product_expression e.now) used.old }
+        ensures { evaluated result used.new ≡ evaluate self.now.items task.now.scope task.now.spec (source cells.now) (product_expression e.now) used.old }
     {
-        let mut value = match self.unary_told(task, cells, used, &e.first) {
+        let mut value = match self.evaluate_unary(task, cells, used, &e.first) {
             Ok(value) => value,
             Err(pause) => return Err(pause),
         };
         for i in 0..e.rest.len() {
             let (op, at, operand) = e.rest.at(i);
-            let right = match self.unary_told(task, cells, used, operand) {
+            let right = match self.evaluate_unary(task, cells, used, operand) {
                 Ok(value) => value,
                 Err(pause) => return Err(pause),
             };
@@ -227,17 +227,17 @@ impl<'c> Setting<'c> {
         Ok(value)
     }
 
-    #[cycle(told)]
-    fn unary_told(
+    #[cycle(evaluate)]
+    fn evaluate_unary(
         &self,
         task: &Task<'c>,
         cells: &Cells,
         used: &mut usize,
         e: &Unary,
     ) -> Result<Value, Pause>
-        ensures { heard result used.new ≡ told self.now.items task.now.scope task.now.grants (source cells.now) (unary_expression e.now) used.old }
+        ensures { evaluated result used.new ≡ evaluate self.now.items task.now.scope task.now.spec (source cells.now) (unary_expression e.now) used.old }
     {
-        let mut value = match self.atom_told(task, cells, used, &e.atom) {
+        let mut value = match self.evaluate_atom(task, cells, used, &e.atom) {
             Ok(value) => value,
             Err(pause) => return Err(pause),
         };
@@ -253,52 +253,52 @@ impl<'c> Setting<'c> {
         Ok(value)
     }
 
-    #[cycle(told)]
-    fn atom_told(
+    #[cycle(evaluate)]
+    fn evaluate_atom(
         &self,
         task: &Task<'c>,
         cells: &Cells,
         used: &mut usize,
         e: &Atom,
     ) -> Result<Value, Pause>
-        ensures { heard result used.new ≡ told self.now.items task.now.scope task.now.grants (source cells.now) (atom_expression e.now) used.old }
+        ensures { evaluated result used.new ≡ evaluate self.now.items task.now.scope task.now.spec (source cells.now) (atom_expression e.now) used.old }
     {
         match e {
             Atom::Whole(number) => Ok(Value::IntOf(number.value)),
             Atom::Truth(truth, _) => Ok(Value::BoolOf(*truth)),
-            Atom::Group(_, inner) => self.told(task, cells, used, inner),
+            Atom::Group(_, inner) => self.evaluate(task, cells, used, inner),
             Atom::Named(name, _) => Ok(task.scope.value_of(name)),
-            Atom::Cell(cell) => self.cell_told(task, cells, used, cell),
+            Atom::Cell(cell) => self.evaluate_cell(task, cells, used, cell),
         }
     }
 
-    #[cycle(told)]
-    fn cell_told(
+    #[cycle(evaluate)]
+    fn evaluate_cell(
         &self,
         task: &Task<'c>,
         cells: &Cells,
         used: &mut usize,
         e: &CellRef,
     ) -> Result<Value, Pause>
-        ensures { heard result used.new ≡ told self.now.items task.now.scope task.now.grants (source cells.now) (Cell (reference e.now).place (reference e.now).cell) used.old }
+        ensures { evaluated result used.new ≡ evaluate self.now.items task.now.scope task.now.spec (source cells.now) (Cell (reference e.now).place (reference e.now).cell) used.old }
     {
-        let found = match self.told_place(task, cells, used, &e.name, e.pos, &e.family) {
+        let found = match self.evaluate_object(task, cells, used, &e.name, e.pos, &e.family) {
             Ok(found) => found,
             Err(pause) => return Err(pause),
         };
-        let index = match self.told(task, cells, used, &e.cell) {
+        let index = match self.evaluate(task, cells, used, &e.cell) {
             Ok(value) => value.whole(),
             Err(pause) => return Err(pause),
         };
         match cell_of(found, index, e.pos) {
-            Ok(cell) => read(&task.grants, cells, used, found.number, cell, e.pos),
+            Ok(cell) => read(&task.spec, cells, used, found.number, cell, e.pos),
             Err(blame) => Err(Pause::Fault(blame)),
         }
     }
 
     /// The object that is meant, or the fault.
-    #[cycle(told)]
-    pub(crate) fn told_place(
+    #[cycle(evaluate)]
+    pub(crate) fn evaluate_object(
         &self,
         task: &Task<'c>,
         cells: &Cells,
@@ -306,16 +306,16 @@ impl<'c> Setting<'c> {
         name: &Name,
         at: Pos,
         family: &Option<Expr>,
-    ) -> Result<Found, Pause>
-        ensures { heard result used.new ≡ told_place self.now.items task.now.scope task.now.grants (source cells.now) (placed name.now at (member family.now)) used.old }
+    ) -> Result<ResolvedObject, Pause>
+        ensures { evaluated result used.new ≡ evaluate_object self.now.items task.now.scope task.now.spec (source cells.now) (placed name.now at (member family.now)) used.old }
     {
         let range = self.items.range(name);
         match family {
-            None => Ok(Found {
+            None => Ok(ResolvedObject {
                 number: range.first,
                 size: range.size,
             }),
-            Some(family) => match self.told(task, cells, used, family) {
+            Some(family) => match self.evaluate(task, cells, used, family) {
                 Ok(value) => match member_of(range, value.whole(), at) {
                     Ok(found) => Ok(found),
                     Err(blame) => Err(Pause::Fault(blame)),
@@ -327,10 +327,10 @@ impl<'c> Setting<'c> {
 
     /// The value of an expression, or its fault, where the cells are those of a store.
     pub(crate) fn value(&self, task: &Task<'c>, store: &Store, e: &Expr) -> Result<Value, Blame>
-        ensures { result ≡ worth self.now.items task.now.scope task.now.grants store.now (expression e.now) }
+        ensures { result ≡ worth self.now.items task.now.scope task.now.spec store.now (expression e.now) }
     {
         let mut used = 0;
-        match self.told(task, &Cells::Stored(store), &mut used, e) {
+        match self.evaluate(task, &Cells::Stored(store), &mut used, e) {
             Ok(value) => Ok(value),
             Err(Pause::Fault(blame)) => Err(blame),
             Err(Pause::Awaits(..)) => unreachable!(),
@@ -345,11 +345,11 @@ impl<'c> Setting<'c> {
         name: &Name,
         at: Pos,
         family: &Option<Expr>,
-    ) -> Result<Found, Blame>
-        ensures { result ≡ located self.now.items task.now.scope task.now.grants store.now (placed name.now at (member family.now)) }
+    ) -> Result<ResolvedObject, Blame>
+        ensures { result ≡ located self.now.items task.now.scope task.now.spec store.now (placed name.now at (member family.now)) }
     {
         let mut used = 0;
-        match self.told_place(task, &Cells::Stored(store), &mut used, name, at, family) {
+        match self.evaluate_object(task, &Cells::Stored(store), &mut used, name, at, family) {
             Ok(found) => Ok(found),
             Err(Pause::Fault(blame)) => Err(blame),
             Err(Pause::Awaits(..)) => unreachable!(),

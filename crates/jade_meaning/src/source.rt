@@ -1,9 +1,9 @@
 //! Where the reads of an expression find what cells hold.
 
 ghost use Rattle.std.specs.Prelude.{◌≡◌, ◌+◌, MatchOption, slice_get, Some, None};
-ghost use Rattle.jade_meaning.specs.Heard.{Got, Awaits, source, next_of};
+ghost use Rattle.jade_meaning.specs.steps.Evaluation.{Got, Awaits, source, next_of};
 
-use crate::ledger::Store;
+use crate::run_state::Store;
 use jade_base::Blame;
 
 /// The cells of a store, or the answers that a task was given.

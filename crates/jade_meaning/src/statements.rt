@@ -4,14 +4,14 @@ ghost use Rattle.std.specs.Prelude.{◌≡◌, [], ◌∷◌, ◌++◌, map, OnO
 ghost use Rattle.jade_syntax.specs.Abstract.{For};
 ghost use Rattle.jade_syntax.specs.Image.{expression, reference, object, action, block};
 ghost use Rattle.jade_meaning.specs.Course.{NoDraft, Building, Amending, copied, drafted, none_of};
-ghost use Rattle.jade_meaning.specs.Carry.{noted};
+ghost use Rattle.jade_meaning.specs.steps.Carry.{noted};
 ghost use Rattle.jade_meaning.specs.Specification.{fitted};
 ghost use Rattle.jade_meaning.specs.Values.{turn_count};
-ghost use Rattle.jade_meaning.specs.Perform.{Goes, Follows, shown, begun, within, localized, reassigned, stored, declared_on, turned, turned_once, perform, perform_all, created, changed, child_task, ended, then_on};
+ghost use Rattle.jade_meaning.specs.steps.Perform.{Goes, Follows, shown, begun, within, localized, reassigned, stored, declared_on, turned, turned_once, perform, perform_all, created, changed, child_task, ended, then_on};
 
+use crate::dense_spec::DenseSpec;
 use crate::draft::Draft;
-use crate::grants::Grants;
-use crate::ledger::Ledger;
+use crate::run_state::RunState;
 use crate::scope::Scope;
 use crate::setting::{Setting, Task, blame_at, cell_of};
 use crate::stop::Stop;
@@ -24,8 +24,8 @@ use std::mem::replace;
 
 impl<'c> Setting<'c> {
     // Counts a step.
-    fn begin(&self, task: &mut Task<'c>, ledger: &Ledger) -> Result<(), Stop>
-        ensures { Follows result (begun self.now.limit task.old ledger.now) task.new ledger.now }
+    fn begin(&self, task: &mut Task<'c>, state: &RunState) -> Result<(), Stop>
+        ensures { Follows result (begun self.now.limit task.old state.now) task.new state.now }
     {
         match task.tally.begin_step(self.limit) {
             Ok(()) => Ok(()),
@@ -39,11 +39,11 @@ impl<'c> Setting<'c> {
         name: &'c Name,
         value: &Expr,
         task: &mut Task<'c>,
-        ledger: &Ledger,
+        state: &RunState,
     ) -> Result<(), Stop>
-        ensures { Follows result (localized (shown self.now) name.now (expression value.now) task.old ledger.now) task.new ledger.now }
+        ensures { Follows result (localized (shown self.now) name.now (expression value.now) task.old state.now) task.new state.now }
     {
-        match self.value(task, &ledger.objects, value) {
+        match self.value(task, &state.objects, value) {
             Ok(value) => match task.scope.bind(name, value) {
                 Ok(()) => Ok(()),
                 Err(Memory) => Err(Stop::Memory),
@@ -58,11 +58,11 @@ impl<'c> Setting<'c> {
         name: &Name,
         value: &Expr,
         task: &mut Task<'c>,
-        ledger: &Ledger,
+        state: &RunState,
     ) -> Result<(), Stop>
-        ensures { Follows result (reassigned (shown self.now) name.now (expression value.now) task.old ledger.now) task.new ledger.now }
+        ensures { Follows result (reassigned (shown self.now) name.now (expression value.now) task.old state.now) task.new state.now }
     {
-        match self.value(task, &ledger.objects, value) {
+        match self.value(task, &state.objects, value) {
             Ok(value) => {
                 task.scope.assign(name, value);
                 Ok(())
@@ -77,13 +77,13 @@ impl<'c> Setting<'c> {
         target: &CellRef,
         value: &Expr,
         task: &Task<'c>,
-        ledger: &mut Ledger,
+        state: &mut RunState,
     ) -> Result<(), Stop>
-        ensures { Follows result (stored (shown self.now) (reference target.now).place (reference target.now).cell (expression value.now) task.now ledger.old) task.now ledger.new }
+        ensures { Follows result (stored (shown self.now) (reference target.now).place (reference target.now).cell (expression value.now) task.now state.old) task.now state.new }
     {
         let found = match self.located(
             task,
-            &ledger.objects,
+            &state.objects,
             &target.name,
             target.pos,
             &target.family,
@@ -91,7 +91,7 @@ impl<'c> Setting<'c> {
             Ok(found) => found,
             Err(blame) => return Err(Stop::Fault(blame)),
         };
-        let index = match self.value(task, &ledger.objects, &target.cell) {
+        let index = match self.value(task, &state.objects, &target.cell) {
             Ok(value) => value.whole(),
             Err(blame) => return Err(Stop::Fault(blame)),
         };
@@ -99,13 +99,13 @@ impl<'c> Setting<'c> {
             Ok(cell) => cell,
             Err(blame) => return Err(Stop::Fault(blame)),
         };
-        let number = match self.value(task, &ledger.objects, value) {
+        let number = match self.value(task, &state.objects, value) {
             Ok(value) => value.whole(),
             Err(blame) => return Err(Stop::Fault(blame)),
         };
-        match task.grants.on(found.number).writes {
+        match task.spec.on(found.number).writes {
             Right::Immediate => {
-                ledger.objects.write(found.number, cell, number);
+                state.objects.write(found.number, cell, number);
                 Ok(())
             }
             Right::Absent | Right::Deferred => {
@@ -121,11 +121,11 @@ impl<'c> Setting<'c> {
         at: Pos,
         of: &ObjectRef,
         task: &mut Task<'c>,
-        ledger: &Ledger,
+        state: &RunState,
     ) -> Result<(), Stop>
-        ensures { Follows result (declared_on (shown self.now) word at (object of.now) task.old ledger.now) task.new ledger.now }
+        ensures { Follows result (declared_on (shown self.now) word at (object of.now) task.old state.now) task.new state.now }
     {
-        match self.located(task, &ledger.objects, &of.name, of.pos, &of.member) {
+        match self.located(task, &state.objects, &of.name, of.pos, &of.member) {
             Ok(found) => match task.draft.declare(word, found.number, at) {
                 Ok(()) => Ok(()),
                 Err(blame) => Err(Stop::Fault(blame)),
@@ -138,9 +138,9 @@ impl<'c> Setting<'c> {
     pub(crate) fn begin_building(&self, task: &mut Task<'c>) -> Result<(), Memory>
         ensures { OnOk result (task.new ≡ record task.old { draft = Building (none_of self.now.items) }) }
     {
-        match Grants::none(self.alloc, self.items.objects()) {
-            Ok(grants) => {
-                task.draft = Draft::building(grants);
+        match DenseSpec::none(self.alloc, self.items.objects()) {
+            Ok(spec) => {
+                task.draft = Draft::building(spec);
                 Ok(())
             }
             Err(memory) => Err(memory),
@@ -149,11 +149,11 @@ impl<'c> Setting<'c> {
 
     // Begins the section of a `with`.
     pub(crate) fn begin_amending(&self, task: &mut Task<'c>) -> Result<(), Memory>
-        ensures { OnOk result (task.new ≡ record task.old { draft = Amending task.old.grants }) }
+        ensures { OnOk result (task.new ≡ record task.old { draft = Amending task.old.spec }) }
     {
-        match task.grants.copy(self.alloc) {
-            Ok(grants) => {
-                task.draft = Draft::amending(grants);
+        match task.spec.copy(self.alloc) {
+            Ok(spec) => {
+                task.draft = Draft::amending(spec);
                 Ok(())
             }
             Err(memory) => Err(memory),
@@ -164,15 +164,15 @@ impl<'c> Setting<'c> {
     pub(crate) fn end_amending(&self, task: &mut Task<'c>) -> Result<(), Memory>
         ensures { OnOk result (task.new ≡ changed task.old) }
     {
-        let before = match task.grants.copy(self.alloc) {
-            Ok(grants) => grants,
+        let before = match task.spec.copy(self.alloc) {
+            Ok(spec) => spec,
             Err(memory) => return Err(memory),
         };
         let draft = replace(&mut task.draft, Draft::absent(self.alloc));
-        let mut grants = draft.into_working(before);
-        match grants.fit(&task.grants) {
+        let mut spec = draft.into_working(before);
+        match spec.fit(&task.spec) {
             Ok(()) => {
-                task.grants = grants;
+                task.spec = spec;
                 Ok(())
             }
             Err(memory) => Err(memory),
@@ -180,14 +180,14 @@ impl<'c> Setting<'c> {
     }
 
     // The child's specification at the end of the section of a `withonly`, which ends the section.
-    pub(crate) fn end_building(&self, task: &mut Task<'c>) -> Result<Grants, Memory>
-        ensures child { IfOk result (λ child. child ≡ fitted task.old.grants (drafted task.old.draft)) }
+    pub(crate) fn end_building(&self, task: &mut Task<'c>) -> Result<DenseSpec, Memory>
+        ensures child { IfOk result (λ child. child ≡ fitted task.old.spec (drafted task.old.draft)) }
         ensures section { OnOk result (task.new ≡ record task.old { draft = NoDraft }) }
     {
         let draft = replace(&mut task.draft, Draft::absent(self.alloc));
-        let mut grants = draft.into_drafted(self.alloc);
-        match grants.fit(&task.grants) {
-            Ok(()) => Ok(grants),
+        let mut spec = draft.into_drafted(self.alloc);
+        match spec.fit(&task.spec) {
+            Ok(()) => Ok(spec),
             Err(memory) => Err(memory),
         }
     }
@@ -219,25 +219,25 @@ impl<'c> Setting<'c> {
         statement: &'c Statement,
         path: &Path,
         task: &mut Task<'c>,
-        ledger: &mut Ledger,
+        state: &mut RunState,
     ) -> Result<(), Stop>
-        ensures { Follows result (perform (shown self.now) path.now (action statement.now) task.old ledger.old) task.new ledger.new }
+        ensures { Follows result (perform (shown self.now) path.now (action statement.now) task.old state.old) task.new state.new }
     {
         match statement {
-            Statement::Local { name, value, .. } => self.local(name, value, task, ledger),
-            Statement::Assign { name, value, .. } => self.assign(name, value, task, ledger),
-            Statement::Store { target, value } => self.store(target, value, task, ledger),
+            Statement::Local { name, value, .. } => self.local(name, value, task, state),
+            Statement::Assign { name, value, .. } => self.assign(name, value, task, state),
+            Statement::Store { target, value } => self.store(target, value, task, state),
             Statement::If {
                 test,
                 then,
                 otherwise,
             } => {
-                if self.value(task, &ledger.objects, test)?.holds() {
-                    return self.scoped(then, path, task, ledger);
+                if self.value(task, &state.objects, test)?.holds() {
+                    return self.scoped(then, path, task, state);
                 }
                 match otherwise {
                     None => Ok(()),
-                    Some(block) => self.scoped(block, path, task, ledger),
+                    Some(block) => self.scoped(block, path, task, state),
                 }
             }
             Statement::For {
@@ -246,19 +246,19 @@ impl<'c> Setting<'c> {
                 high,
                 body,
                 ..
-            } => self.repeat(name, body, low, high, path, task, ledger),
+            } => self.repeat(name, body, low, high, path, task, state),
             Statement::Withonly {
                 pos,
                 section,
                 names,
                 body,
             } => {
-                self.build(section, path, task, ledger)?;
-                self.create(*pos, names, body, path, task, ledger)
+                self.build(section, path, task, state)?;
+                self.create(*pos, names, body, path, task, state)
             }
-            Statement::With { section, .. } => self.amend(section, path, task, ledger),
+            Statement::With { section, .. } => self.amend(section, path, task, state),
             Statement::Declare { word, pos, object } => {
-                self.declare(*word, *pos, object, task, ledger)
+                self.declare(*word, *pos, object, task, state)
             }
         }
     }
@@ -273,13 +273,13 @@ impl<'c> Setting<'c> {
         high: &Expr,
         path: &Path,
         task: &mut Task<'c>,
-        ledger: &mut Ledger,
+        state: &mut RunState,
     ) -> Result<(), Stop>
-        ensures { Follows result (perform (shown self.now) path.now (For name.now (expression low.now) (expression high.now) (block body.now)) task.old ledger.old) task.new ledger.new }
+        ensures { Follows result (perform (shown self.now) path.now (For name.now (expression low.now) (expression high.now) (block body.now)) task.old state.old) task.new state.new }
     {
-        let low = self.value(task, &ledger.objects, low)?.whole();
-        let high = self.value(task, &ledger.objects, high)?.whole();
-        self.turns(name, low, high, body, path, task, ledger)
+        let low = self.value(task, &state.objects, low)?.whole();
+        let high = self.value(task, &state.objects, high)?.whole();
+        self.turns(name, low, high, body, path, task, state)
     }
 
     // The section of a `withonly`.
@@ -289,12 +289,12 @@ impl<'c> Setting<'c> {
         section: &'c Block,
         path: &Path,
         task: &mut Task<'c>,
-        ledger: &mut Ledger,
+        state: &mut RunState,
     ) -> Result<(), Stop>
-        ensures { let u = record task.old { draft = Building (none_of self.now.items) } in Follows result (within u (perform_all (shown self.now) path.now (block section.now) u ledger.old)) task.new ledger.new }
+        ensures { let u = record task.old { draft = Building (none_of self.now.items) } in Follows result (within u (perform_all (shown self.now) path.now (block section.now) u state.old)) task.new state.new }
     {
         self.begin_building(task)?;
-        self.scoped(section, path, task, ledger)
+        self.scoped(section, path, task, state)
     }
 
     // A `with`: its section, and the rights that it leaves.
@@ -304,12 +304,12 @@ impl<'c> Setting<'c> {
         section: &'c Block,
         path: &Path,
         task: &mut Task<'c>,
-        ledger: &mut Ledger,
+        state: &mut RunState,
     ) -> Result<(), Stop>
-        ensures { let u = record task.old { draft = Amending task.old.grants } in Follows result (then_on (within u (perform_all (shown self.now) path.now (block section.now) u ledger.old)) (λ w m. Goes (changed w) m)) task.new ledger.new }
+        ensures { let u = record task.old { draft = Amending task.old.spec } in Follows result (then_on (within u (perform_all (shown self.now) path.now (block section.now) u state.old)) (λ w m. Goes (changed w) m)) task.new state.new }
     {
         self.begin_amending(task)?;
-        self.scoped(section, path, task, ledger)?;
+        self.scoped(section, path, task, state)?;
         self.end_amending(task)?;
         Ok(())
     }
@@ -321,12 +321,12 @@ impl<'c> Setting<'c> {
         statement: &'c Statement,
         path: &Path,
         task: &mut Task<'c>,
-        ledger: &mut Ledger,
+        state: &mut RunState,
     ) -> Result<(), Stop>
-        ensures { Follows result (then_on (begun self.now.limit task.old ledger.old) (perform (shown self.now) path.now (action statement.now))) task.new ledger.new }
+        ensures { Follows result (then_on (begun self.now.limit task.old state.old) (perform (shown self.now) path.now (action statement.now))) task.new state.new }
     {
-        match self.begin(task, ledger) {
-            Ok(()) => self.statement(statement, path, task, ledger),
+        match self.begin(task, state) {
+            Ok(()) => self.statement(statement, path, task, state),
             Err(stop) => Err(stop),
         }
     }
@@ -338,12 +338,12 @@ impl<'c> Setting<'c> {
         statements: &'c Block,
         path: &Path,
         task: &mut Task<'c>,
-        ledger: &mut Ledger,
+        state: &mut RunState,
     ) -> Result<(), Stop>
-        ensures { Follows result (perform_all (shown self.now) path.now (block statements.now) task.old ledger.old) task.new ledger.new }
+        ensures { Follows result (perform_all (shown self.now) path.now (block statements.now) task.old state.old) task.new state.new }
     {
         for i in 0..statements.len() {
-            match self.step(statements.at(i), path, task, ledger) {
+            match self.step(statements.at(i), path, task, state) {
                 Ok(()) => {}
                 Err(stop) => return Err(stop),
             }
@@ -358,12 +358,12 @@ impl<'c> Setting<'c> {
         statements: &'c Block,
         path: &Path,
         task: &mut Task<'c>,
-        ledger: &mut Ledger,
+        state: &mut RunState,
     ) -> Result<(), Stop>
-        ensures { Follows result (within task.old (perform_all (shown self.now) path.now (block statements.now) task.old ledger.old)) task.new ledger.new }
+        ensures { Follows result (within task.old (perform_all (shown self.now) path.now (block statements.now) task.old state.old)) task.new state.new }
     {
         let variables = task.scope.len();
-        match self.block(statements, path, task, ledger) {
+        match self.block(statements, path, task, state) {
             Ok(()) => {
                 task.scope.leave(variables);
                 Ok(())
@@ -382,13 +382,13 @@ impl<'c> Setting<'c> {
         body: &'c Block,
         path: &Path,
         task: &mut Task<'c>,
-        ledger: &mut Ledger,
+        state: &mut RunState,
     ) -> Result<(), Stop>
-        ensures { Follows result (turned self.now.limit (turn_count low high) low name.now (perform_all (shown self.now) path.now (block body.now)) task.old ledger.old) task.new ledger.new }
+        ensures { Follows result (turned self.now.limit (turn_count low high) low name.now (perform_all (shown self.now) path.now (block body.now)) task.old state.old) task.new state.new }
     {
         let mut index = low;
         while index < high {
-            match self.turn(name, index, body, path, task, ledger) {
+            match self.turn(name, index, body, path, task, state) {
                 Ok(()) => {}
                 Err(stop) => return Err(stop),
             }
@@ -406,11 +406,11 @@ impl<'c> Setting<'c> {
         body: &'c Block,
         path: &Path,
         task: &mut Task<'c>,
-        ledger: &mut Ledger,
+        state: &mut RunState,
     ) -> Result<(), Stop>
-        ensures { Follows result (turned_once self.now.limit index name.now (perform_all (shown self.now) path.now (block body.now)) task.old ledger.old) task.new ledger.new }
+        ensures { Follows result (turned_once self.now.limit index name.now (perform_all (shown self.now) path.now (block body.now)) task.old state.old) task.new state.new }
     {
-        match self.begin(task, ledger) {
+        match self.begin(task, state) {
             Ok(()) => {}
             Err(stop) => return Err(stop),
         }
@@ -419,7 +419,7 @@ impl<'c> Setting<'c> {
             Ok(()) => {}
             Err(Memory) => return Err(Stop::Memory),
         }
-        match self.block(body, path, task, ledger) {
+        match self.block(body, path, task, state) {
             Ok(()) => {
                 task.scope.leave(variables);
                 Ok(())
@@ -437,22 +437,22 @@ impl<'c> Setting<'c> {
         body: &'c Block,
         path: &Path,
         task: &mut Task<'c>,
-        ledger: &mut Ledger,
+        state: &mut RunState,
     ) -> Result<(), Stop>
-        ensures { Follows result (created (shown self.now) path.now at (map (λ n. n.name) names.now) (λ q. perform_all (shown self.now) q (block body.now)) task.old ledger.old) task.new ledger.new }
+        ensures { Follows result (created (shown self.now) path.now at (map (λ n. n.name) names.now) (λ q. perform_all (shown self.now) q (block body.now)) task.old state.old) task.new state.new }
     {
-        let grants = match self.end_building(task) {
-            Ok(grants) => grants,
+        let spec = match self.end_building(task) {
+            Ok(spec) => spec,
             Err(Memory) => return Err(Stop::Memory),
         };
-        if !task.grants.covers(&grants) {
+        if !task.spec.covers(&spec) {
             return Err(Stop::Fault(blame_at(FaultKind::Cover, at)));
         }
         let scope = match self.copied(names, task) {
             Ok(scope) => scope,
             Err(Memory) => return Err(Stop::Memory),
         };
-        match self.run_child(scope, grants, body, path, &task.tally, ledger) {
+        match self.run_child(scope, spec, body, path, &task.tally, state) {
             Ok(()) => {}
             Err(Memory) => return Err(Stop::Memory),
         }
@@ -467,15 +467,15 @@ impl<'c> Setting<'c> {
     fn run_child(
         &self,
         scope: Scope<'c>,
-        grants: Grants,
+        spec: DenseSpec,
         body: &'c Block,
         path: &Path,
         tally: &Tally,
-        ledger: &mut Ledger,
+        state: &mut RunState,
     ) -> Result<(), Memory>
-        ensures { OnOk result (let q = path.now ++ tally.now.children ∷ [] in ledger.new ≡ ended q (perform_all (shown self.now) q (block body.now) (child_task scope.entry grants) (noted path.now tally.now.children tally.now.part None ledger.old))) }
+        ensures { OnOk result (let q = path.now ++ tally.now.children ∷ [] in state.new ≡ ended q (perform_all (shown self.now) q (block body.now) (child_task scope.entry spec) (noted path.now tally.now.children tally.now.part None state.old))) }
     {
-        match ledger.note(self.alloc, path, tally.children(), tally.part(), None) {
+        match state.note(self.alloc, path, tally.children(), tally.part(), None) {
             Ok(()) => {}
             Err(memory) => return Err(memory),
         }
@@ -483,7 +483,7 @@ impl<'c> Setting<'c> {
             Ok(path) => path,
             Err(memory) => return Err(memory),
         };
-        self.run(scope, grants, body, &child_path, ledger)
+        self.run(scope, spec, body, &child_path, state)
     }
 
     /// Runs a task with these variables and rights to its end.
@@ -491,25 +491,25 @@ impl<'c> Setting<'c> {
     pub(crate) fn run(
         &self,
         scope: Scope<'c>,
-        grants: Grants,
+        spec: DenseSpec,
         body: &'c Block,
         path: &Path,
-        ledger: &mut Ledger,
+        state: &mut RunState,
     ) -> Result<(), Memory>
-        ensures { OnOk result (ledger.new ≡ ended path.now (perform_all (shown self.now) path.now (block body.now) (child_task scope.entry grants) ledger.old)) }
+        ensures { OnOk result (state.new ≡ ended path.now (perform_all (shown self.now) path.now (block body.now) (child_task scope.entry spec) state.old)) }
     {
         let mut task = Task {
             scope,
-            grants,
+            spec,
             draft: Draft::absent(self.alloc),
             tally: Tally::start(),
         };
-        let blame = match self.block(body, path, &mut task, ledger) {
+        let blame = match self.block(body, path, &mut task, state) {
             Ok(()) => None,
             Err(Stop::Fault(blame)) => Some(blame),
             Err(Stop::Memory) => return Err(Memory),
         };
-        ledger.note(
+        state.note(
             self.alloc,
             path,
             task.tally.children(),

@@ -2,7 +2,7 @@
 
 ghost use Rattle.std.specs.Prelude.{◌≡◌, ◌<◌, ◌≤◌, OnOk, IfErr, OnErr};
 ghost use Rattle.jade_meaning.specs.Course.{limit_blame};
-ghost use Rattle.jade_meaning.specs.Tallied.{stepped, parted};
+ghost use Rattle.jade_meaning.specs.steps.Tallied.{stepped, parted};
 
 use jade_base::{Blame, FaultKind, Memory};
 use std::marker::Model;
@@ -18,7 +18,7 @@ pub(crate) struct Tally {
 
 impl Model for Tally {
     ghost use Rattle.std.specs.Prelude.{◌≤◌};
-    ghost use Rattle.jade_meaning.specs.Tallied.{Tallied};
+    ghost use Rattle.jade_meaning.specs.steps.Tallied.{Tallied};
 
     ghost Value = { Tallied };
 

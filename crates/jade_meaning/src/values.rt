@@ -3,7 +3,7 @@
 ghost use Rattle.std.specs.Prelude.{◌≡◌};
 ghost use Rattle.jade_syntax.specs.Abstract.{Or, And, Relates, Adds, Multiplies};
 ghost use Rattle.jade_meaning.specs.Values.{Gives, computed, operated, decides, related, signed, whole, holds, added, multiplied};
-ghost use Rattle.jade_meaning.specs.Direct.{as_given, as_fitting, index_in};
+ghost use Rattle.jade_meaning.specs.steps.Direct.{as_given, as_fitting, index_in};
 
 use jade_base::FaultKind;
 use jade_syntax::tree::{ProductOp, Relation, SumOp, UnaryOp};

@@ -4,17 +4,18 @@ ghost use Rattle.std.specs.Prelude.{◌≡◌, ◌+◌, ◌≤◌, [], true, fal
 ghost use Rattle.jade_syntax.specs.Objects.{input_names, sizes};
 ghost use Rattle.jade_meaning.specs.Course.{Setting as SettingOf};
 ghost use Rattle.jade_meaning.specs.Talk.{Task as TaskOf};
-ghost use Rattle.jade_meaning.specs.Holding.{event_of};
-ghost use Rattle.jade_meaning.specs.Standing.{ahead, ready};
-ghost use Rattle.jade_meaning.specs.Walk.{upcoming, First, act_of, carried_of, is_answered, goes_with, Passes, moved, Bears, begun_as, root_walk, read_of, creates, enrolls};
+ghost use Rattle.jade_meaning.specs.steps.Holding.{event_of};
+ghost use Rattle.jade_meaning.specs.steps.Configuration.{ahead, ready};
+ghost use Rattle.jade_meaning.specs.Walk.{upcoming, First, act_of, carried_of, is_answered, Passes, moved, Bears, begun_as, root_walk};
+ghost use Rattle.jade_meaning.specs.steps.Walking.{goes_with, read_of, creates, enrolls};
 
-use crate::found::Declared;
-use crate::grants::Grants;
-use crate::holds::Told;
+use crate::configuration::{Configuration, Stage, begun, onward};
+use crate::dense_spec::DenseSpec;
+use crate::holds::PendingEvent;
+use crate::resolve::Declared;
 use crate::scope::Scope;
 use crate::serial::inputs;
 use crate::setting::Setting;
-use crate::standing::{Stage, Standing, begun, is_over, onward};
 use jade_base::{Blame, Memory, Mode, ObjectId, Rights};
 use jade_syntax::Checked;
 use jade_syntax::tree::{Block, Program};
@@ -68,38 +69,28 @@ pub enum Carried {
 pub struct Walker<'c> {
     setting: Setting<'c>,
     scope: Scope<'c>,
-    grants: Grants,
+    spec: DenseSpec,
     body: &'c Block,
     answers: Vec<i64>,
     done: usize,
     told: usize,
-    standing: Standing<'c>,
+    configuration: Configuration<'c>,
 }
 
 impl<'c> Model for Walker<'c> {
-    ghost use Rattle.std.specs.Prelude.{List, ℤ, ℕ, refl};
-    ghost use Rattle.std.specs.Coded.{code_by, coded×, coded_list, coded_ℕ, coded_ℤ};
-    ghost use Rattle.jade_syntax.specs.declared.tree.Item.{Item as ItemOf};
-    ghost use Rattle.jade_syntax.specs.declared.tree.Statement.{Statement as StatementOf};
-    ghost use Rattle.jade_syntax.specs.contracts.tree.Item as item;
-    ghost use Rattle.jade_syntax.specs.contracts.tree.Statement as statement;
-    ghost use Rattle.jade_meaning.specs.contracts.values.Value as value_row;
-    ghost use Rattle.jade_meaning.specs.declared.values.Value.{Value as ValueOf};
-    ghost use Rattle.jade_meaning.specs.contracts.grants.Grants as grants_row;
-    ghost use Rattle.jade_meaning.specs.Course.{Environment};
-    ghost use Rattle.jade_meaning.specs.Specification.{Specification};
+    ghost use Rattle.jade_meaning.specs.Codes.{coded_walk};
     ghost use Rattle.jade_meaning.specs.Walks.{Walk};
 
     ghost Value = { Walk };
 
-    ghost coded = { code_by (List ItemOf × (Environment × (ℕ × (Environment × (Specification × (List StatementOf × (List ℤ × ℕ))))))) (coded× (coded_list item.the_row.coded) (coded× (coded_list (code_by (List ℕ × ValueOf) (coded× (coded_list coded_ℕ) value_row.the_row.coded) (λ b. (b.name, b.value)) (λ p. record { name = p.0; value = p.1 }) (λ _. refl))) (coded× coded_ℕ (coded× (coded_list (code_by (List ℕ × ValueOf) (coded× (coded_list coded_ℕ) value_row.the_row.coded) (λ b. (b.name, b.value)) (λ p. record { name = p.0; value = p.1 }) (λ _. refl))) (coded× grants_row.the_row.coded (coded× (coded_list statement.the_row.coded) (coded× (coded_list coded_ℤ) coded_ℕ))))))) (λ w. (w.items, (w.given, (w.limit, (w.env, (w.spec, (w.body, (w.answers, w.done)))))))) (λ p. record { items = p.0; given = p.1.0; limit = p.1.1.0; env = p.1.1.1.0; spec = p.1.1.1.1.0; body = p.1.1.1.1.1.0; answers = p.1.1.1.1.1.1.0; done = p.1.1.1.1.1.1.1 }) (λ _. refl) };
+    ghost coded = { coded_walk };
 
-    ghost use Rattle.jade_meaning.specs.Perform.{shown};
-    ghost use Rattle.jade_meaning.specs.Stands.{Stands};
+    ghost use Rattle.jade_meaning.specs.steps.Perform.{shown};
+    ghost use Rattle.jade_meaning.specs.steps.Agreement.{AgreesWithTalk};
 
-    ghost view = { λ w. record { items = w.setting.items; given = w.setting.given; limit = w.setting.limit; env = w.scope; spec = w.grants; body = w.body.now; answers = w.answers.items; done = w.done } };
+    ghost view = { λ w. record { items = w.setting.items; given = w.setting.given; limit = w.setting.limit; env = w.scope; spec = w.spec; body = w.body.now; answers = w.answers.items; done = w.done } };
 
-    ghost invariant = { λ w. Stands (shown w.setting) w.scope w.grants w.body.now w.answers.items w.done w.told w.standing };
+    ghost invariant = { λ w. AgreesWithTalk (shown w.setting) w.scope w.spec w.body.now w.answers.items w.done w.told w.configuration };
 }
 
 impl<'c> Setting<'c> {
@@ -121,22 +112,22 @@ impl<'c> Setting<'c> {
 fn begin<'c>(
     setting: Setting<'c>,
     scope: Scope<'c>,
-    grants: Grants,
+    spec: DenseSpec,
     body: &'c Block,
 ) -> Result<Walker<'c>, Memory>
-    ensures { IfOk result (λ w. w ≡ begun_as setting.entry.items setting.entry.given setting.entry.limit scope.entry grants body.now) }
+    ensures { IfOk result (λ w. w ≡ begun_as setting.entry.items setting.entry.given setting.entry.limit scope.entry spec body.now) }
 {
-    let standing = begun(&setting, &scope, &grants, body)?;
+    let configuration = begun(&setting, &scope, &spec, body)?;
     let answers = Vec::new(setting.alloc);
     Ok(Walker {
         setting,
         scope,
-        grants,
+        spec,
         body,
         answers,
         done: 0,
         told: 0,
-        standing,
+        configuration,
     })
 }
 
@@ -170,21 +161,21 @@ impl<'c> Walker<'c> {
         let items = Declared::of(&program.items);
         let given = inputs(alloc, &program.items, numbers)?;
         let scope = given.copy(alloc)?;
-        let grants = Grants::all(alloc, items.objects())?;
+        let spec = DenseSpec::all(alloc, items.objects())?;
         let setting = Setting {
             alloc,
             items,
             given,
             limit,
         };
-        begin(setting, scope, grants, &program.main)
+        begin(setting, scope, spec, &program.main)
     }
 
     /// The next event.
     pub fn next(&self) -> Act
         ensures { First (upcoming self.now) (λ e. act_of e ≡ result) }
     {
-        next_act(&self.standing, self.told)
+        next_act(&self.configuration, self.told)
     }
 
     /// What the next event carries beside the object of its act. A read has no answer yet.
@@ -192,7 +183,7 @@ impl<'c> Walker<'c> {
         ensures told { First (upcoming self.now) (λ e. carried_of e ≡ result) }
         ensures unanswered { First (upcoming self.now) (λ e. is_answered e ≡ false) }
     {
-        next_carried(&self.standing, self.told)
+        next_carried(&self.configuration, self.told)
     }
 
     /// Whether the task can go past its next event with this value.
@@ -228,12 +219,12 @@ impl<'c> Walker<'c> {
     fn child(&self, alloc: Global) -> Result<Option<Walker<'c>>, Memory>
         ensures { IfOk result (λ child. First (upcoming self.now) (Bears self.now child)) }
     {
-        if is_creation(&self.standing, self.told) {
-            let newborn = &self.standing.newborn;
+        if is_creation(&self.configuration, self.told) {
+            let newborn = &self.configuration.newborn;
             let setting = self.setting.copy()?;
             let scope = newborn.scope.copy(alloc)?;
-            let grants = newborn.grants.copy(alloc)?;
-            let child = begin(setting, scope, grants, newborn.body)?;
+            let spec = newborn.spec.copy(alloc)?;
+            let child = begin(setting, scope, spec, newborn.body)?;
             return Ok(Some(child));
         }
         Ok(None)
@@ -246,16 +237,16 @@ impl<'c> Walker<'c> {
         ensures unchanged { OnErr result (self.new ≡ self.old) }
     {
         let done = counted(self.done)?;
-        if self.standing.run.used > self.answers.len() {
+        if self.configuration.run.used > self.answers.len() {
             return Err(Memory);
         }
         match self.answers.push(value) {
             Ok(()) => {}
             Err(_) => return Err(Memory),
         }
-        match onward(&self.setting, &self.standing, self.answers.as_slice()) {
-            Ok(standing) => {
-                self.standing = standing;
+        match onward(&self.setting, &self.configuration, self.answers.as_slice()) {
+            Ok(configuration) => {
+                self.configuration = configuration;
                 self.told = 0;
                 self.done = done;
                 Ok(())
@@ -275,16 +266,13 @@ impl<'c> Walker<'c> {
     {
         let done = counted(self.done)?;
         let told = counted(self.told)?;
-        if is_left(&self.standing, told) {
+        if is_left(&self.configuration, told) {
             self.told = told;
             self.done = done;
             return Ok(());
         }
-        if is_over(&self.standing) {
-            return Err(Memory);
-        }
-        let standing = onward(&self.setting, &self.standing, self.answers.as_slice())?;
-        self.standing = standing;
+        let configuration = onward(&self.setting, &self.configuration, self.answers.as_slice())?;
+        self.configuration = configuration;
         self.told = 0;
         self.done = done;
         Ok(())
@@ -302,7 +290,7 @@ fn counted(number: usize) -> Result<usize, Memory>
 }
 
 // The next event, where so much of what is pending is told.
-fn next_act(at: &Standing, told: usize) -> Act
+fn next_act(at: &Configuration, told: usize) -> Act
     requires { ready (drop told at.now.pending.items) at.now.stage ≡ true }
     ensures { (s : SettingOf) (given : List ℤ) → First (ahead s given at.now told []) (λ e. act_of e ≡ result) }
 {
@@ -314,7 +302,7 @@ fn next_act(at: &Standing, told: usize) -> Act
 }
 
 // What the next event carries.
-fn next_carried(at: &Standing, told: usize) -> Carried
+fn next_carried(at: &Configuration, told: usize) -> Carried
     requires { ready (drop told at.now.pending.items) at.now.stage ≡ true }
     ensures { (s : SettingOf) (given : List ℤ) → First (ahead s given at.now told []) (λ e. carried_of e ≡ result) }
 {
@@ -347,7 +335,7 @@ fn read_of(stage: Stage) -> Carried
 }
 
 // Whether something is left to tell.
-fn is_left(at: &Standing, told: usize) -> bool
+fn is_left(at: &Configuration, told: usize) -> bool
     ensures { result ≡ ready (drop told at.now.pending.items) at.now.stage }
 {
     if told < at.pending.len() {
@@ -368,7 +356,7 @@ fn asks(stage: Stage) -> bool
 }
 
 // Whether the next event is a creation.
-fn is_creation(at: &Standing, told: usize) -> bool
+fn is_creation(at: &Configuration, told: usize) -> bool
     ensures { result ≡ creates (drop told at.now.pending.items) }
 {
     if told < at.pending.len() {
@@ -379,42 +367,42 @@ fn is_creation(at: &Standing, told: usize) -> bool
 }
 
 // Whether an event is a creation.
-fn enrolls(told: Told) -> bool
-    ensures { result ≡ enrolls told }
+fn enrolls(event: PendingEvent) -> bool
+    ensures { result ≡ enrolls event }
 {
-    match told {
-        Told::Enroll(_) => true,
+    match event {
+        PendingEvent::Enroll(_) => true,
         _ => false,
     }
 }
 
 // The act of an event.
-fn act_of(told: Told) -> Act
-    ensures { (t : TaskOf) → act_of (event_of t told) ≡ result }
+fn act_of(event: PendingEvent) -> Act
+    ensures { (t : TaskOf) → act_of (event_of t event) ≡ result }
 {
-    match told {
-        Told::Enter(object, _) => Act::Enter(object),
-        Told::Enroll(_) => Act::Enroll,
-        Told::Take(object, _) => Act::Take(object),
-        Told::Write(..) => Act::Touch,
-        Told::Give(object) => Act::Give(object),
-        Told::Leave(object) => Act::Leave(object),
-        Told::Shift(object, _) => Act::Shift(object),
-        Told::Resign(..) => Act::Resign,
+    match event {
+        PendingEvent::Enter(object, _) => Act::Enter(object),
+        PendingEvent::Enroll(_) => Act::Enroll,
+        PendingEvent::Take(object, _) => Act::Take(object),
+        PendingEvent::Write(..) => Act::Touch,
+        PendingEvent::Give(object) => Act::Give(object),
+        PendingEvent::Leave(object) => Act::Leave(object),
+        PendingEvent::Shift(object, _) => Act::Shift(object),
+        PendingEvent::Resign(..) => Act::Resign,
     }
 }
 
 // What an event carries beside the object of its act.
-fn carried_of(told: Told) -> Carried
-    ensures { (t : TaskOf) → carried_of (event_of t told) ≡ result }
+fn carried_of(event: PendingEvent) -> Carried
+    ensures { (t : TaskOf) → carried_of (event_of t event) ≡ result }
 {
-    match told {
-        Told::Enter(_, rights) => Carried::Rights(rights),
-        Told::Enroll(steps) => Carried::Steps(steps),
-        Told::Take(_, mode) => Carried::Mode(mode),
-        Told::Write(object, cell, value) => Carried::Write(object, cell, value),
-        Told::Give(_) | Told::Leave(_) => Carried::Nothing,
-        Told::Shift(_, rights) => Carried::Rights(rights),
-        Told::Resign(blame, steps) => Carried::Ended(blame, steps),
+    match event {
+        PendingEvent::Enter(_, rights) => Carried::Rights(rights),
+        PendingEvent::Enroll(steps) => Carried::Steps(steps),
+        PendingEvent::Take(_, mode) => Carried::Mode(mode),
+        PendingEvent::Write(object, cell, value) => Carried::Write(object, cell, value),
+        PendingEvent::Give(_) | PendingEvent::Leave(_) => Carried::Nothing,
+        PendingEvent::Shift(_, rights) => Carried::Rights(rights),
+        PendingEvent::Resign(blame, steps) => Carried::Ended(blame, steps),
     }
 }

@@ -1,12 +1,12 @@
 -- What each word begins, in each place.
 use Rattle.std.proofs.Common.{refl}
-use Rattle.jade_syntax.specs.declared.shapes.place.Place.{Place}
-use Rattle.jade_syntax.specs.declared.shapes.place.Place.TheVariants.{Main, Section, Amends}
+use Rattle.jade_syntax.specs.declared.shapes.place.BlockKind.{BlockKind}
+use Rattle.jade_syntax.specs.declared.shapes.place.BlockKind.TheVariants.{Main, Section, Amends}
 use Rattle.jade_parser.specs.declared.Sign.{Sign}
 use Rattle.jade_parser.specs.declared.Sign.TheVariants.{TrueWord, FalseWord, LeftParen, RightParen, LeftBracket, RightBracket, OrSign, AndSign, EqualSign, UnequalSign, LessSign, LessEqualSign, GreaterSign, GreaterEqualSign, PlusSign, MinusSign, TimesSign, OverSign, PercentSign, NotSign, Semicolon, Becomes, LeftBrace, RightBrace, IfWord, ElseWord, ForWord, InWord, DotDot, IntWord, BoolWord, WithonlyWord, WithWord, DoWord, ContWord, Comma, RdWord, WrWord, RdWrWord, DfRdWord, DfWrWord, DfRdWrWord, NoRdWord, NoWrWord, NoRdWrWord, InputWord, ObjectWord, ObjectsWord, MainWord, Colon}
 use Rattle.jade_parser.specs.Begins.{begin_of, Told}
 
-pub told : (c : Place) (s : Sign) → Told c s (begin_of c s)
+pub told : (c : BlockKind) (s : Sign) → Told c s (begin_of c s)
 told Main TrueWord = λ st. refl
 told Main FalseWord = λ st. refl
 told Main LeftParen = λ st. refl

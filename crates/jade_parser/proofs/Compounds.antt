@@ -8,8 +8,8 @@ use Rattle.jade_syntax.specs.declared.tree.Expr.{Expr}
 use Rattle.jade_syntax.specs.declared.tree.Named.{Named}
 use Rattle.jade_syntax.specs.declared.tree.Statement.{Statement, fold_out-Statement}
 use Rattle.jade_syntax.specs.declared.tree.Statement.TheVariants.{If, For, Withonly, With, Assign, outs-If, outs-For, outs-Withonly, outs-With}
-use Rattle.jade_syntax.specs.declared.shapes.place.Place.{Place}
-use Rattle.jade_syntax.specs.declared.shapes.place.Place.TheVariants.{Main, Section, Amends}
+use Rattle.jade_syntax.specs.declared.shapes.place.BlockKind.{BlockKind}
+use Rattle.jade_syntax.specs.declared.shapes.place.BlockKind.TheVariants.{Main, Section, Amends}
 use Rattle.jade_syntax.specs.Shapes.{is_placed}
 use Rattle.jade_syntax.proofs.Placing.{placed_opens}
 use Rattle.jade_parser.specs.declared.Sign.{Sign}
@@ -36,22 +36,22 @@ use Rattle.jade_parser.proofs.Beginning.{told}
 
 -- ---- what a word begins
 
-opens : (all : List Seen) (at : ℕ) (c : Place) (s : Sign) (ys : Stack) → Some s ≡ head_sign (drop at (kinds all)) → ((st : Stack) → statement_sign c s st ≡ Some (ys ++ st)) → Whole all at (Body c ∷ []) (at + 1) ys (fixed s ∷ [])
+opens : (all : List Seen) (at : ℕ) (c : BlockKind) (s : Sign) (ys : Stack) → Some s ≡ head_sign (drop at (kinds all)) → ((st : Stack) → statement_sign c s st ≡ Some (ys ++ st)) → Whole all at (Body c ∷ []) (at + 1) ys (fixed s ∷ [])
 opens all at c s ys e k = takes_sign all at s (Body c ∷ []) ys e (λ rest st. ap (counted (λ q. goes rest q)) (k st))
 
-opens_marked : (all : List Seen) (at : ℕ) (c : Place) (s : Sign) (ys : Stack) → Some s ≡ head_sign (drop at (kinds all)) → ((st : Stack) → statement_sign c s st ≡ Some (ys ++ st)) → Whole all at (Body c ∷ []) (at + 1) ys (marked (Fixed s) (place_at all at) ∷ [])
+opens_marked : (all : List Seen) (at : ℕ) (c : BlockKind) (s : Sign) (ys : Stack) → Some s ≡ head_sign (drop at (kinds all)) → ((st : Stack) → statement_sign c s st ≡ Some (ys ++ st)) → Whole all at (Body c ∷ []) (at + 1) ys (marked (Fixed s) (place_at all at) ∷ [])
 opens_marked all at c s ys e k = takes_marked all at s (Body c ∷ []) ys e (λ rest st. ap (counted (λ q. goes rest q)) (k st))
 
-closes : (all : List Seen) (at : ℕ) (c : Place) (s : Sign) → s ≡ RightBrace → Some s ≡ head_sign (drop at (kinds all)) → Whole all at (Body c ∷ []) (at + 1) [] (fixed RightBrace ∷ [])
+closes : (all : List Seen) (at : ℕ) (c : BlockKind) (s : Sign) → s ≡ RightBrace → Some s ≡ head_sign (drop at (kinds all)) → Whole all at (Body c ∷ []) (at + 1) [] (fixed RightBrace ∷ [])
 closes all at Main s k e = takes_sign all at RightBrace _ _ (rw (← k) e) (λ rest st. refl)
 closes all at Section s k e = takes_sign all at RightBrace _ _ (rw (← k) e) (λ rest st. refl)
 closes all at Amends s k e = takes_sign all at RightBrace _ _ (rw (← k) e) (λ rest st. refl)
 
-stops_word : (all : List Seen) (at : ℕ) (c : Place) (s : Sign) → Some s ≡ head_sign (drop at (kinds all)) → ((st : Stack) → statement_sign c s st ≡ None) → Stops all at (Body c ∷ []) at
+stops_word : (all : List Seen) (at : ℕ) (c : BlockKind) (s : Sign) → Some s ≡ head_sign (drop at (kinds all)) → ((st : Stack) → statement_sign c s st ≡ None) → Stops all at (Body c ∷ []) at
 stops_word all at c s e k = record { by = λ st. rw (split_sign all at s e, k st) (omega arith) }
 
 -- the word decides
-pub begin_told : (all : List Seen) (at : ℕ) (c : Place) (s : Sign) → Some s ≡ head_sign (drop at (kinds all)) → BeginAt c all at (begin_of c s)
+pub begin_told : (all : List Seen) (at : ℕ) (c : BlockKind) (s : Sign) → Some s ≡ head_sign (drop at (kinds all)) → BeginAt c all at (begin_of c s)
 begin_told all at c s e = by_told (begin_of c s) (told c s)
   where
     by_told : (b : Begin) → Told c s b → BeginAt c all at b
@@ -65,7 +65,7 @@ begin_told all at c s e = by_told (begin_of c s) (told c s)
     by_told begin.Nothing t = stops_word all at c s e t
 
 -- no statement begins here
-pub nothing_begins : (all : List Seen) (at : ℕ) (c : Place) → at ≤ length all → Stops all at (Body c ∷ []) at → RefusalIn (Fits c) statement_parts all at (Body c ∷ []) at
+pub nothing_begins : (all : List Seen) (at : ℕ) (c : BlockKind) → at ≤ length all → Stops all at (Body c ∷ []) at → RefusalIn (Fits c) statement_parts all at (Body c ∷ []) at
 nothing_begins all at c le s =
     let tree = Assign some_name nowhere some_expr in
     let eq = assign_is some_name nowhere some_expr in
@@ -76,7 +76,7 @@ nothing_begins all at c le s =
 came_outer : {all : List Seen} {a b : ℕ} {x : Expr} → OuterIn all a b x → Came all a expr_in b [] (outer x)
 came_outer o = record { whole = o.whole; short = o.short }
 
-came_block : {all : List Seen} {a b : ℕ} {c : Place} {b' : List Statement} → ReadIn (FitsAll c) block_parts all a (block_in c) b [] b' → Came all a (block_in c) b [] (block_parts b')
+came_block : {all : List Seen} {a b : ℕ} {c : BlockKind} {b' : List Statement} → ReadIn (FitsAll c) block_parts all a (block_in c) b [] b' → Came all a (block_in c) b [] (block_parts b')
 came_block r = record { whole = r.whole; short = r.short }
 
 -- ---- blocks
@@ -87,32 +87,32 @@ block_open b = fixed LeftBrace ∷ [] ++ flat_map statement_parts b
 both_true : (a b : Bool) → a ≡ true → b ≡ true → (a && b) ≡ true
 both_true a b p q = rw (p, q) refl
 
-all_fit : (c : Place) (b : List Statement) (s : Statement) → FitsAll c b → Fits c s → FitsAll c (b ++ s ∷ [])
+all_fit : (c : BlockKind) (b : List Statement) (s : Statement) → FitsAll c b → Fits c s → FitsAll c (b ++ s ∷ [])
 all_fit c b s f g = record { is = list_all-append (is_placed c) b (s ∷ []) ∙ both_true (list_all (is_placed c) b) (is_placed c s && true) f.is (both_true (is_placed c s) true g.is refl) }
 
-none_fit : (c : Place) → FitsAll c []
+none_fit : (c : BlockKind) → FitsAll c []
 none_fit c = record { is = refl }
 
-pub block_unopened : (all : List Seen) (start : ℕ) (c : Place) (e : Stop) → start ≤ length all → OnOther e all start (Must LeftBrace ∷ [])
+pub block_unopened : (all : List Seen) (start : ℕ) (c : BlockKind) (e : Stop) → start ≤ length all → OnOther e all start (Must LeftBrace ∷ [])
     → OnStop e (RefusalIn (FitsAll c) block_parts all start (block_in c)) (LongIn (FitsAll c) block_parts all start)
 block_unopened all start c e le o = other (FitsAll c) block_parts all start start (block_in c) (Must LeftBrace ∷ []) (Body c ∷ []) [] (block_parts []) [] e refl (none_fit c) (record { is = refl }) (came_none all start _ le) o
 
-pub block_opened : (all : List Seen) (start at : ℕ) (c : Place) (b : List Statement) → b ≡ [] → Whole all start (Must LeftBrace ∷ []) at [] (fixed LeftBrace ∷ [])
+pub block_opened : (all : List Seen) (start at : ℕ) (c : BlockKind) (b : List Statement) → b ≡ [] → Whole all start (Must LeftBrace ∷ []) at [] (fixed LeftBrace ∷ [])
     → Came all start (block_in c) at (Body c ∷ []) (block_open b) × FitsAll c b
 block_opened all start at c b e w = rw e (came_under (Body c ∷ []) (came_fixed w), none_fit c)
 
-pub block_refused : (all : List Seen) (start at : ℕ) (c : Place) (b : List Statement) (e : Stop) → Came all start (block_in c) at (Body c ∷ []) (block_open b) × FitsAll c b → Halts c all at e
+pub block_refused : (all : List Seen) (start at : ℕ) (c : BlockKind) (b : List Statement) (e : Stop) → Came all start (block_in c) at (Body c ∷ []) (block_open b) × FitsAll c b → Halts c all at e
     → OnStop e (RefusalIn (FitsAll c) block_parts all start (block_in c)) (LongIn (FitsAll c) block_parts all start)
 block_refused all start at c b e i o = after (FitsAll c) (Fits c) block_parts statement_parts all start at (block_in c) (Body c ∷ []) [] (block_open b) (λ y. b ++ y ∷ []) (fixed RightBrace ∷ []) e
     (λ y. rw (flat_map-append statement_parts b (y ∷ [])) (simp (append_assoc, append-nil))) (λ y g. all_fit c b y i.1 g) (record { is = refl }) i.0 o
 
-pub block_kept : (all : List Seen) (start at end : ℕ) (c : Place) (b new : List Statement) (s : Statement) → new ≡ b ++ s ∷ [] → Came all start (block_in c) at (Body c ∷ []) (block_open b) × FitsAll c b
+pub block_kept : (all : List Seen) (start at end : ℕ) (c : BlockKind) (b new : List Statement) (s : Statement) → new ≡ b ++ s ∷ [] → Came all start (block_in c) at (Body c ∷ []) (block_open b) × FitsAll c b
     → ReadIn (Fits c) statement_parts all at (Body c ∷ []) end (Body c ∷ []) s → Came all start (block_in c) end (Body c ∷ []) (block_open new) × FitsAll c new
 block_kept all start at end c b new s e i r =
     let q : Came all at (Body c ∷ []) end (Body c ∷ []) (statement_parts s) = record { whole = r.whole; short = r.short } in
     rw e (rw (flat_map-append statement_parts b (s ∷ []), append-nil) (came_on i.0 q), all_fit c b s i.1 r.fits)
 
-pub block_read : (all : List Seen) (start at : ℕ) (c : Place) (b : List Statement) → Came all start (block_in c) at (Body c ∷ []) (block_open b) × FitsAll c b
+pub block_read : (all : List Seen) (start at : ℕ) (c : BlockKind) (b : List Statement) → Came all start (block_in c) at (Body c ∷ []) (block_open b) × FitsAll c b
     → Whole all at (Body c ∷ []) (at + 1) [] (fixed RightBrace ∷ []) → ReadIn (FitsAll c) block_parts all start (block_in c) (at + 1) [] b
 block_read all start at c b i w =
     let q = came_on i.0 (came_fixed w) in
@@ -126,13 +126,13 @@ if_none t b = fold_out-Statement Parts at_statement (If t b None) ∙ rw (outs-I
 if_some : (t : Expr) (b o : List Statement) → statement_parts (If t b (Some o)) ≡ (fixed IfWord ∷ [] ++ outer t ++ block_parts b) ++ (fixed ElseWord ∷ block_parts o)
 if_some t b o = fold_out-Statement Parts at_statement (If t b (Some o)) ∙ rw (outs-If t b (Some o)) (simp flat_map-map)
 
-none_fits : (c : Place) (t : Expr) (b : List Statement) → FitsAll c b → Fits c (If t b None)
+none_fits : (c : BlockKind) (t : Expr) (b : List Statement) → FitsAll c b → Fits c (If t b None)
 none_fits c t b f = record { is = placed_opens c (If t b None) ∙ rw (outs-If t b None) (both_true (list_all (is_placed c) b) true f.is refl) }
 
-some_fits : (c : Place) (t : Expr) (b o : List Statement) → FitsAll c b → FitsAll c o → Fits c (If t b (Some o))
+some_fits : (c : BlockKind) (t : Expr) (b o : List Statement) → FitsAll c b → FitsAll c o → Fits c (If t b (Some o))
 some_fits c t b o f g = record { is = placed_opens c (If t b (Some o)) ∙ rw (outs-If t b (Some o)) (both_true (list_all (is_placed c) b) (list_all (is_placed c) o) f.is g.is) }
 
-module _ (all : List Seen) (start : ℕ) (c : Place) (w : Whole all start (Body c ∷ []) (start + 1) (if_in c) (fixed IfWord ∷ [])) where
+module _ (all : List Seen) (start : ℕ) (c : BlockKind) (w : Whole all start (Body c ∷ []) (start + 1) (if_in c) (fixed IfWord ∷ [])) where
   pub test_refused : (e : Stop) → OnStop e (RefusalIn Any outer all (start + 1) expr_in) (LongIn Any outer all (start + 1)) → Halts c all start e
   test_refused e o = after (Fits c) Any statement_parts outer all start (start + 1) (Body c ∷ []) expr_in (Must LeftBrace ∷ Body c ∷ Else c ∷ Body c ∷ []) (fixed IfWord ∷ []) (λ y. If y [] None) (block_parts []) e
       (λ y. if_none y [] ∙ simp append-nil) (λ y k. none_fits c y [] (none_fit c)) (record { is = refl }) (came_fixed w) o
@@ -195,7 +195,7 @@ for_word n p = fixed ForWord ∷ marked (Called n) p ∷ fixed InWord ∷ []
 for_is : (n : List ℕ) (p : Pos) (l h : Expr) (b : List Statement) → statement_parts (For n p l h b) ≡ for_word n p ++ outer l ++ fixed DotDot ∷ [] ++ outer h ++ block_parts b
 for_is n p l h b = fold_out-Statement Parts at_statement (For n p l h b) ∙ rw (outs-For n p l h b) (simp flat_map-map)
 
-for_fits : (c : Place) (n : List ℕ) (p : Pos) (l h : Expr) (b : List Statement) → FitsAll c b → Fits c (For n p l h b)
+for_fits : (c : BlockKind) (n : List ℕ) (p : Pos) (l h : Expr) (b : List Statement) → FitsAll c b → Fits c (For n p l h b)
 for_fits c n p l h b f = record { is = placed_opens c (For n p l h b) ∙ rw (outs-For n p l h b) f.is }
 
 -- what may follow `for`, and then the name
@@ -226,10 +226,10 @@ body_so w x d y z = simp (append_assoc, append-nil)
 all_so : (w x d y z : Parts) → w ++ x ++ d ++ y ++ z ≡ ((w ++ (x ++ d)) ++ y) ++ z
 all_so w x d y z = simp append_assoc
 
-abbrev range_in : Place → Stack
+abbrev range_in : BlockKind → Stack
 range_in c = expr_in ++ Must DotDot ∷ expr_in ++ Must LeftBrace ∷ Body c ∷ Body c ∷ []
 
-module _ (all : List Seen) (start : ℕ) (c : Place) (w : Whole all start (Body c ∷ []) (start + 1) (for_in c) (fixed ForWord ∷ [])) where
+module _ (all : List Seen) (start : ℕ) (c : BlockKind) (w : Whole all start (Body c ∷ []) (start + 1) (for_in c) (fixed ForWord ∷ [])) where
   pub for_unnamed : (e : Stop) → OnOther e all (start + 1) (NameIs ∷ []) → Halts c all start e
   for_unnamed e o = other (Fits c) statement_parts all start (start + 1) (Body c ∷ []) (NameIs ∷ []) (Must InWord ∷ range_in c) (fixed ForWord ∷ []) ((marked (Called some_name) nowhere ∷ fixed InWord ∷ []) ++ some_range) (For some_name nowhere some_expr some_expr []) e
       (some_for some_name nowhere) (for_fits c some_name nowhere some_expr some_expr [] (none_fit c)) (all_valid (marked (Called some_name) nowhere ∷ fixed InWord ∷ []) some_range (record { is = refl }) range_valid) (came_fixed w) o
@@ -406,8 +406,8 @@ module _ (all : List Seen) (start : ℕ) (w : Whole all start (Body Main ∷ [])
           rw e (read_in (Fits Main) statement_parts all start (start + 1) end (Body Main ∷ []) (Body Main ∷ []) _ (With (place_at all start) s) (with_is (place_at all start) s) (with_fits (place_at all start) s sr.fits) (omega arith) (omega arith) (came_on with_done (came_under (Body Main ∷ []) (came_fixed z))))
 
 -- in a place that is the body
-pub in_main : (all : List Seen) (start : ℕ) (c : Place) (e : Stop) → c ≡ Main → Halts Main all start e → Halts c all start e
+pub in_main : (all : List Seen) (start : ℕ) (c : BlockKind) (e : Stop) → c ≡ Main → Halts Main all start e → Halts c all start e
 in_main all start c e k h = rw k h
 
-pub read_main : (all : List Seen) (start end : ℕ) (c : Place) (s : Statement) → c ≡ Main → ReadIn (Fits Main) statement_parts all start (Body Main ∷ []) end (Body Main ∷ []) s → ReadIn (Fits c) statement_parts all start (Body c ∷ []) end (Body c ∷ []) s
+pub read_main : (all : List Seen) (start end : ℕ) (c : BlockKind) (s : Statement) → c ≡ Main → ReadIn (Fits Main) statement_parts all start (Body Main ∷ []) end (Body Main ∷ []) s → ReadIn (Fits c) statement_parts all start (Body c ∷ []) end (Body c ∷ []) s
 read_main all start end c s k r = rw k r

@@ -14,8 +14,8 @@ use Rattle.jade_syntax.specs.declared.tree.Statement.{Statement, map-Statement, 
 use Rattle.jade_syntax.specs.declared.tree.Statement.TheOpen.{Statement-F}
 use Rattle.jade_parser.specs.Spelled.{Tokens, Part, Parts, tokens_of, fixed, marked, numbered, outer, Fixed, Called, expr_parts, bracketed}
 use Rattle.jade_parser.specs.Machine.{Must, Body, Else, Second, NameIs, Names, MoreNames, Stack, goes, expr_in, is_sign}
-use Rattle.jade_syntax.specs.declared.shapes.place.Place.{Place}
-use Rattle.jade_syntax.specs.declared.shapes.place.Place.TheVariants.{Main, Section, Amends}
+use Rattle.jade_syntax.specs.declared.shapes.place.BlockKind.{BlockKind}
+use Rattle.jade_syntax.specs.declared.shapes.place.BlockKind.TheVariants.{Main, Section, Amends}
 use Rattle.jade_syntax.specs.Shapes.{all_placed, other_placed, at_place, is_main, declares, is_placed}
 use Rattle.jade_parser.specs.declared.Sign.TheVariants.{LeftBrace, ElseWord, Semicolon, Becomes, DotDot, RightBracket, LeftParen, RightParen, DoWord, ContWord}
 use Rattle.jade_parser.specs.Statements.{braced, else_parts, at_statement, statement_parts, outer_index, name_parts, more_names, declare_word}
@@ -44,14 +44,14 @@ value_goes x st rest runs =
     let d = ap (λ l. goes l (expr_in ++ Must Semicolon ∷ st)) (split_tokens x (fixed Semicolon ∷ []) rest) in
     omega (arith, r, d, length-append x (fixed Semicolon ∷ []))
 
-local_goes : (c : Place) (k : ValueKind) (n : List ℕ) (p : Pos) (x : Expr) → Goes c (at_statement (Statement-F.Local k n p x))
+local_goes : (c : BlockKind) (k : ValueKind) (n : List ℕ) (p : Pos) (x : Expr) → Goes c (at_statement (Statement-F.Local k n p x))
 local_goes c Int n p x = record { by = λ st rest e. let v = value_goes (outer x) (Body c ∷ st) rest (outer_runs x) in omega (arith, v); begins = λ rest e. refl }
 local_goes c BoolKind n p x = record { by = λ st rest e. let v = value_goes (outer x) (Body c ∷ st) rest (outer_runs x) in omega (arith, v); begins = λ rest e. refl }
 
-assign_goes : (c : Place) (n : List ℕ) (p : Pos) (x : Expr) → Goes c (at_statement (Statement-F.Assign n p x))
+assign_goes : (c : BlockKind) (n : List ℕ) (p : Pos) (x : Expr) → Goes c (at_statement (Statement-F.Assign n p x))
 assign_goes c n p x = record { by = λ st rest e. let v = value_goes (outer x) (Body c ∷ st) rest (outer_runs x) in omega (arith, v); begins = λ rest e. refl }
 
-pass_else : (c : Place) (st : Stack) (rest : Tokens) → NotElse rest → goes rest (Else c ∷ st) ≡ goes rest st
+pass_else : (c : BlockKind) (st : Stack) (rest : Tokens) → NotElse rest → goes rest (Else c ∷ st) ≡ goes rest st
 pass_else c st [] e = refl
 pass_else c st (t ∷ ts) e = rw e refl
 
@@ -81,16 +81,16 @@ abbrev omap : {A B : Type 0} → (A → B) → Option (List A) → Option (List 
 omap f None = None
 omap f (Some xs) = Some (map f xs)
 
-module _ {S : Type 0} (tok : S → Parts) (shape : S → Place → Bool) (ok : (s : S) (c : Place) → shape s c ≡ true → Goes c (tok s)) where
+module _ {S : Type 0} (tok : S → Parts) (shape : S → BlockKind → Bool) (ok : (s : S) (c : BlockKind) → shape s c ≡ true → Goes c (tok s)) where
   -- an expression and a block
-  headed : (c : Place) (x : Parts) (xs : List S) (st : Stack) (rest : Tokens) → Runs expr_in 5 x → all_placed c (map shape xs) ≡ true
+  headed : (c : BlockKind) (x : Parts) (xs : List S) (st : Stack) (rest : Tokens) → Runs expr_in 5 x → all_placed c (map shape xs) ≡ true
       → goes (tokens_of x ++ (tokens_of (braced (map tok xs)) ++ rest)) (expr_in ++ Must LeftBrace ∷ Body c ∷ st) ≡ length x + (length (braced (map tok xs)) + goes rest st)
   headed c x xs st rest runs e =
       let r = runs.by (Must LeftBrace ∷ Body c ∷ st) (tokens_of (braced (map tok xs)) ++ rest) (omega arith) in
       let b = block_goes tok shape ok c xs st rest e in
       omega (arith, r, b)
 
-  if_runs : (c : Place) (x : Parts) (xs : List S) (o : Option (List S)) (st : Stack) (rest : Tokens) → Runs expr_in 5 x → NotElse rest → (all_placed c (map shape xs) && other_placed c (omap shape o)) ≡ true
+  if_runs : (c : BlockKind) (x : Parts) (xs : List S) (o : Option (List S)) (st : Stack) (rest : Tokens) → Runs expr_in 5 x → NotElse rest → (all_placed c (map shape xs) && other_placed c (omap shape o)) ≡ true
       → goes (tokens_of ((x ++ braced (map tok xs)) ++ else_parts (omap tok o)) ++ rest) (expr_in ++ Must LeftBrace ∷ Body c ∷ Else c ∷ Body c ∷ st) ≡ length ((x ++ braced (map tok xs)) ++ else_parts (omap tok o)) + goes rest (Body c ∷ st)
   if_runs c x xs None st rest runs n e =
       let p = both (all_placed c (map shape xs)) true e in
@@ -105,13 +105,13 @@ module _ {S : Type 0} (tok : S → Parts) (shape : S → Place → Bool) (ok : (
       let d = ap (λ l. goes l (expr_in ++ Must LeftBrace ∷ Body c ∷ Else c ∷ Body c ∷ st)) (regroup x (braced (map tok xs)) (fixed ElseWord) (braced (map tok ys)) rest) in
       omega (arith, h, q, d, length-append x (braced (map tok xs)), length-append (x ++ braced (map tok xs)) (fixed ElseWord ∷ braced (map tok ys)))
 
-  if_goes : (c : Place) (x : Expr) (xs : List S) (o : Option (List S)) → at_place (Statement-F.If x (map shape xs) (omap shape o)) c ≡ true → Goes c (at_statement (Statement-F.If x (map tok xs) (omap tok o)))
+  if_goes : (c : BlockKind) (x : Expr) (xs : List S) (o : Option (List S)) → at_place (Statement-F.If x (map shape xs) (omap shape o)) c ≡ true → Goes c (at_statement (Statement-F.If x (map tok xs) (omap tok o)))
   if_goes c x xs o e = record {
     by = λ st rest n. let r = if_runs c (outer x) xs o st rest (outer_runs x) n e in omega (arith, r);
     begins = λ rest n. refl;
   }
 
-  for_runs : (c : Place) (l h : Parts) (xs : List S) (st : Stack) (rest : Tokens) → Runs expr_in 5 l → Runs expr_in 5 h → all_placed c (map shape xs) ≡ true
+  for_runs : (c : BlockKind) (l h : Parts) (xs : List S) (st : Stack) (rest : Tokens) → Runs expr_in 5 l → Runs expr_in 5 h → all_placed c (map shape xs) ≡ true
       → goes (tokens_of (((l ++ fixed DotDot ∷ []) ++ h) ++ braced (map tok xs)) ++ rest) (expr_in ++ Must DotDot ∷ expr_in ++ Must LeftBrace ∷ Body c ∷ Body c ∷ st) ≡ length (((l ++ fixed DotDot ∷ []) ++ h) ++ braced (map tok xs)) + goes rest (Body c ∷ st)
   for_runs c l h xs st rest low high e =
       let a = low.by (Must DotDot ∷ expr_in ++ Must LeftBrace ∷ Body c ∷ Body c ∷ st) (Fixed DotDot ∷ (tokens_of h ++ (tokens_of (braced (map tok xs)) ++ rest))) (omega arith) in
@@ -119,7 +119,7 @@ module _ {S : Type 0} (tok : S → Parts) (shape : S → Place → Bool) (ok : (
       let d = ap (λ l. goes l (expr_in ++ Must DotDot ∷ expr_in ++ Must LeftBrace ∷ Body c ∷ Body c ∷ st)) (with_bounds l (fixed DotDot) h (braced (map tok xs)) rest) in
       omega (arith, a, b, d, length-append l (fixed DotDot ∷ []), length-append (l ++ fixed DotDot ∷ []) h, length-append ((l ++ fixed DotDot ∷ []) ++ h) (braced (map tok xs)))
 
-  for_goes : (c : Place) (n : List ℕ) (p : Pos) (l h : Expr) (xs : List S) → all_placed c (map shape xs) ≡ true → Goes c (at_statement (Statement-F.For n p l h (map tok xs)))
+  for_goes : (c : BlockKind) (n : List ℕ) (p : Pos) (l h : Expr) (xs : List S) → all_placed c (map shape xs) ≡ true → Goes c (at_statement (Statement-F.For n p l h (map tok xs)))
   for_goes c n p l h xs e = record {
     by = λ st rest f. let r = for_runs c (outer l) (outer h) xs st rest (outer_runs l) (outer_runs h) e in omega (arith, r);
     begins = λ rest f. refl;
@@ -133,7 +133,7 @@ module _ {S : Type 0} (tok : S → Parts) (shape : S → Place → Bool) (ok : (
   names_go [] st rest = omega arith
   names_go (n ∷ ns) st rest = let r = names_go_on ns st rest in omega (arith, r)
 
-  withonly_goes : (c : Place) (p : Pos) (ss : List S) (ns : List Named) (xs : List S) → (is_main c && (all_placed Section (map shape ss) && all_placed Main (map shape xs))) ≡ true → Goes c (at_statement (Statement-F.Withonly p (map tok ss) ns (map tok xs)))
+  withonly_goes : (c : BlockKind) (p : Pos) (ss : List S) (ns : List Named) (xs : List S) → (is_main c && (all_placed Section (map shape ss) && all_placed Main (map shape xs))) ≡ true → Goes c (at_statement (Statement-F.Withonly p (map tok ss) ns (map tok xs)))
   withonly_goes Section p ss ns xs e = absurd (cc)
   withonly_goes Amends p ss ns xs e = absurd (cc)
   withonly_goes Main p ss ns xs e = record {
@@ -148,7 +148,7 @@ module _ {S : Type 0} (tok : S → Parts) (shape : S → Place → Bool) (ok : (
     begins = λ rest f. refl;
   }
 
-  with_goes : (c : Place) (p : Pos) (ss : List S) → (is_main c && all_placed Amends (map shape ss)) ≡ true → Goes c (at_statement (Statement-F.With p (map tok ss)))
+  with_goes : (c : BlockKind) (p : Pos) (ss : List S) → (is_main c && all_placed Amends (map shape ss)) ≡ true → Goes c (at_statement (Statement-F.With p (map tok ss)))
   with_goes Section p ss e = absurd (cc)
   with_goes Amends p ss e = absurd (cc)
   with_goes Main p ss e = record {
@@ -213,7 +213,7 @@ store_goes t x = record {
     of n p None c st rest = let r = one_stored (outer c) (outer x) (Body Main ∷ st) rest (outer_runs c) (outer_runs x) in omega (arith, r)
     of n p (Some o) c st rest = let r = two_stored (outer o) (outer c) (outer x) (Body Main ∷ st) rest (outer_runs o) (outer_runs c) (outer_runs x) in omega (arith, r)
 
-declared : (c : Place) (w : DeclareWord) (ts : Tokens) (st : Stack) → declares c w ≡ true → goes (declare_word w ∷ ts) (Body c ∷ st) ≡ 1 + goes ts (Must LeftParen ∷ NameIs ∷ Second ∷ Must RightParen ∷ Must Semicolon ∷ Body c ∷ st)
+declared : (c : BlockKind) (w : DeclareWord) (ts : Tokens) (st : Stack) → declares c w ≡ true → goes (declare_word w ∷ ts) (Body c ∷ st) ≡ 1 + goes ts (Must LeftParen ∷ NameIs ∷ Second ∷ Must RightParen ∷ Must Semicolon ∷ Body c ∷ st)
 declared Main Rd ts st e = absurd (cc)
 declared Main Wr ts st e = absurd (cc)
 declared Main RdWr ts st e = absurd (cc)
@@ -261,7 +261,7 @@ named_runs (Some x) n st rest =
     let d = ap (λ l. goes l (Second ∷ Must RightParen ∷ Must Semicolon ∷ st)) (with_cont (bracketed (outer x)) (fixed RightParen) (fixed Semicolon) rest) in
     omega (arith, s, d, length-append (bracketed (outer x)) (fixed RightParen ∷ []), length-append (bracketed (outer x) ++ fixed RightParen ∷ []) (fixed Semicolon ∷ []))
 
-declare_goes : (c : Place) (w : DeclareWord) (p : Pos) (o : ObjectRef) → declares c w ≡ true → Goes c (at_statement (Statement-F.Declare w p o))
+declare_goes : (c : BlockKind) (w : DeclareWord) (p : Pos) (o : ObjectRef) → declares c w ≡ true → Goes c (at_statement (Statement-F.Declare w p o))
 declare_goes c w p o e = record {
   by = λ st rest f.
       let a = declared c w (Fixed LeftParen ∷ (Called o.name ∷ (tokens_of ((outer_index o.member ++ fixed RightParen ∷ []) ++ fixed Semicolon ∷ []) ++ rest))) st e in
@@ -271,12 +271,12 @@ declare_goes c w p o e = record {
 }
 
 -- where a statement may stand
-abbrev pub stands : Statement → Place → Bool
-stands = fold-Statement (Place → Bool) at_place
+abbrev pub stands : Statement → BlockKind → Bool
+stands = fold-Statement (BlockKind → Bool) at_place
 
 -- each statement, where it may stand
-module _ {S : Type 0} (val : S → Statement) (ok : (s : S) (c : Place) → is_placed c (val s) ≡ true → Goes c (statement_parts (val s))) where
-  layer : (y : Statement-F S) (c : Place) → at_place (map-Statement Statement (Place → Bool) stands (map-Statement S Statement val y)) c ≡ true → Goes c (at_statement (map-Statement Statement Parts statement_parts (map-Statement S Statement val y)))
+module _ {S : Type 0} (val : S → Statement) (ok : (s : S) (c : BlockKind) → is_placed c (val s) ≡ true → Goes c (statement_parts (val s))) where
+  layer : (y : Statement-F S) (c : BlockKind) → at_place (map-Statement Statement (BlockKind → Bool) stands (map-Statement S Statement val y)) c ≡ true → Goes c (at_statement (map-Statement Statement Parts statement_parts (map-Statement S Statement val y)))
   layer (Statement-F.Local k n p x) c e = local_goes c k n p x
   layer (Statement-F.Assign n p x) c e = assign_goes c n p x
   layer (Statement-F.Store t x) Main e = store_goes t x
@@ -289,6 +289,6 @@ module _ {S : Type 0} (val : S → Statement) (ok : (s : S) (c : Place) → is_p
   layer (Statement-F.With p ss) c e = simp map-map (with_goes (λ (z : S). statement_parts (val z)) (λ (z : S). stands (val z)) ok c p ss (simp map-map at e))
   layer (Statement-F.Declare w p o) c e = declare_goes c w p o e
 
-pub statement_goes : (s : Statement) (c : Place) → is_placed c s ≡ true → Goes c (statement_parts s)
-statement_goes s = ind-Statement (λ s. (c : Place) → is_placed c s ≡ true → Goes c (statement_parts s))
-    (λ x y k. rw (← k) (rw (fold-roll-Statement Parts at_statement, fold-roll-Statement (Place → Bool) at_place) (layer (λ z. z.0) (λ z. z.1) y))) s
+pub statement_goes : (s : Statement) (c : BlockKind) → is_placed c s ≡ true → Goes c (statement_parts s)
+statement_goes s = ind-Statement (λ s. (c : BlockKind) → is_placed c s ≡ true → Goes c (statement_parts s))
+    (λ x y k. rw (← k) (rw (fold-roll-Statement Parts at_statement, fold-roll-Statement (BlockKind → Bool) at_place) (layer (λ z. z.0) (λ z. z.1) y))) s

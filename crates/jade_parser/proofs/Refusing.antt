@@ -7,7 +7,7 @@ use Rattle.jade_syntax.specs.declared.tree.Program.{Program}
 use Rattle.jade_parser.specs.declared.Seen.{Seen}
 use Rattle.jade_parser.specs.declared.Stop.{Stop}
 use Rattle.jade_parser.specs.declared.Stop.TheVariants.{Token as AtToken, Long, Memory}
-use Rattle.jade_syntax.specs.declared.shapes.place.Place.TheVariants.{Main}
+use Rattle.jade_syntax.specs.declared.shapes.place.BlockKind.TheVariants.{Main}
 use Rattle.jade_parser.specs.Spelled.{Token, Tokens, tokens_of, AllShort}
 use Rattle.jade_parser.specs.Machine.{Stack, feed, goes, counted, Items}
 use Rattle.jade_parser.specs.Statements.{block_parts}

@@ -7,8 +7,8 @@ use Rattle.jade_syntax.specs.declared.tree.Item.{Item}
 use Rattle.jade_syntax.specs.declared.tree.Item.TheVariants.{Input, Single, Family}
 use Rattle.jade_syntax.specs.declared.tree.Program.{Program}
 use Rattle.jade_syntax.specs.declared.tree.Statement.{Statement}
-use Rattle.jade_syntax.specs.declared.shapes.place.Place.{Place}
-use Rattle.jade_syntax.specs.declared.shapes.place.Place.TheVariants.{Main}
+use Rattle.jade_syntax.specs.declared.shapes.place.BlockKind.{BlockKind}
+use Rattle.jade_syntax.specs.declared.shapes.place.BlockKind.TheVariants.{Main}
 use Rattle.jade_parser.specs.declared.Sign.TheVariants.{LeftBrace, RightBrace, MainWord}
 use Rattle.jade_parser.specs.Spelled.{Tokens, Fixed, Part, Parts, tokens_of, fixed}
 use Rattle.jade_parser.specs.Machine.{Stack, Must, Body, Items, goes}
@@ -18,11 +18,11 @@ use Rattle.jade_parser.specs.Parts.{FitsAll}
 use Rattle.jade_parser.proofs.Blocks.{block_goes, split_tokens}
 use Rattle.jade_parser.proofs.Laid.{stands, statement_goes}
 
-block_runs : (c : Place) (b : List Statement) (st : Stack) (rest : Tokens) → FitsAll c b → goes (tokens_of (block_parts b) ++ rest) (Must LeftBrace ∷ Body c ∷ st) ≡ length (block_parts b) + goes rest st
+block_runs : (c : BlockKind) (b : List Statement) (st : Stack) (rest : Tokens) → FitsAll c b → goes (tokens_of (block_parts b) ++ rest) (Must LeftBrace ∷ Body c ∷ st) ≡ length (block_parts b) + goes rest st
 block_runs c b st rest f =
     let m : flat_map (λ (t : Parts). t) (map statement_parts b) ≡ flat_map statement_parts b = simp flat_map-map in
     let e : braced (map statement_parts b) ≡ block_parts b = ap (λ l. fixed LeftBrace ∷ [] ++ l ++ fixed RightBrace ∷ []) m in
-    let a = block_goes statement_parts stands statement_goes c b st rest (list_all-map (λ (f : Place → Bool). f c) stands b ∙ f.is) in
+    let a = block_goes statement_parts stands statement_goes c b st rest (list_all-map (λ (f : BlockKind → Bool). f c) stands b ∙ f.is) in
     let d = ap (λ l. goes (tokens_of l ++ rest) (Must LeftBrace ∷ Body c ∷ st)) e in
     let n = ap length e in
     sym d ∙ a ∙ ap (λ k. k + goes rest st) n

@@ -3,8 +3,8 @@ use Rattle.std.specs.Prelude.{◌≡◌, true, cond, ◌∷◌, ◌++◌, Option
 use Rattle.jade_syntax.specs.declared.tree.ValueKind.TheVariants.{Int, Bool}
 use Rattle.jade_syntax.specs.declared.tree.DeclareWord.{DeclareWord}
 use Rattle.jade_syntax.specs.Shapes.{declares}
-use Rattle.jade_syntax.specs.declared.shapes.place.Place.{Place}
-use Rattle.jade_syntax.specs.declared.shapes.place.Place.TheVariants.{Main, Section, Amends}
+use Rattle.jade_syntax.specs.declared.shapes.place.BlockKind.{BlockKind}
+use Rattle.jade_syntax.specs.declared.shapes.place.BlockKind.TheVariants.{Main, Section, Amends}
 use Rattle.jade_parser.specs.declared.Sign.{Sign}
 use Rattle.jade_parser.specs.declared.Sign.TheVariants.{RightBrace, LeftBrace, LeftParen, RightParen, Becomes, Semicolon, InWord, DotDot, DoWord, ContWord, IntWord, BoolWord, IfWord, ForWord, WithonlyWord, WithWord}
 use Rattle.jade_parser.specs.declared.begins.Begin.{Begin}
@@ -15,18 +15,18 @@ use Rattle.jade_parser.specs.Machine.{Stack, Must, NameIs, Names, Second, Body, 
 use Rattle.jade_parser.specs.Statements.{kind_word, declare_word}
 
 -- a declaration, where one with this word may stand
-abbrev pub declaration_of : Place → Option DeclareWord → Begin
+abbrev pub declaration_of : BlockKind → Option DeclareWord → Begin
 declaration_of c None = Nothing
 declaration_of c (Some w) = cond (declares c w) (Declare w) Nothing
 
 -- what begins only statements of a body
-abbrev pub main_only : Place → Begin → Begin
+abbrev pub main_only : BlockKind → Begin → Begin
 main_only Main b = b
 main_only Section b = Nothing
 main_only Amends b = Nothing
 
 -- what a word begins there
-abbrev pub begin_of : Place → Sign → Begin
+abbrev pub begin_of : BlockKind → Sign → Begin
 begin_of c RightBrace = Closing
 begin_of c IntWord = Local Int
 begin_of c BoolWord = Local Bool
@@ -37,7 +37,7 @@ begin_of c WithWord = main_only c With
 begin_of c s = declaration_of c (declare_of s)
 
 -- what the word asks for, where it begins this
-abbrev pub Told : Place → Sign → Begin → Type 0
+abbrev pub Told : BlockKind → Sign → Begin → Type 0
 Told c s (Local k) = (kind_word k ≡ Fixed s) × ((st : Stack) → statement_sign c s st ≡ Some (NameIs ∷ Must Becomes ∷ expr_in ++ Must Semicolon ∷ Body c ∷ st))
 Told c s If = (s ≡ IfWord) × ((st : Stack) → statement_sign c s st ≡ Some (expr_in ++ Must LeftBrace ∷ Body c ∷ Else c ∷ Body c ∷ st))
 Told c s For = (s ≡ ForWord) × ((st : Stack) → statement_sign c s st ≡ Some (NameIs ∷ Must InWord ∷ expr_in ++ Must DotDot ∷ expr_in ++ Must LeftBrace ∷ Body c ∷ Body c ∷ st))

@@ -1,8 +1,8 @@
 -- What a parser of a statement of a block promises.
 use Rattle.std.specs.Prelude.{◌≡◌, ℕ, true, ◌+◌, List, [], ◌∷◌, ◌++◌, Option, Result, MatchOption, MatchResult}
 use Rattle.jade_syntax.specs.declared.tree.Statement.{Statement}
-use Rattle.jade_syntax.specs.declared.shapes.place.Place.{Place}
-use Rattle.jade_syntax.specs.declared.shapes.place.Place.TheVariants.{Main, Section, Amends}
+use Rattle.jade_syntax.specs.declared.shapes.place.BlockKind.{BlockKind}
+use Rattle.jade_syntax.specs.declared.shapes.place.BlockKind.TheVariants.{Main, Section, Amends}
 use Rattle.jade_syntax.specs.Shapes.{declares}
 use Rattle.jade_parser.specs.declared.Seen.{Seen}
 use Rattle.jade_parser.specs.declared.Stop.{Stop}
@@ -16,15 +16,15 @@ use Rattle.jade_parser.specs.Reads.{Whole, Stops, OnStop, place_at}
 use Rattle.jade_parser.specs.Parts.{Fits, ReadIn, RefusalIn, LongIn}
 
 -- what is asked for where a block begins
-abbrev pub block_in : Place → Stack
+abbrev pub block_in : BlockKind → Stack
 block_in c = Must LeftBrace ∷ Body c ∷ []
 
 -- what is asked for after the word of each form, up to its end
-abbrev pub if_in : Place → Stack
+abbrev pub if_in : BlockKind → Stack
 if_in c = expr_in ++ Must LeftBrace ∷ Body c ∷ Else c ∷ Body c ∷ []
 
 -- the same after `for`
-abbrev pub for_in : Place → Stack
+abbrev pub for_in : BlockKind → Stack
 for_in c = NameIs ∷ Must InWord ∷ expr_in ++ Must DotDot ∷ expr_in ++ Must LeftBrace ∷ Body c ∷ Body c ∷ []
 
 -- the same after `withonly`
@@ -36,7 +36,7 @@ abbrev pub with_in : Stack
 with_in = Must LeftBrace ∷ Body Amends ∷ Must ContWord ∷ Must Semicolon ∷ Body Main ∷ []
 
 -- what is asked for once the word was read
-abbrev pub BeginAt : Place → List Seen → ℕ → Begin → Type 0
+abbrev pub BeginAt : BlockKind → List Seen → ℕ → Begin → Type 0
 BeginAt c all at (Local k) = Whole all at (Body c ∷ []) (at + 1) (NameIs ∷ Must Becomes ∷ expr_in ++ Must Semicolon ∷ Body c ∷ []) (plain (kind_word k) ∷ [])
 BeginAt c all at If = Whole all at (Body c ∷ []) (at + 1) (if_in c) (fixed IfWord ∷ [])
 BeginAt c all at For = Whole all at (Body c ∷ []) (at + 1) (for_in c) (fixed ForWord ∷ [])
@@ -48,11 +48,11 @@ BeginAt c all at Closing = Whole all at (Body c ∷ []) (at + 1) [] (fixed Right
 BeginAt c all at Nothing = Stops all at (Body c ∷ []) at
 
 -- a statement is refused, or has an expression that is too long
-abbrev pub Halts : Place → List Seen → ℕ → Stop → Type 0
+abbrev pub Halts : BlockKind → List Seen → ℕ → Stop → Type 0
 Halts c all at e = OnStop e (RefusalIn (Fits c) statement_parts all at (Body c ∷ [])) (LongIn (Fits c) statement_parts all at)
 
 -- the brace that ends the block, a statement, or what is refused
-abbrev pub StatementAt : Place → List Seen → ℕ → Result (Option (Statement × ℕ)) Stop → Type 0
+abbrev pub StatementAt : BlockKind → List Seen → ℕ → Result (Option (Statement × ℕ)) Stop → Type 0
 StatementAt c all at r = MatchResult r
     (λ o. MatchOption o (Whole all at (Body c ∷ []) (at + 1) [] (fixed RightBrace ∷ [])) (λ p. ReadIn (Fits c) statement_parts all at (Body c ∷ []) p.1 (Body c ∷ []) p.0))
     (Halts c all at)

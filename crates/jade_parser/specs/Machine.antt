@@ -1,7 +1,7 @@
 -- What may still come.
 use Rattle.std.specs.Prelude.{ℕ, ◌+◌, ◌==◌, Bool, true, false, ◌&&◌, cond, List, [], ◌∷◌, ◌++◌, Option, Some, None}
-use Rattle.jade_syntax.specs.declared.shapes.place.Place.{Place}
-use Rattle.jade_syntax.specs.declared.shapes.place.Place.TheVariants.{Main, Section, Amends}
+use Rattle.jade_syntax.specs.declared.shapes.place.BlockKind.{BlockKind}
+use Rattle.jade_syntax.specs.declared.shapes.place.BlockKind.TheVariants.{Main, Section, Amends}
 use Rattle.jade_syntax.specs.declared.tree.DeclareWord.{DeclareWord}
 use Rattle.jade_syntax.specs.Shapes.{declares, is_main}
 use Rattle.jade_parser.specs.declared.Sign.{Sign}
@@ -17,9 +17,9 @@ pub data Symbol : Type 0 where
   Second : Symbol
   Must : Sign → Symbol
   NameIs : Symbol
-  Body : Place → Symbol
-  Else : Place → Symbol
-  Named : Place → Symbol
+  Body : BlockKind → Symbol
+  Else : BlockKind → Symbol
+  Named : BlockKind → Symbol
   Names : Symbol
   MoreNames : Symbol
   NumberIs : Symbol
@@ -163,12 +163,12 @@ is_sign s (Counted v) = false
 is_sign s Odd = false
 
 -- a declaration may stand there, where this is its word
-abbrev pub declares_with : Place → Option DeclareWord → Bool
+abbrev pub declares_with : BlockKind → Option DeclareWord → Bool
 declares_with c None = false
 declares_with c (Some w) = declares c w
 
 -- what is asked for after a sign that stands where a statement may begin
-abbrev pub statement_sign : Place → Sign → Stack → Option Stack
+abbrev pub statement_sign : BlockKind → Sign → Stack → Option Stack
 statement_sign c RightBrace st = Some st
 statement_sign c IntWord st = Some (NameIs ∷ Must Becomes ∷ expr_in ++ Must Semicolon ∷ Body c ∷ st)
 statement_sign c BoolWord st = Some (NameIs ∷ Must Becomes ∷ expr_in ++ Must Semicolon ∷ Body c ∷ st)
@@ -179,7 +179,7 @@ statement_sign Main WithWord st = Some (Must LeftBrace ∷ Body Amends ∷ Must 
 statement_sign c s st = cond (declares_with c (declare_of s)) (Some (Must LeftParen ∷ NameIs ∷ Second ∷ Must RightParen ∷ Must Semicolon ∷ Body c ∷ st)) None
 
 -- the same of a token: a name begins a statement too
-abbrev pub statement : Place → Token → Stack → Option Stack
+abbrev pub statement : BlockKind → Token → Stack → Option Stack
 statement c (Fixed s) st = statement_sign c s st
 statement c (Called n) st = Some (Named c ∷ Body c ∷ st)
 statement c (Counted v) st = None
@@ -208,7 +208,7 @@ item (Fixed MainWord) st = Some (Must LeftBrace ∷ Body Main ∷ st)
 item t st = None
 
 -- after the name that begins a statement: an assignment, or in a body a store
-abbrev pub after_name : Place → Token → Stack → Option Stack
+abbrev pub after_name : BlockKind → Token → Stack → Option Stack
 after_name c t st =
     cond (is_sign Becomes t) (Some (expr_in ++ Must Semicolon ∷ st))
     (cond (is_main c && is_sign LeftBracket t) (Some (expr_in ++ Must RightBracket ∷ Second ∷ Must Becomes ∷ expr_in ++ Must Semicolon ∷ st)) None)

@@ -5,18 +5,18 @@ use Rattle.jade_syntax.specs.declared.tree.Statement.{Statement}
 use Rattle.jade_syntax.specs.declared.tree.Expr.{Expr}
 use Rattle.jade_parser.specs.Spelled.{Part, Parts, AllValid, AllShort, outer}
 use Rattle.jade_parser.specs.Machine.{Stack, expr_in}
-use Rattle.jade_syntax.specs.declared.shapes.place.Place.{Place}
+use Rattle.jade_syntax.specs.declared.shapes.place.BlockKind.{BlockKind}
 use Rattle.jade_syntax.specs.Shapes.{is_placed}
 use Rattle.jade_parser.specs.declared.Seen.{Seen}
 use Rattle.jade_parser.specs.declared.Stop.{Stop}
 use Rattle.jade_parser.specs.Reads.{Reads, Stops, Whole, OnStop, Known}
 
 -- the statement may stand there
-pub record Fits (c : Place) (s : Statement) : Type 0 where
+pub record Fits (c : BlockKind) (s : Statement) : Type 0 where
   pub is : is_placed c s ≡ true
 
 -- each statement may stand there
-pub record FitsAll (c : Place) (b : List Statement) : Type 0 where
+pub record FitsAll (c : BlockKind) (b : List Statement) : Type 0 where
   pub is : list_all (is_placed c) b ≡ true
 
 -- every tree

@@ -9,7 +9,7 @@ use Rattle.jade_parser.specs.declared.Seen.{Seen}
 use Rattle.jade_parser.specs.declared.Stop.{Stop}
 use Rattle.jade_parser.specs.declared.Sign.{Sign}
 use Rattle.jade_parser.specs.declared.Sign.TheVariants.{InputWord, ObjectWord, ObjectsWord, MainWord, LeftBracket, RightBracket, LeftBrace, Colon, Semicolon}
-use Rattle.jade_syntax.specs.declared.shapes.place.Place.TheVariants.{Main}
+use Rattle.jade_syntax.specs.declared.shapes.place.BlockKind.TheVariants.{Main}
 use Rattle.jade_parser.specs.declared.items.Opening.{Opening}
 use Rattle.jade_parser.specs.declared.items.Opening.TheVariants as opening
 use Rattle.jade_parser.specs.Spelled.{Parts, Called, fixed, marked, number_part}

@@ -5,7 +5,7 @@ ghost use Rattle.jade_parser.specs.Ops.{declare_of};
 ghost use Rattle.jade_parser.specs.Begins.{declaration_of, main_only, begin_of};
 
 use crate::Sign;
-use jade_syntax::shapes::place::{Place, declares};
+use jade_syntax::shapes::place::{BlockKind, declares};
 use jade_syntax::tree::{DeclareWord, ValueKind};
 
 /// What a word begins: a statement, the end of the block, or nothing.
@@ -40,7 +40,7 @@ fn declare_of(sign: Sign) -> Option<DeclareWord>
 }
 
 /// A declaration, where one with this word may stand.
-fn declaration_of(place: Place, word: Option<DeclareWord>) -> Begin
+fn declaration_of(place: BlockKind, word: Option<DeclareWord>) -> Begin
     ensures { result ≡ declaration_of place word }
 {
     match word {
@@ -56,18 +56,18 @@ fn declaration_of(place: Place, word: Option<DeclareWord>) -> Begin
 }
 
 /// What begins only statements of a body.
-fn main_only(place: Place, begin: Begin) -> Begin
+fn main_only(place: BlockKind, begin: Begin) -> Begin
     ensures { result ≡ main_only place begin }
 {
     match place {
-        Place::Main => begin,
-        Place::Section => Begin::Nothing,
-        Place::Amends => Begin::Nothing,
+        BlockKind::Main => begin,
+        BlockKind::Section => Begin::Nothing,
+        BlockKind::Amends => Begin::Nothing,
     }
 }
 
 /// What a word begins there.
-pub fn begin_of(place: Place, sign: Sign) -> Begin
+pub fn begin_of(place: BlockKind, sign: Sign) -> Begin
     ensures { result ≡ begin_of place sign }
 {
     match sign {

@@ -7,7 +7,7 @@ ghost use Rattle.jade_parser.specs.Machine.{Body};
 ghost use Rattle.jade_parser.specs.Spelled.{Fixed, fixed, marked};
 ghost use Rattle.jade_parser.specs.Statements.{statement_parts, block_parts};
 ghost use Rattle.jade_parser.specs.Compound.{block_in, if_in, for_in, withonly_in, with_in, BeginAt, StatementAt};
-ghost use Rattle.jade_syntax.specs.declared.shapes.place.Place.TheVariants.{Main};
+ghost use Rattle.jade_syntax.specs.declared.shapes.place.BlockKind.TheVariants.{Main};
 ghost use Rattle.jade_parser.specs.declared.Sign.TheVariants.{IfWord, ForWord, WithonlyWord, WithWord};
 
 use crate::begins::{Begin, begin_of};
@@ -17,12 +17,12 @@ use crate::outer::parse_outer;
 use crate::pieces::{is_at, parse_ended, parse_names};
 use crate::simple::{parse_declare, parse_local, parse_named};
 use crate::{Seen, Sign, Stop};
-use jade_syntax::shapes::place::Place;
+use jade_syntax::shapes::place::BlockKind;
 use jade_syntax::tree::{Block, Statement};
 use std::alloc::Global;
 
 /// What begins at the place, unless a name, a number or nothing stands there.
-fn begin_at(tokens: &[Seen<'_>], at: usize, place: Place) -> Option<Begin>
+fn begin_at(tokens: &[Seen<'_>], at: usize, place: BlockKind) -> Option<Begin>
     ensures { MatchOption result (None ≡ head_sign (drop at (kinds tokens.now))) (BeginAt place tokens.now at) }
 {
     match sign_at(tokens, at) {
@@ -37,7 +37,7 @@ pub fn parse_block(
     alloc: Global,
     tokens: &[Seen<'_>],
     start: usize,
-    place: Place,
+    place: BlockKind,
 ) -> Result<(Block, usize), Stop>
     requires within { start ≤ length tokens.now }
     requires known { Known tokens.now }
@@ -67,7 +67,7 @@ fn parse_statement(
     alloc: Global,
     tokens: &[Seen<'_>],
     start: usize,
-    place: Place,
+    place: BlockKind,
 ) -> Result<Option<(Statement, usize)>, Stop>
     requires within { start ≤ length tokens.now }
     requires known { Known tokens.now }
@@ -92,7 +92,7 @@ fn parse_if(
     alloc: Global,
     tokens: &[Seen<'_>],
     start: usize,
-    place: Place,
+    place: BlockKind,
 ) -> Result<(Statement, usize), Stop>
     requires read { Whole tokens.now start (Body place ∷ []) (start + 1) (if_in place) (fixed IfWord ∷ []) }
     requires known { Known tokens.now }
@@ -130,7 +130,7 @@ fn parse_for(
     alloc: Global,
     tokens: &[Seen<'_>],
     start: usize,
-    place: Place,
+    place: BlockKind,
 ) -> Result<(Statement, usize), Stop>
     requires read { Whole tokens.now start (Body place ∷ []) (start + 1) (for_in place) (fixed ForWord ∷ []) }
     requires known { Known tokens.now }
@@ -166,11 +166,11 @@ fn parse_withonly(
     ensures { ParsedIn (Fits Main) statement_parts tokens.now start (Body Main ∷ []) (Body Main ∷ []) result }
 {
     let pos = pos_at(tokens, start);
-    let (section, closed) = parse_block(alloc, tokens, start + 1, Place::Section)?;
+    let (section, closed) = parse_block(alloc, tokens, start + 1, BlockKind::Section)?;
     let done = expect(tokens, closed, Sign::DoWord)?;
     let opened = expect(tokens, done, Sign::LeftParen)?;
     let (names, at) = parse_names(alloc, tokens, opened)?;
-    let (body, end) = parse_block(alloc, tokens, at, Place::Main)?;
+    let (body, end) = parse_block(alloc, tokens, at, BlockKind::Main)?;
     Ok((
         Statement::Withonly {
             pos,
@@ -190,7 +190,7 @@ fn parse_with(alloc: Global, tokens: &[Seen<'_>], start: usize) -> Result<(State
     ensures { ParsedIn (Fits Main) statement_parts tokens.now start (Body Main ∷ []) (Body Main ∷ []) result }
 {
     let pos = pos_at(tokens, start);
-    let (section, closed) = parse_block(alloc, tokens, start + 1, Place::Amends)?;
+    let (section, closed) = parse_block(alloc, tokens, start + 1, BlockKind::Amends)?;
     let done = expect(tokens, closed, Sign::ContWord)?;
     let end = expect(tokens, done, Sign::Semicolon)?;
     Ok((Statement::With { pos, section }, end))

@@ -11,7 +11,7 @@ use crate::kinds::classified;
 use crate::{ParseError, Seen, Stop};
 use jade_base::Pos;
 use jade_lexer::Tokens;
-use jade_syntax::shapes::place::Place;
+use jade_syntax::shapes::place::BlockKind;
 use jade_syntax::tree::Program;
 use std::alloc::Global;
 
@@ -21,7 +21,7 @@ fn parse_seen(alloc: Global, tokens: &[Seen<'_>]) -> Result<Program, Stop>
     ensures { MatchResult result (ReadAll tokens.now) (λ e. OnStop e (RefusedAt tokens.now) (TooLongAt tokens.now)) }
 {
     let (items, at) = parse_items(alloc, tokens)?;
-    let (main, at) = parse_block(alloc, tokens, at, Place::Main)?;
+    let (main, at) = parse_block(alloc, tokens, at, BlockKind::Main)?;
     if at < tokens.len() {
         return Err(Stop::Token(at));
     }

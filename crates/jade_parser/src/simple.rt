@@ -8,7 +8,7 @@ ghost use Rattle.jade_parser.specs.Spelled.{Called, plain, marked, fixed};
 ghost use Rattle.jade_parser.specs.Statements.{statement_parts, kind_word, declare_word};
 ghost use Rattle.jade_parser.specs.Parts.{ParsedIn, Fits};
 ghost use Rattle.jade_parser.specs.Forms.{Came};
-ghost use Rattle.jade_syntax.specs.declared.shapes.place.Place.TheVariants.{Main};
+ghost use Rattle.jade_syntax.specs.declared.shapes.place.BlockKind.TheVariants.{Main};
 ghost use Rattle.jade_parser.specs.declared.Sign.TheVariants.{LeftParen, RightParen, LeftBracket, RightBracket, Semicolon, Becomes};
 
 use crate::leaves::{expect, pos_at};
@@ -17,7 +17,7 @@ use crate::pieces::{is_at, parse_declared, parse_ended, parse_indexes};
 use crate::{Seen, Sign, Stop};
 use jade_base::Pos;
 use jade_syntax::Name;
-use jade_syntax::shapes::place::Place;
+use jade_syntax::shapes::place::BlockKind;
 use jade_syntax::tree::{CellRef, DeclareWord, Statement, ValueKind};
 use std::alloc::Global;
 
@@ -27,7 +27,7 @@ pub fn parse_local(
     tokens: &[Seen<'_>],
     start: usize,
     kind: ValueKind,
-    place: Place,
+    place: BlockKind,
 ) -> Result<(Statement, usize), Stop>
     requires read { Whole tokens.now start (Body place ∷ []) (start + 1) (NameIs ∷ Must Becomes ∷ expr_in ++ Must Semicolon ∷ Body place ∷ []) (plain (kind_word kind) ∷ []) }
     requires known { Known tokens.now }
@@ -63,7 +63,7 @@ pub fn parse_declare(
     tokens: &[Seen<'_>],
     start: usize,
     word: DeclareWord,
-    place: Place,
+    place: BlockKind,
 ) -> Result<(Statement, usize), Stop>
     requires stands { declares place word ≡ true }
     requires read { Whole tokens.now start (Body place ∷ []) (start + 1) (Must LeftParen ∷ NameIs ∷ Second ∷ Must RightParen ∷ Must Semicolon ∷ Body place ∷ []) (marked (declare_word word) (place_at tokens.now start) ∷ []) }
@@ -85,7 +85,7 @@ fn parse_assign(
     next: usize,
     name: Name,
     pos: Pos,
-    place: Place,
+    place: BlockKind,
 ) -> Result<(Statement, usize), Stop>
     requires further { start + 1 ≤ next }
     requires read { Came tokens.now start (Body place ∷ []) next (expr_in ++ Must Semicolon ∷ Body place ∷ []) (marked (Called name) pos ∷ fixed Becomes ∷ []) }
@@ -106,7 +106,7 @@ fn parse_store(
     next: usize,
     name: Name,
     pos: Pos,
-    place: Place,
+    place: BlockKind,
 ) -> Result<(Statement, usize), Stop>
     requires main { is_main place ≡ true }
     requires further { start + 1 ≤ next }
@@ -137,13 +137,13 @@ fn parse_store(
 }
 
 /// Whether stores stand there.
-fn is_main(place: Place) -> bool
+fn is_main(place: BlockKind) -> bool
     ensures { result ≡ is_main place }
 {
     match place {
-        Place::Main => true,
-        Place::Section => false,
-        Place::Amends => false,
+        BlockKind::Main => true,
+        BlockKind::Section => false,
+        BlockKind::Amends => false,
     }
 }
 
@@ -152,7 +152,7 @@ pub fn parse_named(
     alloc: Global,
     tokens: &[Seen<'_>],
     start: usize,
-    place: Place,
+    place: BlockKind,
 ) -> Result<(Statement, usize), Stop>
     requires within { start ≤ length tokens.now }
     requires no_sign { None ≡ head_sign (drop start (kinds tokens.now)) }

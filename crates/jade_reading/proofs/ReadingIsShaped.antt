@@ -5,7 +5,7 @@ use Rattle.std.proofs.lemmas.List.{length-map}
 use Rattle.jade_lexer.specs.Cut.{IsCut}
 use Rattle.jade_lexer.specs.Lexemes.{TokenList}
 use Rattle.jade_syntax.specs.declared.tree.Program.{Program}
-use Rattle.jade_syntax.specs.declared.shapes.place.Place.TheVariants.{Main}
+use Rattle.jade_syntax.specs.declared.shapes.place.BlockKind.TheVariants.{Main}
 use Rattle.jade_syntax.specs.Shapes.{is_placed, is_within, is_shaped, program_extent}
 use Rattle.jade_layout.specs.Spelling.{spelling}
 use Rattle.jade_parser.specs.Spelled.{AllShort, tokens_of}

@@ -18,7 +18,38 @@ use Rattle.jade_syntax.specs.declared.tree.Sum.{Sum, out-Sum, fold_out-Sum}
 use Rattle.jade_syntax.specs.declared.tree.SumOp.{SumOp}
 use Rattle.jade_syntax.specs.declared.tree.Unary.{Unary, fold_out-Unary}
 use Rattle.jade_syntax.specs.Measured.{capped, Measures}
-use Rattle.jade_syntax.specs.Shapes.{nothing, signs, name_extent, ◌⊕◌, all_of, in_brackets, at_atom, at_and, at_cell, at_compare, at_expr, at_product, at_sum, at_unary, expr_extent, and_extent, compare_extent, sum_extent, product_extent, unary_extent, atom_extent, cell_extent, inner_index, outermost, target_extent, object_extent, names_extent, block_extent, statement_extent, at_statement}
+use Rattle.jade_syntax.specs.Shapes.{
+  nothing,
+  signs,
+  name_extent,
+  ◌⊕◌,
+  all_of,
+  in_brackets,
+  at_atom,
+  at_and,
+  at_cell,
+  at_compare,
+  at_expr,
+  at_product,
+  at_sum,
+  at_unary,
+  expr_extent,
+  and_extent,
+  compare_extent,
+  sum_extent,
+  product_extent,
+  unary_extent,
+  atom_extent,
+  cell_extent,
+  inner_index,
+  outermost,
+  target_extent,
+  object_extent,
+  names_extent,
+  block_extent,
+  statement_extent,
+  at_statement,
+}
 
 abbrev pub or_link : Pos × AndExpr → Extent
 or_link p = signs 1 ⊕ and_extent p.1
@@ -33,16 +64,20 @@ abbrev pub product_link : ProductOp × Pos × Unary → Extent
 product_link p = signs 1 ⊕ unary_extent p.2
 
 pub expr_opens : (e : Expr) → expr_extent e ≡ and_extent (out-Expr e).first ⊕ all_of (map or_link (out-Expr e).rest)
-expr_opens e = fold_out-Expr Extent Extent Extent Extent Extent Extent Extent Extent at_atom at_and at_cell at_compare at_expr at_product at_sum at_unary e ∙ simp map-map
+expr_opens e = fold_out-Expr Extent Extent Extent Extent Extent Extent Extent Extent at_atom at_and at_cell at_compare at_expr at_product at_sum at_unary e
+    ∙ simp map-map
 
 pub and_opens : (e : AndExpr) → and_extent e ≡ compare_extent (out-AndExpr e).first ⊕ all_of (map and_link (out-AndExpr e).rest)
-and_opens e = fold_out-AndExpr Extent Extent Extent Extent Extent Extent Extent Extent at_atom at_and at_cell at_compare at_expr at_product at_sum at_unary e ∙ simp map-map
+and_opens e = fold_out-AndExpr Extent Extent Extent Extent Extent Extent Extent Extent at_atom at_and at_cell at_compare at_expr at_product at_sum at_unary e
+    ∙ simp map-map
 
 pub sum_opens : (e : Sum) → sum_extent e ≡ product_extent (out-Sum e).first ⊕ all_of (map sum_link (out-Sum e).rest)
-sum_opens e = fold_out-Sum Extent Extent Extent Extent Extent Extent Extent Extent at_atom at_and at_cell at_compare at_expr at_product at_sum at_unary e ∙ simp map-map
+sum_opens e = fold_out-Sum Extent Extent Extent Extent Extent Extent Extent Extent at_atom at_and at_cell at_compare at_expr at_product at_sum at_unary e
+    ∙ simp map-map
 
 pub product_opens : (e : Product) → product_extent e ≡ unary_extent (out-Product e).first ⊕ all_of (map product_link (out-Product e).rest)
-product_opens e = fold_out-Product Extent Extent Extent Extent Extent Extent Extent Extent at_atom at_and at_cell at_compare at_expr at_product at_sum at_unary e ∙ simp map-map
+product_opens e = fold_out-Product Extent Extent Extent Extent Extent Extent Extent Extent at_atom at_and at_cell at_compare at_expr at_product at_sum at_unary
+    e ∙ simp map-map
 
 pub unary_opens : (e : Unary) → unary_extent e ≡ signs (length e.signs) ⊕ atom_extent e.atom
 unary_opens e = fold_out-Unary Extent Extent Extent Extent Extent Extent Extent Extent at_atom at_and at_cell at_compare at_expr at_product at_sum at_unary e
@@ -61,7 +96,8 @@ compare_layer_is l None = refl
 compare_layer_is l (Some r) = refl
 
 pub compare_opens : (e : Compare) → compare_extent e ≡ sum_extent (out-Compare e).left ⊕ second (out-Compare e).right
-compare_opens e = fold_out-Compare Extent Extent Extent Extent Extent Extent Extent Extent at_atom at_and at_cell at_compare at_expr at_product at_sum at_unary e ∙ compare_layer_is _ _
+compare_opens e = fold_out-Compare Extent Extent Extent Extent Extent Extent Extent Extent at_atom at_and at_cell at_compare at_expr at_product at_sum at_unary
+    e ∙ compare_layer_is _ _
 
 abbrev pub atom_layer : Atom-F Atom AndExpr CellRef Compare Expr Product Sum Unary → Extent
 atom_layer f = at_atom (map-Atom Atom AndExpr CellRef Compare Expr Product Sum Unary Extent Extent Extent Extent Extent Extent Extent Extent
@@ -77,12 +113,15 @@ abbrev cell_layer : Layer → Extent
 cell_layer f = at_cell (map-CellRef Atom AndExpr CellRef Compare Expr Product Sum Unary Extent Extent Extent Extent Extent Extent Extent Extent
     atom_extent and_extent cell_extent compare_extent expr_extent product_extent sum_extent unary_extent f)
 
-cell_layer_is : (n : List ℕ) (p : Pos) (o : Option Expr) (c : Expr) → cell_layer (record { name = n; pos = p; family = o; cell = c }) ≡ name_extent n ⊕ inner_index o ⊕ in_brackets (expr_extent c)
+cell_layer_is : (n : List ℕ) (p : Pos) (o : Option Expr) (c : Expr) → cell_layer (record { name = n; pos = p; family = o; cell = c }) ≡ name_extent n
+    ⊕ inner_index o ⊕ in_brackets (expr_extent c)
 cell_layer_is n p None c = refl
 cell_layer_is n p (Some e) c = refl
 
-pub cell_opens : (e : CellRef) → cell_extent e ≡ name_extent (out-CellRef e).name ⊕ inner_index (out-CellRef e).family ⊕ in_brackets (expr_extent (out-CellRef e).cell)
-cell_opens e = fold_out-CellRef Extent Extent Extent Extent Extent Extent Extent Extent at_atom at_and at_cell at_compare at_expr at_product at_sum at_unary e ∙ cell_layer_is (out-CellRef e).name (out-CellRef e).pos (out-CellRef e).family (out-CellRef e).cell
+pub cell_opens : (e : CellRef) → cell_extent e ≡ name_extent (out-CellRef e).name ⊕ inner_index (out-CellRef e).family
+    ⊕ in_brackets (expr_extent (out-CellRef e).cell)
+cell_opens e = fold_out-CellRef Extent Extent Extent Extent Extent Extent Extent Extent at_atom at_and at_cell at_compare at_expr at_product at_sum at_unary e
+    ∙ cell_layer_is (out-CellRef e).name (out-CellRef e).pos (out-CellRef e).family (out-CellRef e).cell
 
 abbrev pub other_block : Option (List Statement) → Extent
 other_block None = nothing
@@ -114,7 +153,8 @@ statement_opens s = fold_out-Statement Extent at_statement s ∙ layer_opens (ou
     layer_opens (Statement-F.Declare how at object) = refl
 
 -- the arm of one kind of statement
-pub extent_arm : (s t : Statement) (f : Statement-F Statement) (m : Extent) → s ≡ t → out-Statement t ≡ f → Measures m (opened f) → Measures m (statement_extent s)
+pub extent_arm : (s t : Statement) (f : Statement-F Statement) (m : Extent) → s ≡ t → out-Statement t ≡ f → Measures m (opened f)
+    → Measures m (statement_extent s)
 extent_arm s t f m e o h = record { by = h.by ∙ ap capped (ap opened (sym o) ∙ sym (statement_opens t) ∙ ap statement_extent (sym e)) }
 
 -- the measure of a tree is that of its parts

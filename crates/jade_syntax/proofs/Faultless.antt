@@ -1,6 +1,6 @@
 -- A program without static faults keeps the limits of what it declares.
-use Rattle.std.proofs.Common.{◌≡◌, ℕ, Bool, true, false, not, ◌&&◌, List, [], ◌∷◌, ◌++◌, Option, Some, None, map, refl, ap, sym, ◌∙◌, subst, length, append_assoc, append-nil}
-use Rattle.std.specs.List.{list_all, filter, filter_map, cons_option}
+use Rattle.std.proofs.Common.{◌≡◌, ℕ, Bool, true, false, not, ◌&&◌, List, [], ◌∷◌, ◌++◌, Option, Some, None, refl, ap, sym, ◌∙◌, subst, append_assoc, append-nil}
+use Rattle.std.specs.List.{list_all, cons_option}
 use Rattle.std.proofs.lemmas.List.Folds.{list_all-append}
 use Rattle.std.proofs.lemmas.List.Elements.{filter_map-append}
 use Rattle.jade_base.specs.declared.place.Pos.{Pos}
@@ -13,9 +13,8 @@ use Rattle.jade_syntax.specs.declared.static_fault.StaticKind.TheVariants as fau
 use Rattle.jade_syntax.specs.declared.static_fault.StaticFault.{StaticFault}
 use Rattle.jade_syntax.specs.Objects.{input_names, sizes}
 use Rattle.jade_syntax.specs.Limits.{is_amount, is_within, few_inputs, few_cells, within_limits}
-use Rattle.jade_syntax.specs.Placed.{PlacedProgram}
 use Rattle.jade_syntax.specs.PlacedImage.{placed_program}
-use Rattle.jade_syntax.specs.StaticFaults.{Site, Amounts, Counts, Declares, item_known, item_place, amount_sites, item_sites, item_names, block_sites, program_sites, counted, keeps_totals, exceeds, when, faulty, fault_at, faults_of, static_faults}
+use Rattle.jade_syntax.specs.StaticFaults.{Site, Amounts, Counts, Declares, item_known, item_place, amount_sites, item_sites, item_names, block_sites, counted, keeps_totals, exceeds, when, faulty, fault_at, faults_of, static_faults}
 use Rattle.jade_syntax.proofs.Limits.{both, inputs_first, sizes_first}
 
 -- where nothing is wrong at some places, nothing is wrong at the first and at the others
@@ -73,7 +72,8 @@ record Kept (items : List Item) : Type 0 where
   inputs : few_inputs items ≡ true
   cells : few_cells items ≡ true
 
-totals_kept : (before : List Item) (i : Item) → Kept before → is_within i ≡ true → keeps_totals i (before ++ i ∷ []) ≡ true → (few_inputs (before ++ i ∷ []) ≡ true) × (few_cells (before ++ i ∷ []) ≡ true)
+totals_kept : (before : List Item) (i : Item) → Kept before → is_within i ≡ true → keeps_totals i (before ++ i ∷ []) ≡ true
+    → (few_inputs (before ++ i ∷ []) ≡ true) × (few_cells (before ++ i ∷ []) ≡ true)
 totals_kept before (Input x at) k w e =
     let s : sizes (before ++ Input x at ∷ []) ≡ sizes before = sizes_append before _ ∙ append-nil (sizes before) in
     (e, rw s k.cells)

@@ -1,5 +1,39 @@
 -- What the limits of a program give, item by item.
-use Rattle.std.proofs.Common.{◌≡◌, ℕ, ◌+◌, ◌-◌, ◌<◌, ◌≤◌, Bool, true, false, ◌&&◌, List, [], ◌∷◌, ◌++◌, length, drop, sum, Some, zero, suc, refl, ap, sym, ◌∙◌, arith, add-one, add-zero, zero-add, drop-cons, length-append, append_assoc, replicate, subst}
+use Rattle.std.proofs.Common.{
+  ◌≡◌,
+  ℕ,
+  ◌+◌,
+  ◌-◌,
+  ◌<◌,
+  ◌≤◌,
+  Bool,
+  true,
+  false,
+  ◌&&◌,
+  List,
+  [],
+  ◌∷◌,
+  ◌++◌,
+  length,
+  drop,
+  sum,
+  Some,
+  zero,
+  suc,
+  refl,
+  ap,
+  sym,
+  ◌∙◌,
+  arith,
+  add-one,
+  add-zero,
+  zero-add,
+  drop-cons,
+  length-append,
+  append_assoc,
+  replicate,
+  subst,
+}
 use Rattle.std.specs.List.{list_all, slice_get}
 use Rattle.std.proofs.lemmas.Bool.{leb-true}
 use Rattle.std.proofs.lemmas.Option.{slice_get_within, get_or_from_slice_get}
@@ -59,14 +93,17 @@ labels_first (Single x at size) xs = refl
 labels_first (Family x at count size) xs = sym (append_assoc (member_labels x 0 (amount count.value)) [] (labels xs))
 
 -- counting what is declared, one item more
-pub inputs_step : (items : List Item) (i n m : ℕ) (x : Item) → slice_get items i ≡ Some x → n + length (input_names (drop i items)) ≡ m → (n + length (input_names (x ∷ []))) + length (input_names (drop (i + 1) items)) ≡ m
+pub inputs_step : (items : List Item) (i n m : ℕ) (x : Item) → slice_get items i ≡ Some x → n + length (input_names (drop i items)) ≡ m
+    → (n + length (input_names (x ∷ []))) + length (input_names (drop (i + 1) items)) ≡ m
 inputs_step items i n m x e h =
     let d = drop_item items i x e in
     let f : length (input_names (drop i items)) ≡ length (input_names (x ∷ [])) + length (input_names (drop (i + 1) items)) =
-    ap (λ xs. length (input_names xs)) d ∙ ap length (inputs_first x (drop (i + 1) items)) ∙ length-append (input_names (x ∷ [])) (input_names (drop (i + 1) items)) in
+    ap (λ xs. length (input_names xs)) d ∙ ap length (inputs_first x (drop (i + 1) items))
+    ∙ length-append (input_names (x ∷ [])) (input_names (drop (i + 1) items)) in
     omega arith
 
-pub objects_step : (items : List Item) (i n m : ℕ) (x : Item) → slice_get items i ≡ Some x → n + length (sizes (drop i items)) ≡ m → (n + length (sizes (x ∷ []))) + length (sizes (drop (i + 1) items)) ≡ m
+pub objects_step : (items : List Item) (i n m : ℕ) (x : Item) → slice_get items i ≡ Some x → n + length (sizes (drop i items)) ≡ m
+    → (n + length (sizes (x ∷ []))) + length (sizes (drop (i + 1) items)) ≡ m
 objects_step items i n m x e h =
     let d = drop_item items i x e in
     let f : length (sizes (drop i items)) ≡ length (sizes (x ∷ [])) + length (sizes (drop (i + 1) items)) =
@@ -111,7 +148,8 @@ labels_counted (Family x at count size ∷ xs) =
     length-append (member_labels x 0 (amount count.value)) (labels xs)
     ∙ ap (λ n. n + length (labels xs)) (members_counted x 0 (amount count.value))
     ∙ ap (λ n. amount count.value + n) (labels_counted xs)
-    ∙ sym (length-append (replicate (amount count.value) (amount size.value)) (sizes xs) ∙ ap (λ n. n + length (sizes xs)) (length-replicate (amount count.value) (amount size.value)))
+    ∙ sym (length-append (replicate (amount count.value) (amount size.value)) (sizes xs)
+    ∙ ap (λ n. n + length (sizes xs)) (length-replicate (amount count.value) (amount size.value)))
 
 -- an object is so many objects after the items before a place
 pub record Left (items : List Item) (object i left : ℕ) : Type 0 where
@@ -122,7 +160,8 @@ pub record Left (items : List Item) (object i left : ℕ) : Type 0 where
 pub left_none : (items : List Item) (object : ℕ) → object < length (sizes items) → Left items object 0 object
 left_none items object h = record { within = h; size = refl; label = refl }
 
-pub left_more : (items : List Item) (object i left n : ℕ) (x : Item) → slice_get items i ≡ Some x → n ≡ length (sizes (x ∷ [])) → n ≤ left → Left items object i left → Left items object (i + 1) (left - n)
+pub left_more : (items : List Item) (object i left n : ℕ) (x : Item) → slice_get items i ≡ Some x → n ≡ length (sizes (x ∷ [])) → n ≤ left
+    → Left items object i left → Left items object (i + 1) (left - n)
 left_more items object i left n x e en le h =
     let d = drop_item items i x e in
     let rest : List Item = drop (i + 1) items in
@@ -139,7 +178,8 @@ left_more items object i left n x e en le h =
       label = h.label ∙ ap (λ t. slice_get t left) l ∙ get_back (labels (x ∷ [])) (labels rest) left le'' ∙ ap (λ m. slice_get (labels rest) (left - m)) k;
     }
 
-pub left_here : (items : List Item) (object i left n : ℕ) (x : Item) → slice_get items i ≡ Some x → n ≡ length (sizes (x ∷ [])) → left < n → Left items object i left → IsPlace items object i left
+pub left_here : (items : List Item) (object i left n : ℕ) (x : Item) → slice_get items i ≡ Some x → n ≡ length (sizes (x ∷ [])) → left < n
+    → Left items object i left → IsPlace items object i left
 left_here items object i left n x e en lt h =
     let d = drop_item items i x e in
     let rest : List Item = drop (i + 1) items in
@@ -152,8 +192,10 @@ left_here items object i left n x e en lt h =
     record {
       within = slice_get_within items i x e;
       member_within = λ y f. subst P (as_x y f) lt';
-      size = λ y f. h.size ∙ ap (λ t. slice_get t left) s ∙ get_front (sizes (x ∷ [])) (sizes rest) left lt' ∙ ap (λ z. slice_get (sizes (z ∷ [])) left) (as_x y f);
-      label = λ y f. h.label ∙ ap (λ t. slice_get t left) l ∙ get_front (labels (x ∷ [])) (labels rest) left lt'' ∙ ap (λ z. slice_get (labels (z ∷ [])) left) (as_x y f);
+      size = λ y f. h.size ∙ ap (λ t. slice_get t left) s ∙ get_front (sizes (x ∷ [])) (sizes rest) left lt'
+          ∙ ap (λ z. slice_get (sizes (z ∷ [])) left) (as_x y f);
+      label = λ y f. h.label ∙ ap (λ t. slice_get t left) l ∙ get_front (labels (x ∷ [])) (labels rest) left lt''
+          ∙ ap (λ z. slice_get (labels (z ∷ [])) left) (as_x y f);
     }
 
 pub left_nowhere : (items : List Item) (object i left : ℕ) → length items ≤ i → Left items object i left → ⊥
@@ -163,11 +205,13 @@ left_nowhere items object i left le h =
     let z = ap (λ xs. length (sizes xs)) e in omega arith
 
 -- what a member of a family is called
-pub family_label : (y : Item) (x : List ℕ) (at : Pos) (count size : Number) (k : ℕ) → y ≡ Family x at count size → k < length (labels (y ∷ [])) → slice_get (labels (y ∷ [])) k ≡ Some (record { name = x; member = Some k })
+pub family_label : (y : Item) (x : List ℕ) (at : Pos) (count size : Number) (k : ℕ) → y ≡ Family x at count size → k < length (labels (y ∷ []))
+    → slice_get (labels (y ∷ [])) k ≡ Some (record { name = x; member = Some k })
 family_label y x at count size k e h =
     let ms : List Label = member_labels x 0 (amount count.value) in
     let h' : k < length (ms ++ []) = (let P : Item → Type 0 = λ z. k < length (labels (z ∷ [])) in subst P e h) in
     let n : length (ms ++ []) ≡ amount count.value = length-append ms [] ∙ omega (arith, members_counted x 0 (amount count.value)) in
     let lt : k < amount count.value = omega arith in
     let lt' : k < length ms = omega (arith, members_counted x 0 (amount count.value)) in
-    ap (λ z. slice_get (labels (z ∷ [])) k) e ∙ get_front ms [] k lt' ∙ member_at x 0 (amount count.value) k lt ∙ ap (λ j. Some (record { name = x; member = Some j })) (zero-add k)
+    ap (λ z. slice_get (labels (z ∷ [])) k) e ∙ get_front ms [] k lt' ∙ member_at x 0 (amount count.value) k lt
+    ∙ ap (λ j. Some (record { name = x; member = Some j })) (zero-add k)

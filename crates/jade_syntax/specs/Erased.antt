@@ -1,8 +1,38 @@
 -- What is left of a program without the places that its meaning does not need.
-use Rattle.std.specs.Prelude.{List, map}
+use Rattle.std.specs.Prelude.{map}
 use Rattle.jade_syntax.specs.Abstract as abstract
 use Rattle.jade_syntax.specs.Abstract.{Name, Expression, Links as AbstractLinks, Place, Action, Actions, AbstractProgram}
-use Rattle.jade_syntax.specs.Placed.{Term, Whole, Truth, Variable, Group, Signed, Chain, Cell, Links, Last, Link, Object, Alone, Member, Mention, Phrase, Local, Assign, Store, If, IfElse, For, Withonly, With, Declare, Phrases, Done, Then, PlacedProgram}
+use Rattle.jade_syntax.specs.Placed.{
+  Term,
+  Whole,
+  Truth,
+  Variable,
+  Group,
+  Signed,
+  Chain,
+  Cell,
+  Links,
+  Last,
+  Link,
+  Object,
+  Alone,
+  Member,
+  Mention,
+  Phrase,
+  Local,
+  Assign,
+  Store,
+  If,
+  IfElse,
+  For,
+  Withonly,
+  With,
+  Declare,
+  Phrases,
+  Done,
+  Then,
+  PlacedProgram,
+}
 
 abbrev mutual
   -- an expression

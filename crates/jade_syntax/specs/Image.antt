@@ -1,165 +1,141 @@
--- The abstract syntax of a tree. A chain without links is its first operand.
-use Rattle.std.specs.Prelude.{ℕ, List, [], ◌∷◌, map, Option, Some, None}
+-- The abstract syntax of a tree, with places only where a fault needs one.
+use Rattle.std.specs.Prelude.{List, map, Option}
 use Rattle.jade_base.specs.declared.place.Pos.{Pos}
 use Rattle.jade_syntax.specs.declared.tree.Relation.{Relation}
 use Rattle.jade_syntax.specs.declared.tree.UnaryOp.{UnaryOp}
-use Rattle.jade_syntax.specs.declared.tree.Atom.{Atom, fold-Atom}
-use Rattle.jade_syntax.specs.declared.tree.Atom.TheOpen.{Atom-F, AndExpr-F, CellRef-F, Compare-F, Expr-F, Product-F, Sum-F, Unary-F}
-use Rattle.jade_syntax.specs.declared.tree.AndExpr.{AndExpr, fold-AndExpr}
-use Rattle.jade_syntax.specs.declared.tree.CellRef.{CellRef, fold-CellRef}
-use Rattle.jade_syntax.specs.declared.tree.Compare.{Compare, fold-Compare}
-use Rattle.jade_syntax.specs.declared.tree.Expr.{Expr, fold-Expr}
-use Rattle.jade_syntax.specs.declared.tree.Product.{Product, fold-Product}
-use Rattle.jade_syntax.specs.declared.tree.Sum.{Sum, fold-Sum}
-use Rattle.jade_syntax.specs.declared.tree.Unary.{Unary, fold-Unary}
+use Rattle.jade_syntax.specs.declared.tree.Atom.{Atom}
+use Rattle.jade_syntax.specs.declared.tree.AndExpr.{AndExpr}
+use Rattle.jade_syntax.specs.declared.tree.CellRef.{CellRef}
+use Rattle.jade_syntax.specs.declared.tree.Compare.{Compare}
+use Rattle.jade_syntax.specs.declared.tree.Expr.{Expr}
+use Rattle.jade_syntax.specs.declared.tree.Product.{Product}
+use Rattle.jade_syntax.specs.declared.tree.Sum.{Sum}
+use Rattle.jade_syntax.specs.declared.tree.Unary.{Unary}
 use Rattle.jade_syntax.specs.declared.tree.ObjectRef.{ObjectRef}
-use Rattle.jade_syntax.specs.declared.tree.Statement.{Statement, fold-Statement}
-use Rattle.jade_syntax.specs.declared.tree.Statement.TheOpen.{Statement-F}
+use Rattle.jade_syntax.specs.declared.tree.Statement.{Statement}
 use Rattle.jade_syntax.specs.declared.tree.Program.{Program}
 use Rattle.jade_syntax.specs.Abstract as abstract
-use Rattle.jade_syntax.specs.Abstract.{Operator, Or, And, Relates, Adds, Multiplies, Expression, Links, Place, Action, Actions, Done, Then, AbstractProgram}
+use Rattle.jade_syntax.specs.Abstract.{Name, Expression, Links, Place, Action, Actions, AbstractProgram}
+use Rattle.jade_syntax.specs.Forms as general
+use Rattle.jade_syntax.specs.Forms.{Forms, StatementForms}
+
+-- of each form of an expression all is kept but the places of numbers, truth values, variables and groups
+abbrev pub forms : Forms Expression Links Place
+forms =
+    record {
+      whole = λ z at. abstract.Whole z;
+      truth = λ b at. abstract.Truth b;
+      variable = λ x at. abstract.Variable x;
+      group = λ at e. abstract.Group e;
+      sign = abstract.Signed;
+      chain = abstract.Chain;
+      cell = abstract.Cell;
+      last = abstract.Last;
+      link = abstract.Link;
+      alone = abstract.Alone;
+      member = abstract.Member;
+    }
+
+-- of each form of a statement all is kept but the places of names
+abbrev pub statement_forms : StatementForms Expression Place Action Actions
+statement_forms =
+    record {
+      local = λ kind x at e. abstract.Local kind x e;
+      assign = λ x at e. abstract.Assign x e;
+      store = abstract.Store;
+      if_alone = abstract.If;
+      if_else = abstract.IfElse;
+      for = λ x at low high body. abstract.For x low high body;
+      withonly = λ at section names body. abstract.Withonly at section (map (λ n. n.name) names) body;
+      with = abstract.With;
+      declare = abstract.Declare;
+      done = abstract.Done;
+      next = abstract.Then;
+    }
 
 -- an operator, its place, and the operand after it
-pub record Linked : Type 0 where
-  pub operator : Operator
-  pub at : Pos
-  pub operand : Expression
+abbrev pub Linked : Type 0
+Linked = general.Linked Expression
+
+-- a cell: its object and its index
+abbrev pub Reference : Type 0
+Reference = general.Reference Expression Place
 
 -- links one after another
 abbrev pub links : List Linked → Links
-links [] = abstract.Last
-links (l ∷ ls) = abstract.Link l.operator l.at l.operand (links ls)
+links = general.links forms
 
 -- a chain; without links it is its first operand
 abbrev pub chained : Expression → List Linked → Expression
-chained first [] = first
-chained first (l ∷ ls) = abstract.Chain first (links (l ∷ ls))
-
--- a cell: its object and its index
-pub record Reference : Type 0 where
-  pub place : Place
-  pub cell : Expression
+chained = general.chained forms
 
 -- an object: alone, or a member
-abbrev pub placed : List ℕ → Pos → Option Expression → Place
-placed x at None = abstract.Alone x at
-placed x at (Some e) = abstract.Member x at e
+abbrev pub placed : Name → Pos → Option Expression → Place
+placed = general.object_of forms
 
 -- signs before an operand, the outermost first
 abbrev pub signed : List (UnaryOp × Pos) → Expression → Expression
-signed [] e = e
-signed (s ∷ ss) e = abstract.Signed s.0 s.1 (signed ss e)
+signed = general.signed forms
 
 -- one operand, or a relation between two
 abbrev pub compared : Expression → Option (Relation × Pos × Expression) → Expression
-compared left None = left
-compared left (Some r) = abstract.Chain left (abstract.Link (Relates r.0) r.1 r.2 abstract.Last)
-
--- A level at a time: the parts of a node are images already.
-abbrev pub at_atom : Atom-F Expression Expression Reference Expression Expression Expression Expression Expression → Expression
-at_atom (Atom-F.Whole n) = abstract.Whole n.value
-at_atom (Atom-F.Truth b at) = abstract.Truth b
-at_atom (Atom-F.Group at e) = abstract.Group e.value
-at_atom (Atom-F.Named x at) = abstract.Variable x
-at_atom (Atom-F.Cell c) = abstract.Cell c.value.place c.value.cell
-
--- operands with `&&` between them
-abbrev pub at_and : AndExpr-F Expression Expression Reference Expression Expression Expression Expression Expression → Expression
-at_and f = chained f.first (map (λ l. record { operator = And; at = l.0; operand = l.1 }) f.rest)
-
--- a name with one index or two
-abbrev pub at_cell : CellRef-F Expression Expression Reference Expression Expression Expression Expression Expression → Reference
-at_cell f = record { place = placed f.name f.pos f.family; cell = f.cell }
-
--- one operand, or two with a relation between them
-abbrev pub at_compare : Compare-F Expression Expression Reference Expression Expression Expression Expression Expression → Expression
-at_compare f = compared f.left f.right
-
--- operands with `||` between them
-abbrev pub at_expr : Expr-F Expression Expression Reference Expression Expression Expression Expression Expression → Expression
-at_expr f = chained f.first (map (λ l. record { operator = Or; at = l.0; operand = l.1 }) f.rest)
-
--- operands with the symbols of products between them
-abbrev pub at_product : Product-F Expression Expression Reference Expression Expression Expression Expression Expression → Expression
-at_product f = chained f.first (map (λ l. record { operator = Multiplies l.0; at = l.1; operand = l.2 }) f.rest)
-
--- operands with the symbols of sums between them
-abbrev pub at_sum : Sum-F Expression Expression Reference Expression Expression Expression Expression Expression → Expression
-at_sum f = chained f.first (map (λ l. record { operator = Adds l.0; at = l.1; operand = l.2 }) f.rest)
-
--- signs before an atom
-abbrev pub at_unary : Unary-F Expression Expression Reference Expression Expression Expression Expression Expression → Expression
-at_unary f = signed f.signs f.atom
+compared = general.compared forms
 
 -- an expression
 abbrev pub expression : Expr → Expression
-expression = fold-Expr Expression Expression Reference Expression Expression Expression Expression Expression at_atom at_and at_cell at_compare at_expr at_product at_sum at_unary
+expression = general.of_expr forms
 
 -- a cell within an expression
 abbrev pub reference : CellRef → Reference
-reference = fold-CellRef Expression Expression Reference Expression Expression Expression Expression Expression at_atom at_and at_cell at_compare at_expr at_product at_sum at_unary
+reference = general.of_cell forms
 
 -- a chain of `&&`
 abbrev pub and_expression : AndExpr → Expression
-and_expression = fold-AndExpr Expression Expression Reference Expression Expression Expression Expression Expression at_atom at_and at_cell at_compare at_expr at_product at_sum at_unary
+and_expression = general.of_and forms
 
 -- a comparison
 abbrev pub compare_expression : Compare → Expression
-compare_expression = fold-Compare Expression Expression Reference Expression Expression Expression Expression Expression at_atom at_and at_cell at_compare at_expr at_product at_sum at_unary
+compare_expression = general.of_compare forms
 
 -- a sum
 abbrev pub sum_expression : Sum → Expression
-sum_expression = fold-Sum Expression Expression Reference Expression Expression Expression Expression Expression at_atom at_and at_cell at_compare at_expr at_product at_sum at_unary
+sum_expression = general.of_sum forms
 
 -- a product
 abbrev pub product_expression : Product → Expression
-product_expression = fold-Product Expression Expression Reference Expression Expression Expression Expression Expression at_atom at_and at_cell at_compare at_expr at_product at_sum at_unary
+product_expression = general.of_product forms
 
 -- an operand with its signs
 abbrev pub unary_expression : Unary → Expression
-unary_expression = fold-Unary Expression Expression Reference Expression Expression Expression Expression Expression at_atom at_and at_cell at_compare at_expr at_product at_sum at_unary
+unary_expression = general.of_unary forms
 
 -- an atom
 abbrev pub atom_expression : Atom → Expression
-atom_expression = fold-Atom Expression Expression Reference Expression Expression Expression Expression Expression at_atom at_and at_cell at_compare at_expr at_product at_sum at_unary
+atom_expression = general.of_atom forms
 
 -- the index of an object, where it is a member
 abbrev pub member : Option Expr → Option Expression
-member None = None
-member (Some e) = Some (expression e)
+member = general.of_index forms
 
 -- an object that is declared
 abbrev pub object : ObjectRef → Place
-object o = placed o.name o.pos (member o.member)
+object = general.of_object forms
 
 -- statements one after another
 abbrev pub actions : List Action → Actions
-actions [] = Done
-actions (a ∷ more) = Then a (actions more)
+actions = general.in_order statement_forms
 
 -- an `if`, with another branch or without
 abbrev pub branched : Expression → List Action → Option (List Action) → Action
-branched test first None = abstract.If test (actions first)
-branched test first (Some other) = abstract.IfElse test (actions first) (actions other)
-
--- a statement, by those within it
-abbrev pub at_statement : Statement-F Action → Action
-at_statement (Statement-F.Local kind name at value) = abstract.Local kind name (expression value)
-at_statement (Statement-F.Assign name at value) = abstract.Assign name (expression value)
-at_statement (Statement-F.Store target value) = abstract.Store (reference target).place (reference target).cell (expression value)
-at_statement (Statement-F.If test then otherwise) = branched (expression test) then otherwise
-at_statement (Statement-F.For name at low high body) = abstract.For name (expression low) (expression high) (actions body)
-at_statement (Statement-F.Withonly at section names body) = abstract.Withonly at (actions section) (map (λ n. n.name) names) (actions body)
-at_statement (Statement-F.With at section) = abstract.With at (actions section)
-at_statement (Statement-F.Declare how at o) = abstract.Declare how at (object o)
+branched = general.branched statement_forms
 
 -- a statement
 abbrev pub action : Statement → Action
-action = fold-Statement Action at_statement
+action = general.of_statement forms statement_forms
 
 -- the statements of a block
 abbrev pub block : List Statement → Actions
-block ss = actions (map action ss)
+block = general.of_block forms statement_forms
 
 -- the abstract syntax of a whole program
 abbrev pub program : Program → AbstractProgram

@@ -4,7 +4,37 @@ use Rattle.jade_syntax.specs.declared.tree.Item.{Item}
 use Rattle.jade_syntax.specs.declared.tree.Item.TheVariants as item
 use Rattle.jade_syntax.specs.declared.stands.Stand.{Stand}
 use Rattle.jade_syntax.specs.declared.stands.Stand.TheVariants.{Input, Slot, Single, Family}
-use Rattle.jade_syntax.specs.Abstract.{Name, Expression, Whole, Truth, Variable, Group, Signed, Chain, Cell, Links, Last, Link, Place, Alone, Member, Action, Local, Assign, Store, If, IfElse, For, Withonly, With, Declare, Actions, Done, Then, AbstractProgram}
+use Rattle.jade_syntax.specs.Abstract.{
+  Name,
+  Expression,
+  Whole,
+  Truth,
+  Variable,
+  Group,
+  Signed,
+  Chain,
+  Cell,
+  Links,
+  Last,
+  Link,
+  Place,
+  Alone,
+  Member,
+  Action,
+  Local,
+  Assign,
+  Store,
+  If,
+  IfElse,
+  For,
+  Withonly,
+  With,
+  Declare,
+  Actions,
+  Done,
+  Then,
+  AbstractProgram,
+}
 use Rattle.jade_syntax.specs.Objects.{amount}
 
 -- two names have the same bytes

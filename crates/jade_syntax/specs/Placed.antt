@@ -1,5 +1,5 @@
 -- The abstract syntax of a program with every place that its tree keeps.
-use Rattle.std.specs.Prelude.{ℕ, List, Bool, ℤ}
+use Rattle.std.specs.Prelude.{List, Bool, ℤ}
 use Rattle.jade_base.specs.declared.place.Pos.{Pos}
 use Rattle.jade_syntax.specs.declared.tree.Item.{Item}
 use Rattle.jade_syntax.specs.declared.tree.ValueKind.{ValueKind}

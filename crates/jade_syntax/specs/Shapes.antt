@@ -1,9 +1,10 @@
--- Which trees are the trees of programs: each statement stands where the grammar has it, each name is a name, no number is negative or past 64 bits, and no limit is passed.
+-- Which trees are the trees of programs: each statement stands where the grammar has it, each name is a name, no number is negative or past 64 bits,
+-- and no limit is passed.
 use Rattle.std.specs.Prelude.{ℕ, ◌+◌, ◌-◌, Bool, true, false, ◌&&◌, max, nat_le, List, [], ◌∷◌, map, length, Option, Some, None, ℤ, pos, negsuc}
 use Rattle.std.specs.List.{list_all}
 use Rattle.jade_base.specs.declared.place.Pos.{Pos}
-use Rattle.jade_syntax.specs.declared.shapes.place.Place.{Place}
-use Rattle.jade_syntax.specs.declared.shapes.place.Place.TheVariants.{Main, Section, Amends}
+use Rattle.jade_syntax.specs.declared.shapes.place.BlockKind.{BlockKind}
+use Rattle.jade_syntax.specs.declared.shapes.place.BlockKind.TheVariants.{Main, Section, Amends}
 use Rattle.jade_syntax.specs.declared.shapes.extent.Extent.{Extent}
 use Rattle.jade_syntax.specs.declared.tree.Number.{Number}
 use Rattle.jade_syntax.specs.declared.tree.DeclareWord.{DeclareWord}
@@ -26,6 +27,7 @@ use Rattle.jade_syntax.specs.declared.tree.Item.{Item}
 use Rattle.jade_syntax.specs.declared.tree.Item.TheVariants.{Input, Single, Family}
 use Rattle.jade_syntax.specs.declared.tree.Program.{Program}
 use Rattle.jade_syntax.specs.Abstract.{Name}
+use Rattle.jade_alphabet.specs.declared.TheConstants.{GREATEST_NUMBER, EXPRESSION_LIMIT, DEPTH_LIMIT}
 use Rattle.jade_syntax.specs.Names.{is_name}
 
 infixl 60 ◌⊕◌
@@ -54,28 +56,28 @@ declares_change NoWr = true
 declares_change NoRdWr = true
 
 -- a declaration with this word stands here; none stands in a body
-abbrev pub declares : Place → DeclareWord → Bool
+abbrev pub declares : BlockKind → DeclareWord → Bool
 declares Main how = false
 declares Section how = declares_child how
 declares Amends how = declares_change how
 
 -- a body of a task
-abbrev pub is_main : Place → Bool
+abbrev pub is_main : BlockKind → Bool
 is_main Main = true
 is_main Section = false
 is_main Amends = false
 
 -- all of a block stand here
-abbrev pub all_placed : Place → List (Place → Bool) → Bool
+abbrev pub all_placed : BlockKind → List (BlockKind → Bool) → Bool
 all_placed place block = list_all (λ s. s place) block
 
 -- all of the other branch stand here, where there is one
-abbrev pub other_placed : Place → Option (List (Place → Bool)) → Bool
+abbrev pub other_placed : BlockKind → Option (List (BlockKind → Bool)) → Bool
 other_placed place None = true
 other_placed place (Some block) = all_placed place block
 
 -- where a statement stands, by where those within it do
-abbrev pub at_place : Statement-F (Place → Bool) → Place → Bool
+abbrev pub at_place : Statement-F (BlockKind → Bool) → BlockKind → Bool
 at_place (Statement-F.Local kind name at value) place = true
 at_place (Statement-F.Assign name at value) place = true
 at_place (Statement-F.Store target value) place = is_main place
@@ -86,8 +88,8 @@ at_place (Statement-F.With at section) place = is_main place && all_placed Amend
 at_place (Statement-F.Declare how at object) place = declares place how
 
 -- a statement and all within it stand where the grammar has them
-abbrev pub is_placed : Place → Statement → Bool
-is_placed place s = fold-Statement (Place → Bool) at_place s place
+abbrev pub is_placed : BlockKind → Statement → Bool
+is_placed place s = fold-Statement (BlockKind → Bool) at_place s place
 
 -- no tokens
 abbrev pub nothing : Extent
@@ -103,7 +105,7 @@ name_extent x = record { sound = is_name x; tokens = 1; depth = 0 }
 
 -- not negative, and at most 2 ^ 63 - 1
 abbrev pub is_natural : ℤ → Bool
-is_natural (pos n) = nat_le n 9223372036854775807
+is_natural (pos n) = nat_le n GREATEST_NUMBER
 is_natural (negsuc n) = false
 
 -- a number
@@ -220,7 +222,7 @@ expr_depth e = (expr_extent e).depth
 
 -- an expression that lies in no other has at most 256 tokens
 abbrev pub limited : Extent → Extent
-limited e = record { sound = e.sound && nat_le e.tokens 256; tokens = e.tokens; depth = e.depth }
+limited e = record { sound = e.sound && nat_le e.tokens EXPRESSION_LIMIT; tokens = e.tokens; depth = e.depth }
 
 -- an expression that lies in no other
 abbrev pub outermost : Expr → Extent
@@ -283,7 +285,7 @@ program_extent items main = all_of (map item_extent items) ⊕ signs 1 ⊕ block
 
 -- names, numbers and outermost expressions are as they must be, there are at most 1,048,576 tokens, and brackets nest at most 64 deep
 abbrev pub is_within : Extent → Bool
-is_within e = e.sound && nat_le e.tokens 1048576 && nat_le e.depth 64
+is_within e = e.sound && nat_le e.tokens 1048576 && nat_le e.depth DEPTH_LIMIT
 
 -- the tree of a program
 abbrev pub is_shaped : Program → Bool

@@ -1,7 +1,7 @@
 -- What is wrong with a program before it runs. A program has places at which a name is used or declared, a value
 -- is needed, or an amount stands; for each kind of place a rule says whether it is faulty; and the static faults
 -- of the program are those of all its places.
-use Rattle.std.specs.Prelude.{ℕ, Bool, true, false, not, ◌&&◌, ◌||◌, List, [], ◌∷◌, ◌++◌, map, Option, Some, None, if◌then◌else◌}
+use Rattle.std.specs.Prelude.{ℕ, Bool, true, false, not, ◌&&◌, List, [], ◌∷◌, ◌++◌, map, Option, Some, None, if◌then◌else◌}
 use Rattle.std.specs.Ordering.{nat_cmp, ordering_then, is_lt}
 use Rattle.std.specs.List.{filter, filter_map}
 use Rattle.jade_base.specs.declared.place.Pos.{Pos}
@@ -18,7 +18,39 @@ use Rattle.jade_syntax.specs.declared.static_fault.StaticFault.{StaticFault}
 use Rattle.jade_syntax.specs.Abstract.{Name, Operator, Or, And, Relates, Adds, Multiplies}
 use Rattle.jade_syntax.specs.Limits.{is_amount, is_within, few_inputs, few_cells}
 use Rattle.jade_syntax.specs.Numbering.{same_name}
-use Rattle.jade_syntax.specs.Placed.{Term, Whole, Truth, Variable, Group, Signed, Chain, Cell, Links, Last, Link, Object, Alone, Member, Mention, Phrase, Local, Assign, Store, If, IfElse, For, Withonly, With, Declare, Phrases, Done, Then, PlacedProgram, start}
+use Rattle.jade_syntax.specs.declared.objects.TheConstants.{OBJECT_LIMIT, SIZE_LIMIT}
+use Rattle.jade_syntax.specs.Placed.{
+  Term,
+  Whole,
+  Truth,
+  Variable,
+  Group,
+  Signed,
+  Chain,
+  Cell,
+  Links,
+  Last,
+  Link,
+  Object,
+  Alone,
+  Member,
+  Mention,
+  Phrase,
+  Local,
+  Assign,
+  Store,
+  If,
+  IfElse,
+  For,
+  Withonly,
+  With,
+  Declare,
+  Phrases,
+  Done,
+  Then,
+  PlacedProgram,
+  start,
+}
 
 -- what a name stands for: an input, a variable of a kind (none where it was given a name that is itself refused),
 -- the variable of a loop, a single object, or a family
@@ -221,8 +253,8 @@ item_names items = map item_known items
 -- the amounts of an item, each with its limit
 abbrev pub amount_sites : Item → List Site
 amount_sites (item.Input x at) = []
-amount_sites (item.Single x at size) = Amounts 65536 size ∷ []
-amount_sites (item.Family x at count size) = Amounts 4096 count ∷ Amounts 65536 size ∷ []
+amount_sites (item.Single x at size) = Amounts SIZE_LIMIT size ∷ []
+amount_sites (item.Family x at count size) = Amounts OBJECT_LIMIT count ∷ Amounts SIZE_LIMIT size ∷ []
 
 -- the places of items, of which some were declared before
 abbrev pub item_sites : (before : List Item) → List Item → List Site

@@ -72,7 +72,7 @@ impl Checked {
     pub fn objects(&self) -> u32
         ensures { result ≡ length (sizes self.now.program.items) }
     {
-        count_objects(&self.program.items)
+        count_objects(&self.program.items) as u32
     }
 
     /// The number of cells of an object. It takes no memory.

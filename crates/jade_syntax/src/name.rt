@@ -1,14 +1,12 @@
 ghost use Rattle.std.specs.Prelude.{◌≡◌, Bool, true, false, ◌&&◌, ◌||◌, not, length, IfOk, IfErr};
-ghost use Rattle.std.specs.List.{list_any, list_all};
+ghost use Rattle.std.specs.List.{list_any};
 ghost use Rattle.jade_syntax.specs.Numbering.{same_name};
-ghost use Rattle.jade_syntax.specs.Names.{is_letter, is_letter_or_digit, is_spelled, item_words, statement_words, declare_words, is_reserved, is_name};
+ghost use Rattle.jade_syntax.specs.Names.{item_words, statement_words, declare_words, is_reserved, is_name};
 ghost use Rattle.jade_syntax.specs.Refusals.{IsNameRefusal};
 
+use jade_alphabet::{WORD_LIMIT, is_word};
 use std::alloc::{AllocError, Global};
 use std::marker::Model;
-
-/// The most bytes of a name.
-const NAME_LIMIT: usize = 64;
 
 /// A name of a program, which contracts see as its bytes.
 #[derive(Debug, Drop)]
@@ -72,34 +70,6 @@ pub fn same_name(first: &[u8], second: &[u8]) -> bool
     first == second
 }
 
-/// Whether a word may begin with a byte.
-pub fn is_letter(byte: u8) -> bool
-    ensures { result ≡ is_letter byte }
-{
-    byte.is_ascii_alphabetic() || byte == b'_'
-}
-
-fn is_letter_or_digit(byte: u8) -> bool
-    ensures { result ≡ is_letter_or_digit byte }
-{
-    is_letter(byte) || byte.is_ascii_digit()
-}
-
-fn are_letters_or_digits(bytes: &[u8]) -> bool
-    ensures { result ≡ list_all is_letter_or_digit bytes.now }
-{
-    bytes.iter().all(|byte| is_letter_or_digit(*byte))
-}
-
-fn is_spelled(bytes: &[u8]) -> bool
-    ensures { result ≡ is_spelled bytes.now }
-{
-    match bytes {
-        [] => false,
-        [first, rest @ ..] => is_letter(*first) && are_letters_or_digits(rest),
-    }
-}
-
 /// Whether some bytes are a word of items and of values.
 pub fn is_item_word(bytes: &[u8]) -> bool
     ensures { result ≡ list_any (same_name bytes.now) item_words }
@@ -156,7 +126,7 @@ pub fn is_reserved(bytes: &[u8]) -> bool
 pub fn is_name(bytes: &[u8]) -> bool
     ensures { result ≡ is_name bytes.now }
 {
-    bytes.len() <= NAME_LIMIT && is_spelled(bytes) && !is_reserved(bytes)
+    bytes.len() <= WORD_LIMIT && is_word(bytes) && !is_reserved(bytes)
 }
 
 #[cfg(test)]

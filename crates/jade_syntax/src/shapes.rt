@@ -10,7 +10,7 @@ pub mod place;
 mod shape_tests;
 
 use crate::shapes::measure::program_extent;
-use crate::shapes::place::{Place, are_placed};
+use crate::shapes::place::{BlockKind, are_placed};
 use crate::tree::{Block, Items, Program};
 
 /// The parts are no tree of a program.
@@ -20,7 +20,7 @@ pub struct BadShape;
 fn is_shaped(items: &Items, main: &Block) -> bool
     ensures { result ≡ is_shaped (record { items = items.now; main = main.now }) }
 {
-    are_placed(main, Place::Main) && program_extent(items, main).is_within()
+    are_placed(main, BlockKind::Main) && program_extent(items, main).is_within()
 }
 
 impl Program {

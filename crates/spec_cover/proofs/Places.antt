@@ -25,20 +25,23 @@ rights-above [] o n h a = refl
 rights-above (e ∷ es) o n h a = rw (ne_eqb e.0.0 o.0 (λ q. omega (arith, a.0))) (rights-above es o n h a.1)
 
 -- an entry of a lower number may be passed
-pub enough-next : (ps : List (ObjectId × Rights)) (place n : ℕ) (e : ObjectId × Rights) → slice_get ps place ≡ Some e → e.0.0 < n → IsEnoughFrom ps place n → IsEnoughFrom ps (place + 1) n
+pub enough-next : (ps : List (ObjectId × Rights)) (place n : ℕ) (e : ObjectId × Rights) → slice_get ps place ≡ Some e → e.0.0 < n → IsEnoughFrom ps place n
+    → IsEnoughFrom ps (place + 1) n
 enough-next ps place n e h below enough = λ o above.
     let split = enough o above in
     let next = rw (drop-slice_get ps place e h, ne_eqb e.0.0 o.0 (λ q. omega arith)) at split in
     next
 
 -- the entry at the place is the object's
-pub granted-here : (ps : List (ObjectId × Rights)) (place : ℕ) (o : ObjectId) (e : ObjectId × Rights) → slice_get ps place ≡ Some e → e.0.0 ≡ o.0 → IsEnoughFrom ps place o.0 → e.1 ≡ rights_in ps o
+pub granted-here : (ps : List (ObjectId × Rights)) (place : ℕ) (o : ObjectId) (e : ObjectId × Rights) → slice_get ps place ≡ Some e → e.0.0 ≡ o.0
+    → IsEnoughFrom ps place o.0 → e.1 ≡ rights_in ps o
 granted-here ps place o e h same enough =
     let split = enough o (omega arith) in
     rw (drop-slice_get ps place e h, eq-eqb e.0.0 o.0 same) at split
 
 -- the entry at the place is of a higher number
-pub granted-none : (ps : List (ObjectId × Rights)) (place : ℕ) (o : ObjectId) (e : ObjectId × Rights) → IsAscending ps → slice_get ps place ≡ Some e → o.0 < e.0.0 → IsEnoughFrom ps place o.0 → no_rights ≡ rights_in ps o
+pub granted-none : (ps : List (ObjectId × Rights)) (place : ℕ) (o : ObjectId) (e : ObjectId × Rights) → IsAscending ps → slice_get ps place ≡ Some e
+    → o.0 < e.0.0 → IsEnoughFrom ps place o.0 → no_rights ≡ rights_in ps o
 granted-none ps place o e asc h above enough =
     let split = enough o (omega arith) in
     let later = rw (drop-slice_get ps place e h, ne_eqb e.0.0 o.0 (λ q. omega arith)) at split in
@@ -54,6 +57,7 @@ granted-end ps place o h enough =
 pub enough-end : (ps : List (ObjectId × Rights)) (place other n : ℕ) → length ps ≤ place → length ps ≤ other → IsEnoughFrom ps place n → IsEnoughFrom ps other n
 enough-end ps place other n h k enough = λ o above. rw (drop_all other ps k) (rw (drop_all place ps h) at (enough o above))
 
-pub MatchOption-weaker : {X : Type 0} {P P' : Type 0} {Q Q' : X → Type 0} (o : Option X) → MatchOption o P Q → (P → P') → ((x : X) → Q x → Q' x) → MatchOption o P' Q'
+pub MatchOption-weaker : {X : Type 0} {P P' : Type 0} {Q Q' : X → Type 0} (o : Option X) → MatchOption o P Q → (P → P') → ((x : X) → Q x → Q' x)
+    → MatchOption o P' Q'
 MatchOption-weaker None h f g = f h
 MatchOption-weaker (Some x) h f g = g x h

@@ -1,5 +1,4 @@
 ghost use Rattle.std.specs.Prelude.{◌≡◌, ◌≤◌, length, false, IfSome, IfNone};
-ghost use Rattle.jade_base.specs.Rights.{covered};
 ghost use Rattle.jade_base.specs.Specification.{IsAscending, rights_in};
 ghost use Rattle.spec_cover.specs.Cover.{IsCovered, IsCoveredBelow, IsEnoughFrom, covered_on, first_uncovered};
 
@@ -24,7 +23,7 @@ fn merged(parent: &Spec, child: &Spec) -> Option<ObjectId>
     for i in 0..child.len() {
         let (object, rights) = child.entry(i);
         let (next, granted) = granted_from(parent, place, object);
-        if !covers(granted, rights) {
+        if !granted.covers(rights) {
             return Some(object);
         }
         place = next;
@@ -48,15 +47,6 @@ fn granted_from(parent: &Spec, start: usize, object: ObjectId) -> (usize, Rights
         }
     }
     (parent.len(), Rights::NONE)
-}
-
-// Whether a parent with these rights on an object may give a child those.
-fn covers(parent: Rights, child: Rights) -> bool
-    ensures { result ≡ covered parent child }
-{
-    (!child.reads.is_there() || parent.reads.is_there())
-        && (!child.writes.is_there() || parent.writes.is_there())
-        && (!child.commutes.is_there() || (parent.reads.is_there() && parent.writes.is_there()))
 }
 
 #[cfg(test)]

@@ -8,15 +8,10 @@ ghost use Rattle.jade_syntax.specs.declared.shapes.extent.Extent.{Extent};
 use crate::Name;
 use crate::name::is_name;
 use crate::tree::Number;
-
-/// The most tokens of an expression that lies in no other.
-const EXPRESSION_LIMIT: usize = 256;
+use jade_alphabet::{DEPTH_LIMIT, EXPRESSION_LIMIT};
 
 /// The most tokens of a program.
 const PROGRAM_LIMIT: usize = 1_048_576;
-
-/// The most brackets that are open at one place.
-const DEPTH_LIMIT: usize = 64;
 
 /// What is said of a part of a program: whether its names, numbers and outermost expressions are
 /// as they must be, how many tokens it has, and how deep brackets nest in it.

@@ -8,19 +8,20 @@ use crate::tree::{Block, DeclareWord, Statement};
 
 /// What a statement stands in: a body of a task, the section of a `withonly`, or that of a `with`.
 #[derive(Clone, Copy, Debug, PartialEq, Eq)]
-pub enum Place {
+pub enum BlockKind {
     Main,
     Section,
     Amends,
 }
 
-fn is_main(place: Place) -> bool
+/// Whether statements stand in the body of a task.
+pub fn is_main(place: BlockKind) -> bool
     ensures { result ≡ is_main place }
 {
     match place {
-        Place::Main => true,
-        Place::Section => false,
-        Place::Amends => false,
+        BlockKind::Main => true,
+        BlockKind::Section => false,
+        BlockKind::Amends => false,
     }
 }
 
@@ -57,18 +58,18 @@ fn declares_change(word: DeclareWord) -> bool
 }
 
 /// Whether a declaration with this word stands here.
-pub fn declares(place: Place, word: DeclareWord) -> bool
+pub fn declares(place: BlockKind, word: DeclareWord) -> bool
     ensures { result ≡ declares place word }
 {
     match place {
-        Place::Main => false,
-        Place::Section => declares_child(word),
-        Place::Amends => declares_change(word),
+        BlockKind::Main => false,
+        BlockKind::Section => declares_child(word),
+        BlockKind::Amends => declares_change(word),
     }
 }
 
 #[cycle(placed)]
-fn is_placed(statement: &Statement, place: Place) -> bool
+fn is_placed(statement: &Statement, place: BlockKind) -> bool
     ensures { result ≡ is_placed place statement.now }
 {
     match statement {
@@ -85,16 +86,17 @@ fn is_placed(statement: &Statement, place: Place) -> bool
         },
         Statement::For { body, .. } => are_placed(body, place),
         Statement::Withonly { section, body, .. } => {
-            is_main(place) && (are_placed(section, Place::Section) && are_placed(body, Place::Main))
+            is_main(place)
+                && (are_placed(section, BlockKind::Section) && are_placed(body, BlockKind::Main))
         }
-        Statement::With { section, .. } => is_main(place) && are_placed(section, Place::Amends),
+        Statement::With { section, .. } => is_main(place) && are_placed(section, BlockKind::Amends),
         Statement::Declare { word, .. } => declares(place, *word),
     }
 }
 
 /// Whether all statements of a block stand where they may.
 #[cycle(placed)]
-pub(crate) fn are_placed(block: &Block, place: Place) -> bool
+pub(crate) fn are_placed(block: &Block, place: BlockKind) -> bool
     ensures { result ≡ list_all (is_placed place) block.now }
 {
     for i in 0..block.len() {

@@ -10,7 +10,8 @@ returns-in-Ok c =
 pub returns-in_ok-insert-in-Err : goal.returns-in_ok-insert-in-Err
 returns-in_ok-insert-in-Err c =
     let absent = rw c.deref.ensures.value at c.in-Err.ensures in
-    rw c.in_ok-insert-in-Err.ensures.items (joined-new c.args.entries.now.items c.args.object c.args.rights c.in-Err.place _ absent (sym c.any.ensures ∙ c.if-any.true) refl refl)
+    rw c.in_ok-insert-in-Err.ensures.items (joined-new c.args.entries.now.items c.args.object c.args.rights c.in-Err.place _ absent (sym c.any.ensures
+    ∙ c.if-any.true) refl refl)
 
 pub returns-else-any : goal.returns-else-any
 returns-else-any c =

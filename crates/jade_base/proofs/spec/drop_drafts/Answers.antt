@@ -6,8 +6,10 @@ use Rattle.jade_base.proofs.spec.drop_drafts.Goals as goal
 
 pub loop-i-preserved : goal.loop-i-preserved
 loop-i-preserved c =
-    map_over_more with_same_draft c.args.entries.now.items c.loop-i.entries.items c.loop-i.i c.index-entry.result.now (omega arith) c.loop-i.invariant c.index-entry.ensures
+    map_over_more with_same_draft c.args.entries.now.items c.loop-i.entries.items c.loop-i.i c.index-entry.result.now (omega arith) c.loop-i.invariant
+    c.index-entry.ensures
 
 pub returns : goal.returns
 returns c =
-    rw (changed-all with_same_draft c.args.entries.now.items c.loop-i.entries.items c.loop-i.i c.loop-i.invariant (omega arith)) (settled-same c.args.entries.now.items)
+    rw (changed-all with_same_draft c.args.entries.now.items c.loop-i.entries.items c.loop-i.i c.loop-i.invariant (omega arith))
+    (settled-same c.args.entries.now.items)

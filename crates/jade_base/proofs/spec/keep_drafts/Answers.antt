@@ -9,9 +9,11 @@ use Rattle.jade_base.proofs.spec.keep_drafts.Goals as goal
 
 pub loop-i-preserved : goal.loop-i-preserved
 loop-i-preserved c =
-    map_over_more with_draft_kept c.args.entries.now.items c.loop-i.entries.items c.loop-i.i c.index-entry.result.now (omega arith) c.loop-i.invariant c.index-entry.ensures
+    map_over_more with_draft_kept c.args.entries.now.items c.loop-i.entries.items c.loop-i.i c.index-entry.result.now (omega arith) c.loop-i.invariant
+    c.index-entry.ensures
 
 pub returns : goal.returns
 returns c =
     let left = filter_from_retain _ (λ (e : Entry). has_rights e.rights) (λ p x b q k. search rules) _ _ _ c.retain.ensures.filtered in
-    rw (left, changed-all with_draft_kept c.args.entries.now.items c.loop-i.entries.items c.loop-i.i c.loop-i.invariant (omega arith)) (settled-kept c.args.entries.now.items)
+    rw (left, changed-all with_draft_kept c.args.entries.now.items c.loop-i.entries.items c.loop-i.i c.loop-i.invariant (omega arith))
+    (settled-kept c.args.entries.now.items)

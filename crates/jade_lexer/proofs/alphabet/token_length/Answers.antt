@@ -9,4 +9,5 @@ returns-then-is_letter c =
 pub returns-then-is_ascii_digit : goal.returns-then-is_ascii_digit
 returns-then-is_ascii_digit c =
     c.run_length.ensures
-    ∙ sym (longest_run c.args.bytes.now c.requires (sym c.is_letter.ensures ∙ c.if-is_letter.false) (sym c.is_ascii_digit.ensures.value ∙ c.if-is_ascii_digit.true))
+    ∙ sym (longest_run c.args.bytes.now c.requires (sym c.is_letter.ensures ∙ c.if-is_letter.false)
+    (sym c.is_ascii_digit.ensures.value ∙ c.if-is_ascii_digit.true))

@@ -12,9 +12,16 @@ parts-preserved-in-Ok-Blank c =
     let part = c.in-Ok-Blank in
     let takes = c.split_at.ensures in
     let moves = c.after-spot.ensures in
-    underway_blank c.args.text.now (map token_of c.parts.items.items) c.parts.spot c.after-spot.result part.length c.parts.rest.now c.split_at.result.0.now c.split_at.result.1.now
+    underway_blank c.args.text.now (map token_of c.parts.items.items) c.parts.spot c.after-spot.result part.length c.parts.rest.now c.split_at.result.0.now
+    c.split_at.result.1.now
     c.parts.invariant
-    (record { some = rw part.field-0-is at part.ensures.some; within = rw part.field-0-is at part.ensures.within; front_is = takes.front; after_is = takes.back })
+    (record {
+      some = rw part.field-0-is at part.ensures.some;
+      within = rw part.field-0-is at part.ensures.within;
+      front_is = takes.front;
+      after_is =
+          takes.back;
+    })
     (record { is = moves.value; line = moves.line; column = moves.column })
     (rw part.field-0-is at part.ensures.value)
 
@@ -27,12 +34,14 @@ parts-preserved c =
     let lexeme : Lexeme = record { text = token; start = c.parts.spot.start; pos = c.parts.spot.pos } in
     let some = rw part.field-0-is at part.ensures.some in
     let pushed = chosen _ _ _ _ c.push.ensures.items (c.is_err.ensures.negation ∙ ap not c.if-is_err.false) in
-    underway_token c.args.text.now (map token_of c.parts.items.items) (map token_of c.push.new.self.items) (token_of lexeme) c.parts.spot c.after-spot-in-Ok-Token.result c.depth_after-depth.result part.length c.parts.rest.now token.now c.split_at-in-Ok-Token.result.1.now
+    underway_token c.args.text.now (map token_of c.parts.items.items) (map token_of c.push.new.self.items) (token_of lexeme) c.parts.spot
+    c.after-spot-in-Ok-Token.result c.depth_after-depth.result part.length c.parts.rest.now token.now c.split_at-in-Ok-Token.result.1.now
     c.parts.invariant
     (record { some = some; within = rw part.field-0-is at part.ensures.within; front_is = takes.front; after_is = takes.back })
     (record { is = moves.value; line = moves.line; column = moves.column })
     (rw part.field-0-is at part.ensures.value)
-    (c.depth_after-depth.ensures.value ∙ ap (depth_after c.parts.spot.depth) (ap (λ l. get_or l 0 0) takes.front ∙ get_or-take part.length c.parts.rest.now 0 0 some))
+    (c.depth_after-depth.ensures.value
+    ∙ ap (depth_after c.parts.spot.depth) (ap (λ l. get_or l 0 0) takes.front ∙ get_or-take part.length c.parts.rest.now 0 0 some))
     c.depth_after-depth.ensures.bound
     refl
     (ap (map token_of) pushed ∙ map_push c.parts.items.items lexeme)

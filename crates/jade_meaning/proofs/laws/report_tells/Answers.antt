@@ -1,4 +1,4 @@
-use Rattle.jade_meaning.proofs.Telling.{report_tells}
+use Rattle.jade_meaning.proofs.Answering.{report_tells}
 use Rattle.jade_meaning.proofs.laws.report_tells.Goals as goal
 
 pub returns : goal.returns

@@ -1,4 +1,4 @@
-use Rattle.std.proofs.Common.{◌≡◌, ◌≤◌, ◌<◌, ap, sym, subst, ◌∙◌, length, drop, Some, None, List, arith}
+use Rattle.std.proofs.Common.{◌≡◌, ◌<◌, length, arith}
 use Rattle.jade_meaning.proofs.Walking.{left_ready}
 use Rattle.jade_meaning.proofs.walker.is_left.Goals as goal
 

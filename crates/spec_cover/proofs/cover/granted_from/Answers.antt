@@ -8,7 +8,8 @@ returns-then-found-object-clause-granted c =
 
 pub returns-then-found-object-2-clause-granted : goal.returns-then-found-object-2-clause-granted
 returns-then-found-object-2-clause-granted c =
-    granted-none c.args.parent.now.entries c.loop-place.place c.args.object c.entry.result c.len-place-end.ensures.ascending c.entry.ensures c.if-found-object-2.true c.loop-place.invariant
+    granted-none c.args.parent.now.entries c.loop-place.place c.args.object c.entry.result c.len-place-end.ensures.ascending c.entry.ensures
+    c.if-found-object-2.true c.loop-place.invariant
 
 pub loop-place-preserved : goal.loop-place-preserved
 loop-place-preserved c =

@@ -17,5 +17,6 @@ loop-i-preserved c =
     let turn = first_uncovered-turn c.args.parent.now.entries c.args.child.now.entries c.loop-i.i c.entry.result c.entry.ensures in
     record {
       rest = grind (arith, turn);
-      enough = enough-later c.args.parent.now.entries c.args.child.now.entries c.loop-i.i c.granted_from-next.result.0 c.entry.result c.len-i-end.ensures.ascending c.entry.ensures c.granted_from-next.ensures.enough;
+      enough = enough-later c.args.parent.now.entries c.args.child.now.entries c.loop-i.i c.granted_from-next.result.0 c.entry.result
+          c.len-i-end.ensures.ascending c.entry.ensures c.granted_from-next.ensures.enough;
     }

@@ -1,6 +1,6 @@
 use Rattle.std.proofs.Common.{◌≡◌, map}
 use Rattle.jade_meaning.specs.Specification.{numbers}
-use Rattle.jade_meaning.specs.Holding.{kept_on}
+use Rattle.jade_meaning.specs.steps.Holding.{kept_on}
 use Rattle.jade_meaning.proofs.holds.Holds.next.Given as goal
 
 abbrev pub invariant-loop-object : goal.invariant-loop-object

@@ -1,6 +1,6 @@
 use Rattle.std.proofs.Common.{◌≡◌, ◌≤◌, length, take}
 use Rattle.jade_meaning.specs.Course.{value_of}
-use Rattle.jade_meaning.specs.Scopes.{in_scope}
+use Rattle.jade_meaning.specs.steps.Scopes.{in_scope}
 use Rattle.jade_meaning.proofs.scope.Scope.value_of.Given as goal
 
 abbrev pub invariant-loop-left : goal.invariant-loop-left

@@ -14,7 +14,8 @@ block-loop-i-preserved t c = comes_more c.at.result.now _ _ c.at.ensures c.in-Ok
 pub turns-returns-in-Err : goal.turns-returns-in-Err
 turns-returns-in-Err t c =
     let lt : to_z w64 c.loop-index.index-bits <ℤ to_z w64 (of_z w64 c.args.high) = omega (arith, ints) in
-    simp (to_z-of_z w64 c.args.high c.ranges.high, to_z-of_z w64 c.args.low c.ranges.low) at (turns_stop c.in-Err.stop c.turn.new.task c.turn.new.ledger lt c.in-Err.ensures c.loop-index.invariant)
+    simp (to_z-of_z w64 c.args.high c.ranges.high, to_z-of_z w64 c.args.low c.ranges.low) at
+    (turns_stop c.in-Err.stop c.turn.new.task c.turn.new.state lt c.in-Err.ensures c.loop-index.invariant)
 
 pub turns-loop-index-smaller : goal.turns-loop-index-smaller
 turns-loop-index-smaller t c = search (rules, counting)
@@ -22,4 +23,4 @@ turns-loop-index-smaller t c = search (rules, counting)
 pub turns-loop-index-preserved : goal.turns-loop-index-preserved
 turns-loop-index-preserved t c =
     let lt : to_z w64 c.loop-index.index-bits <ℤ to_z w64 (of_z w64 c.args.high) = omega (arith, ints) in
-    turns_more c.turn.new.task c.turn.new.ledger _ lt (search rules) c.in-Ok.ensures c.loop-index.invariant
+    turns_more c.turn.new.task c.turn.new.state _ lt (search rules) c.in-Ok.ensures c.loop-index.invariant

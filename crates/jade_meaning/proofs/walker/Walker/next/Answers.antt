@@ -1,7 +1,7 @@
-use Rattle.std.proofs.Common.{◌≡◌, ◌++◌, ◌∷◌, [], List, map, refl, ap, sym, subst, ◌∙◌, rules}
-use Rattle.jade_meaning.specs.Perform.{shown}
+use Rattle.std.proofs.Common.{◌≡◌, subst}
+use Rattle.jade_meaning.specs.steps.Perform.{shown}
 use Rattle.jade_meaning.specs.Walks.{Walk}
-use Rattle.jade_meaning.specs.Walk.{upcoming, First, act_of, carried_of, Passes}
+use Rattle.jade_meaning.specs.Walk.{upcoming, First, act_of}
 use Rattle.jade_meaning.proofs.Walking.{first_known}
 use Rattle.jade_meaning.proofs.walker.Walker.next.Goals as goal
 

@@ -1,5 +1,0 @@
-use Rattle.std.proofs.Common.{◌≡◌, map}
-use Rattle.jade_meaning.proofs.ledger.Store.into_lists.Given as goal
-
-abbrev pub invariant-loop-cells : goal.invariant-loop-cells
-invariant-loop-cells l = l.lists ≡ map (λ v. v.items) l.yielded

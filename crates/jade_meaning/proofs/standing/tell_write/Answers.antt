@@ -1,8 +1,0 @@
-use Rattle.std.proofs.Common.{◌≡◌, ◌++◌, ◌∷◌, [], List, map, refl, ap, sym, ◌∙◌}
-use Rattle.jade_meaning.specs.Perform.{shown}
-use Rattle.jade_meaning.specs.declared.holds.Told.{Told}
-use Rattle.jade_meaning.proofs.Standings.{write_tells}
-use Rattle.jade_meaning.proofs.standing.tell_write.Goals as goal
-
-pub returns : goal.returns
-returns c = λ s. write_tells s c.args.at.now c.touch.new.at c.args.written c.in_ok-id.id c.in_ok-cell.cell c.push.new.self.items c.requires.0 c.requires.1 c.in_ok-touch.ensures.told c.in_ok-touch.ensures.holds c.in_ok-id.ensures c.in_ok-cell.ensures (c.in_ok-push.ensures.items ∙ ap (λ (e : Told). c.touch.new.at.pending.items ++ e ∷ []) c.write_of.ensures)

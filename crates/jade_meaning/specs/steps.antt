@@ -1,0 +1,12 @@
+pub mod Carry
+pub mod Direct
+pub mod Evaluation
+pub mod Tallied
+pub mod Perform
+pub mod Frames
+pub mod Holding
+pub mod Configuration
+pub mod Agreement
+pub mod Scopes
+pub mod Drafts
+pub mod Walking
