@@ -7,8 +7,8 @@ use Rattle.jade_base.specs.declared.report.FaultKind.TheVariants.{Index, Object}
 use Rattle.jade_syntax.specs.Abstract.{Or, And, Relates, Adds, Multiplies, Expression, Whole, Truth, Variable, Group, Signed, Chain, Cell, Links, Last, Link, Place, Alone, Member}
 use Rattle.jade_meaning.specs.declared.values.Value.{Value}
 use Rattle.jade_meaning.specs.declared.values.Value.TheVariants.{IntOf, BoolOf}
-use Rattle.jade_meaning.specs.declared.found.Found.{Found}
-use Rattle.jade_meaning.specs.declared.found.Range.{Range}
+use Rattle.jade_meaning.specs.declared.resolve.ResolvedObject.{ResolvedObject}
+use Rattle.jade_meaning.specs.declared.resolve.Range.{Range}
 use Rattle.jade_meaning.specs.Values.{operated, decides, signed, whole, is_index, magnitude}
 use Rattle.jade_meaning.specs.Specification.{Specification}
 use Rattle.jade_meaning.specs.Course.{Course, Draft, Mine, Setting, choose, given, fault, read_cell, reach, member, value_of, eval, eval_links, find}
@@ -240,7 +240,7 @@ module _ (child : Children) (code : List Instruction) where
     at_goes e t pc to ss low mt h on k = operand_goes e t pc to ss mt h on (λ h' k'. expr_goes e t pc to ss low mt h' on k') k
 
     -- an object
-    pub place_goes : (o : Place) (t pc to : ℕ) (ss : Slots) → Below t scope → Matches scope m.env ss → Spans code pc (code_of_place s.items scope t o) to → (on : Found → Course) → ((f : Found) (ss' : Slots) → Agree t ss ss' → worth (place_at s.items t o) ss' ≡ numbered f.number → go left to ss' m.spec d ≡ on f) → go left pc ss m.spec d ≡ find s o m on
+    pub place_goes : (o : Place) (t pc to : ℕ) (ss : Slots) → Below t scope → Matches scope m.env ss → Spans code pc (code_of_place s.items scope t o) to → (on : ResolvedObject → Course) → ((f : ResolvedObject) (ss' : Slots) → Agree t ss ss' → worth (place_at s.items t o) ss' ≡ numbered f.number → go left to ss' m.spec d ≡ on f) → go left pc ss m.spec d ≡ find s o m on
     place_goes (Alone x at) t pc to ss low mt h on k =
         let g = range_of s.items x in
         to_end left pc to h ss m.spec d ∙ k (record { number = g.first; size = g.size }) ss (agree_all t ss) refl
