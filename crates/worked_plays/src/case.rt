@@ -1,0 +1,182 @@
+//! A case: the limit, the numbers, the picks, and the text.
+
+ghost use Rattle.std.specs.Prelude.{◌≡◌, ◌≤◌, length};
+
+use crate::words::{blame, key, static_word};
+use jade_base::{Memory, ObjectId, Pos, Report};
+use jade_lexer::{LexError, tokens};
+use jade_parser::{ParseError, parse};
+use jade_syntax::Checked;
+use jade_types::{TypeError, check};
+use schedule_core::play;
+use std::alloc::Global;
+use std::str;
+
+/// Why the cases could not be played to their end.
+#[derive(Clone, Copy, Debug, PartialEq, Eq)]
+pub(crate) enum Stop {
+    /// A line is no line of a case.
+    Line,
+    /// Memory was wanting, or a line could not be written.
+    Failed,
+}
+
+impl From<Memory> for Stop {
+    fn from(_error: Memory) -> Stop
+        ensures { result ≡ Stop.Failed }
+    {
+        Stop::Failed
+    }
+}
+
+/// What a text is refused for, and where.
+struct Refused {
+    at: Pos,
+    why: &'static str,
+}
+
+/// A case, and its text so far.
+#[derive(Drop)]
+pub(crate) struct Case {
+    limit: u32,
+    numbers: Vec<i64>,
+    picks: Vec<u32>,
+    text: Vec<u8>,
+    has_lines: bool,
+}
+
+impl Case {
+    /// The case of a line's words: the limit and the numbers, a colon, and the picks.
+    pub(crate) fn of(alloc: Global, line: &str) -> Result<Case, Stop> {
+        let mut case = Case {
+            limit: 0,
+            numbers: Vec::new(alloc),
+            picks: Vec::new(alloc),
+            text: Vec::new(alloc),
+            has_lines: false,
+        };
+        let mut picking = false;
+        for word in line.split(' ') {
+            if word == ":" {
+                picking = true;
+            } else if picking {
+                let pick = word.parse::<u32>().map_err(|_| Stop::Line)?;
+                case.picks.push(pick).map_err(|_| Stop::Failed)?;
+            } else {
+                case.put_word(word)?;
+            }
+        }
+        Ok(case)
+    }
+
+    /// The limit, or a number after it.
+    fn put_word(&mut self, word: &str) -> Result<(), Stop> {
+        if self.limit == 0 {
+            self.limit = word.parse::<u32>().map_err(|_| Stop::Line)?;
+        } else {
+            let number = word.parse::<i64>().map_err(|_| Stop::Line)?;
+            self.numbers.push(number).map_err(|_| Stop::Failed)?;
+        }
+        Ok(())
+    }
+
+    /// Puts a line of its text last.
+    pub(crate) fn put(&mut self, line: &str) -> Result<(), Stop> {
+        if self.has_lines {
+            self.text.push(b'\n').map_err(|_| Stop::Failed)?;
+        }
+        self.has_lines = true;
+        self.text
+            .extend_from_slice(line.as_bytes())
+            .map_err(|_| Stop::Failed)
+    }
+
+    /// Plays the case, and prints its report, or why its text or its count of numbers is refused.
+    pub(crate) fn play(self, rt: &HostRuntime, alloc: Global) -> Result<(), Stop> {
+        if self.text.len() > 1_048_576 || self.limit == 0 {
+            return Err(Stop::Line);
+        }
+        let checked = match checked_of(alloc, self.text.as_slice())? {
+            Ok(checked) => checked,
+            Err(refused) => {
+                let Refused { at, why } = refused;
+                return println!(rt; "refused {}:{} {why}", at.line, at.column)
+                    .map_err(|_| Stop::Failed);
+            }
+        };
+        let (want, got) = (checked.inputs() as usize, self.numbers.len());
+        if want != got {
+            return println!(rt; "numbers: want {want}, got {got}").map_err(|_| Stop::Failed);
+        }
+        let numbers = self.numbers.as_slice();
+        let report = play(alloc, &checked, numbers, self.limit, self.picks.as_slice())?;
+        print(rt, alloc, &checked, &report)
+    }
+}
+
+/// The checked program of a text, or what the text is refused for. The error is want of memory.
+fn checked_of(alloc: Global, text: &[u8]) -> Result<Result<Checked, Refused>, Stop>
+    requires { length text.now ≤ 1048576 }
+{
+    let tokens = match tokens(alloc, text) {
+        Ok(tokens) => tokens,
+        Err(LexError::Byte(at)) => return Ok(Err(Refused { at, why: "byte" })),
+        Err(LexError::Number(at)) => return Ok(Err(Refused { at, why: "number" })),
+        Err(LexError::Deep(at)) => return Ok(Err(Refused { at, why: "deep" })),
+        Err(LexError::Memory) => return Err(Stop::Failed),
+    };
+    let program = match parse(alloc, &tokens) {
+        Ok(program) => program,
+        Err(ParseError::Token(at)) => return Ok(Err(Refused { at, why: "token" })),
+        Err(ParseError::Long(at)) => return Ok(Err(Refused { at, why: "long" })),
+        Err(ParseError::Memory) => return Err(Stop::Failed),
+    };
+    match check(alloc, program) {
+        Ok(checked) => Ok(Ok(checked)),
+        Err(TypeError::Refused(at, kind)) => Ok(Err(Refused {
+            at,
+            why: static_word(kind),
+        })),
+        Err(TypeError::Memory) => Err(Stop::Failed),
+    }
+}
+
+/// Prints an object's name and its cells.
+fn print_object(
+    rt: &HostRuntime,
+    checked: &Checked,
+    report: &Report,
+    object: u32,
+) -> Result<(), Stop> {
+    if object >= checked.objects() || object as usize >= report.objects.len() {
+        return Ok(());
+    }
+    let (name, member) = checked.label(ObjectId(object));
+    let name = str::from_utf8(name.bytes()).map_err(|_| Stop::Line)?;
+    match member {
+        Some(member) => print!(rt; "{name}[{member}] ="),
+        None => print!(rt; "{name} ="),
+    }
+    .map_err(|_| Stop::Failed)?;
+    for cell in report.objects.at(object as usize).as_slice() {
+        print!(rt; " {cell}").map_err(|_| Stop::Failed)?;
+    }
+    println!(rt;).map_err(|_| Stop::Failed)
+}
+
+/// Prints the objects, the faults and the steps of a report.
+fn print(rt: &HostRuntime, alloc: Global, checked: &Checked, report: &Report) -> Result<(), Stop> {
+    for object in 0..checked.objects() {
+        print_object(rt, checked, report, object)?;
+    }
+    for fault in report.faults.as_slice() {
+        let key = key(alloc, &fault.path, fault.children)?;
+        let blame = blame(alloc, fault.blame)?;
+        println!(rt; "fault {key} {blame}").map_err(|_| Stop::Failed)?;
+    }
+    for part in report.steps.as_slice() {
+        let key = key(alloc, &part.path, part.children)?;
+        println!(rt; "steps {key} {}", part.steps).map_err(|_| Stop::Failed)?;
+    }
+    Ok(())
+}

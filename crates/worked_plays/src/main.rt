@@ -1,0 +1,56 @@
+//! Plays each case of standard input by the core, and prints its report. A case begins with a line
+//! `> play LIMIT NUMBER* : PICK*`; the lines up to the next one are its program's text, with a line
+//! feed between two lines and none at the end. Where the text or the count of numbers is refused, it
+//! prints what `run` would write.
+#![tactic(auto)]
+
+mod case;
+mod words;
+
+use case::{Case, Stop};
+use jade_base::{StdSource, read_text};
+use std::alloc::Global;
+use std::process::ExitCode;
+use std::str;
+
+/// Plays the cases of a text.
+fn play_cases(rt: &HostRuntime, alloc: Global, text: &str) -> Result<(), Stop> {
+    let mut open = None;
+    for line in text.lines() {
+        match line.strip_prefix("> play ") {
+            Some(words) => {
+                finish(rt, alloc, open)?;
+                println!(rt; "> play {words}").map_err(|_| Stop::Failed)?;
+                open = Some(Case::of(alloc, words)?);
+            }
+            None => match &mut open {
+                Some(case) => case.put(line)?,
+                None => return Err(Stop::Line),
+            },
+        }
+    }
+    finish(rt, alloc, open)
+}
+
+/// Plays a case that is complete, if there is one.
+fn finish(rt: &HostRuntime, alloc: Global, case: Option<Case>) -> Result<(), Stop> {
+    match case {
+        Some(case) => case.play(rt, alloc),
+        None => Ok(()),
+    }
+}
+
+fn main(rt: HostRuntime) -> ExitCode {
+    let alloc = rt.alloc();
+    let mut source = StdSource::new(rt.stdin());
+    let Ok(bytes) = read_text(alloc, &mut source) else {
+        return ExitCode::from(2);
+    };
+    let Ok(text) = str::from_utf8(&bytes) else {
+        return ExitCode::from(2);
+    };
+    match play_cases(&rt, alloc, text) {
+        Ok(()) => ExitCode::SUCCESS,
+        Err(_) => ExitCode::from(1),
+    }
+}

@@ -1,0 +1,53 @@
+//! The words of reports.
+
+use crate::case::Stop;
+use jade_base::{Blame, FaultKind, Path};
+use jade_syntax::StaticKind;
+use std::alloc::Global;
+
+/// The word of a fault.
+fn kind_word(kind: FaultKind) -> &'static str {
+    match kind {
+        FaultKind::Overflow => "overflow",
+        FaultKind::Zero => "zero",
+        FaultKind::Index => "index",
+        FaultKind::Object => "object",
+        FaultKind::Right => "right",
+        FaultKind::Cover => "cover",
+        FaultKind::Change => "change",
+        FaultKind::Limit => "limit",
+    }
+}
+
+/// The word of a static fault.
+pub(crate) fn static_word(kind: StaticKind) -> &'static str {
+    match kind {
+        StaticKind::Name => "name",
+        StaticKind::Twice => "twice",
+        StaticKind::Kind => "kind",
+        StaticKind::Assign => "assign",
+        StaticKind::Size => "size",
+    }
+}
+
+/// The key of a part, with dots: the task's path and the number of its children.
+pub(crate) fn key(alloc: Global, path: &Path, children: u32) -> Result<String, Stop> {
+    let mut text = String::new(alloc);
+    for number in path.numbers() {
+        let piece = format!(in alloc; "{number}.").map_err(|_| Stop::Failed)?;
+        text.push_str(piece.as_str()).map_err(|_| Stop::Failed)?;
+    }
+    let last = format!(in alloc; "{children}").map_err(|_| Stop::Failed)?;
+    text.push_str(last.as_str()).map_err(|_| Stop::Failed)?;
+    Ok(text)
+}
+
+/// A fault's place, if it has one, and its kind.
+pub(crate) fn blame(alloc: Global, blame: Blame) -> Result<String, Stop> {
+    let kind = kind_word(blame.kind);
+    let text = match blame.pos {
+        Some(pos) => format!(in alloc; "{}:{} {kind}", pos.line, pos.column),
+        None => format!(in alloc; "{kind}"),
+    };
+    text.map_err(|_| Stop::Failed)
+}
