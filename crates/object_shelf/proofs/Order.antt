@@ -64,9 +64,11 @@ before-trans (i ∷ p) (j ∷ q) (k ∷ r) h g = head i j k (stands_before p q) 
     head i j k true true true f h g = grind (arith, nat_tests)
     head i j k true true false f h g = absurd (let x = f refl refl in cc)
     head i j k true false c f h g = elim c [ true ↦ grind (arith, nat_tests) | false ↦ grind (arith, nat_tests) ]
-    head i j k false b c f h g = elim b
-        [ true ↦ elim c [ true ↦ grind (arith, nat_tests) | false ↦ grind (arith, nat_tests) ] | false ↦
-        elim c [ true ↦ grind (arith, nat_tests) | false ↦ grind (arith, nat_tests) ] ]
+    head i j k false b c f h g = elim b [
+      | true ↦ elim c [ true ↦ grind (arith, nat_tests) | false ↦ grind (arith, nat_tests) ]
+      | false ↦
+          elim c [ true ↦ grind (arith, nat_tests) | false ↦ grind (arith, nat_tests) ]
+    ]
 
 -- of two others one stands before the other
 pub before-total : (p q : List ℕ) → stands_before q p ≡ false → same_path p q ≡ false → stands_before p q ≡ true
@@ -88,7 +90,7 @@ pub further : (p q : List ℕ) (es : List Entry) → stands_before p q ≡ true 
 further p q [] h g = refl
 further p q (e ∷ es) h g =
     and-both (stands_before p e.path) (before_all p es) (before-trans p q e.path h (and-left (stands_before q e.path) (before_all q es) g))
-        (further p q es h (and-right (stands_before q e.path) (before_all q es) g))
+    (further p q es h (and-right (stands_before q e.path) (before_all q es) g))
 
 -- an entry of those that a task stands before
 pub at-index : (p : List ℕ) (es : List Entry) (n : ℕ) (e : Entry) → before_all p es ≡ true → n < length es → e ≡ slice_index_or es n e →
@@ -136,7 +138,7 @@ not-among : (p : List ℕ) (es : List Entry) → before_all p es ≡ true → pl
 not-among p [] h = refl
 not-among p (e ∷ es) h =
     subst (λ b. (if b then 0 else suc (place_in p es)) ≡ suc (length es)) (sym (turned p e.path (and-left (stands_before p e.path) (before_all p es) h)))
-        (ap suc (not-among p es (and-right (stands_before p e.path) (before_all p es) h)))
+    (ap suc (not-among p es (and-right (stands_before p e.path) (before_all p es) h)))
   where
     turned : (p q : List ℕ) → stands_before p q ≡ true → same_path p q ≡ false
     turned p q h = flip (same_path p q) refl
@@ -182,7 +184,7 @@ missed p (x ∷ es) n e o r lt q h = go (missed p es) (stands_before x.path p) r
     go f false w zero r lt q =
         let s : same_path p x.path ≡ false = ap (λ (z : Entry). same_path p z.path) (sym q) ∙ h in
         subst (λ b. suc (length es) ≡ (if b then 0 else suc (place_in p es))) (sym s)
-            (ap suc (sym (not-among p es (further p x.path es (before-total p x.path w s) all))))
+        (ap suc (sym (not-among p es (further p x.path es (before-total p x.path w s) all))))
 
 -- nor where all entries stand before it
 pub past-all : (p : List ℕ) (es : List Entry) (n : ℕ) → n ≡ rank p es → length es ≤ n → length es ≡ place_in p es
@@ -288,7 +290,7 @@ within c e (x ∷ es) (suc n) o lt =
     let b : stands_before e.path x.path ≡ true = and-left (stands_before e.path x.path) (before_all e.path es) l in
     let i : fits_at (suc n) c (x ∷ es) ≡ stands_before x.path c && fits_at n c es = within c x es n r (omega arith) in
     implied (stands_before e.path c) (fits_at (suc n) c (x ∷ es))
-        (λ t. before-trans e.path x.path c b (and-left (stands_before x.path c) (fits_at n c es) (sym i ∙ t)))
+    (λ t. before-trans e.path x.path c b (and-left (stands_before x.path c) (fits_at n c es) (sym i ∙ t)))
 
 -- where it fits is told by two entries
 pub fits-there : (p c : List ℕ) (es : List Entry) → is_ordered es ≡ true → place_in p es < length es → fits_at (place_in p es) c es ≡ fits p c es

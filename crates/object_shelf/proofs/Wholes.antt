@@ -119,8 +119,8 @@ entered-left p c a (x ∷ es) h = go (same_path p x.path) (entered-left p c a es
     go true f h = subst (λ b. (if b then x ∷ es else newborn c a x ∷ without c (x ∷ es)) ≡ x ∷ es) (sym (same-refl c)) refl
     go false f h =
         subst (λ b. (if b then entered_in p c a es else x ∷ without c (entered_in p c a es)) ≡ x ∷ es)
-            (sym (before-other x.path c (left (stands_before x.path c) (fits p c es) h)))
-            (ap (λ ys. x ∷ ys) (f (right (stands_before x.path c) (fits p c es) h)))
+        (sym (before-other x.path c (left (stands_before x.path c) (fits p c es) h)))
+        (ap (λ ys. x ∷ ys) (f (right (stands_before x.path c) (fits p c es) h)))
 
 -- two changes that agree on the path's entry
 pub at-found : (p : List ℕ) (f g : Entry → Entry) (es : List Entry) → ((e : Entry) → find p es ≡ Some e → f e ≡ g e) → at p f es ≡ at p g es

@@ -207,7 +207,6 @@ pairs_lone : (o : ℕ) (ts : List sited.Live) → Every Fit ts → Pairs (Before
 pairs_lone o [] fits h = tt
 pairs_lone o (t ∷ ts) fits h = (every_lone o t ts fits.0 h.0, pairs_lone o ts fits.1 h.1)
 
-
 -- a path is not that of a child
 longer : (p : Path) (k : ℕ) → p ≡ p ++ k ∷ [] → ⊥
 longer [] k e = absurd (cc)
@@ -237,6 +236,7 @@ take_heads t o m h = go t.doing.pending refl h
     deed (Ends b) h = absurd (cc)
     deed (Steps on) h = absurd h
     deed (Changes new on) h = absurd h
+
     go : (es : List Event) → t.doing.pending ≡ es → First (es ++ from_deed t.doing.course t.doing.spec t.doing.plan t.doing.steps []) (λ x. x ≡ Take o m) → Heads t (Take o m)
     go [] q h = deed t.doing.course h
     go (e ∷ es) q h = record { rest = es; is = q ∙ ap (λ x. x ∷ es) h }
@@ -251,6 +251,7 @@ write_holds t o c v order h = go t.doing.pending t.doing.course order h
     deed (Ends b) r h = absurd (cc)
     deed (Steps on) r h = absurd h
     deed (Changes new on) r h = absurd h
+
     go : (es : List Event) (c' : Course) → Orderly t.doing.spec t.doing.plan c' es t.rights t.held → First (es ++ from_deed c' t.doing.spec t.doing.plan t.doing.steps []) (λ x. x ≡ TouchWrite o c v) → is_writing (t.held o) ≡ true
     go [] c' order h = deed c' order.1 h
     go (e ∷ es) c' order h = absurd (subst (λ x. Orderly t.doing.spec t.doing.plan c' (x ∷ es) t.rights t.held) h order)
@@ -265,6 +266,7 @@ read_holds t o c order h = go t.doing.pending t.doing.course order h
     deed (Ends b) r h = absurd (cc)
     deed (Steps on) r h = absurd h
     deed (Changes new on) r h = absurd h
+
     go : (es : List Event) (c' : Course) → Orderly t.doing.spec t.doing.plan c' es t.rights t.held → First (es ++ from_deed c' t.doing.spec t.doing.plan t.doing.steps []) (λ x. x ≡ Wants o c) → is_some (t.held o) ≡ true
     go [] c' order h = deed c' order.1 h
     go (e ∷ es) c' order h = absurd (subst (λ x. Orderly t.doing.spec t.doing.plan c' (x ∷ es) t.rights t.held) h order)
@@ -387,11 +389,13 @@ may_write o c v b l t far fits first =
     writing_some : (h : Option Mode) → is_writing h ≡ true → is_some h ≡ true
     writing_some None e = absurd (cc)
     writing_some (Some m) e = refl
+
     writing_takes : (h : Option Mode) → is_writing h ≡ true → takes_out h ≡ true
     writing_takes None e = absurd (cc)
     writing_takes (Some Reading) e = absurd (cc)
     writing_takes (Some Writing) e = refl
     writing_takes (Some Commuting) e = refl
+
     held_touches : (h : Option Mode) (a : Rights) → is_some h ≡ true → may h a ≡ true → touches a ≡ true
     held_touches h a s w = may_some h a s w
 

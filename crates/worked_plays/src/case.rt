@@ -100,8 +100,9 @@ impl Case {
             Ok(checked) => checked,
             Err(refused) => {
                 let Refused { at, why } = refused;
-                return println!(rt; "refused {}:{} {why}", at.line, at.column)
-                    .map_err(|_| Stop::Failed);
+                return println!(rt; "refused {}:{} {why}", at.line, at.column).map_err(
+                    |_| Stop::Failed,
+                );
             }
         };
         let (want, got) = (checked.inputs() as usize, self.numbers.len());

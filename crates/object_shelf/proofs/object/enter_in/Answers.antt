@@ -9,9 +9,9 @@ pub returns-then-len-before-clause-unchanged : goal.returns-then-len-before-clau
 returns-then-len-before-clause-unchanged c =
     let es = c.args.shelf.now.queue in
     let l : length (fitted_in c.args.parent.now c.args.child.now c.args.rights es) ≡ length es =
-        sym (ap (λ s. length s.queue) c.in_ok-enter.ensures.done) ∙ sym c.len.ensures ∙ c.if-len-before.true ∙ c.len-before.ensures in
+    sym (ap (λ s. length s.queue) c.in_ok-enter.ensures.done) ∙ sym c.len.ensures ∙ c.if-len-before.true ∙ c.len-before.ensures in
     c.in_ok-enter.ensures.done ∙ ap (λ (q : List Entry). record c.args.shelf.now { queue = q })
-        (same-length c.args.parent.now c.args.child.now c.args.rights es l)
+    (same-length c.args.parent.now c.args.child.now c.args.rights es l)
 
 pub returns-then-len-before-clause-out : goal.returns-then-len-before-clause-out
 returns-then-len-before-clause-out c =

@@ -11,8 +11,8 @@ returns-in-Some-clause-queue c =
     let p = c.args.path.now in
     let m = c.args.mode in
     let got : (hand_in p m s ≡ Some c.in-Some.content.cells) × (c.in-Some.content.mode ≡ m) × (c.take.new.self ≡ handed p m s) =
-        subst (λ r. MatchOption r ((hand_in p m s ≡ None) × (c.take.new.self ≡ s))
-        (λ d. (hand_in p m s ≡ Some d.cells) × (d.mode ≡ m) × (c.take.new.self ≡ handed p m s))) c.in-Some.is c.in_ok-content.ensures.got in
+    subst (λ r. MatchOption r ((hand_in p m s ≡ None) × (c.take.new.self ≡ s))
+    (λ d. (hand_in p m s ≡ Some d.cells) × (d.mode ≡ m) × (c.take.new.self ≡ handed p m s))) c.in-Some.is c.in_ok-content.ensures.got in
     ap (λ (t : ShelfView). t.queue) got.2 ∙ taken-queue p m s.queue s.home c.args.hand.now c.in-Some.content.cells got.0
 
 pub returns-in-Some-clause-out : goal.returns-in-Some-clause-out
@@ -21,7 +21,7 @@ returns-in-Some-clause-out c =
     let p = c.args.path.now in
     let m = c.args.mode in
     let got : (hand_in p m s ≡ Some c.in-Some.content.cells) × (c.in-Some.content.mode ≡ m) × (c.take.new.self ≡ handed p m s) =
-        subst (λ r. MatchOption r ((hand_in p m s ≡ None) × (c.take.new.self ≡ s))
-        (λ d. (hand_in p m s ≡ Some d.cells) × (d.mode ≡ m) × (c.take.new.self ≡ handed p m s))) c.in-Some.is c.in_ok-content.ensures.got in
+    subst (λ r. MatchOption r ((hand_in p m s ≡ None) × (c.take.new.self ≡ s))
+    (λ d. (hand_in p m s ≡ Some d.cells) × (d.mode ≡ m) × (c.take.new.self ≡ handed p m s))) c.in-Some.is c.in_ok-content.ensures.got in
     ap is_some c.hold.ensures ∙ taken-out p m s.queue s.home c.args.hand.now c.in-Some.content c.in_ok-before.before.version got.0 got.1
-        c.in_ok-before.ensures.before c.requires.out ∙ sym (ap (λ (t : ShelfView). is_out t.queue) got.2)
+    c.in_ok-before.ensures.before c.requires.out ∙ sym (ap (λ (t : ShelfView). is_out t.queue) got.2)

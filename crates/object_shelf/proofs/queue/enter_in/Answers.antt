@@ -13,15 +13,15 @@ pub returns-then-place-len-clause-done : goal.returns-then-place-len-clause-done
 returns-then-place-len-clause-done c =
     let es = c.args.rows.now.items in
     fitted-out c.args.parent.now c.args.child.now c.args.rights es
-        (fits-past c.args.parent.now c.args.child.now es
-        (subst (λ m. length es ≤ m) c.place_of-place.ensures (omega (arith, c.len.ensures, c.if-place-len.true))))
+    (fits-past c.args.parent.now c.args.child.now es
+    (subst (λ m. length es ≤ m) c.place_of-place.ensures (omega (arith, c.len.ensures, c.if-place-len.true))))
 
 pub returns-then-not-fits_at-clause-done : goal.returns-then-not-fits_at-clause-done
 returns-then-not-fits_at-clause-done c =
     let es = c.args.rows.now.items in
     fitted-out c.args.parent.now c.args.child.now c.args.rights es
-        (sym (there c.args.parent.now c.args.child.now es c.place_of-place.result c.requires c.place_of-place.ensures
-        (omega (arith, c.len.ensures, c.if-place-len.false))) ∙ sym c.fits_at.ensures ∙ c.if-not-fits_at.true)
+    (sym (there c.args.parent.now c.args.child.now es c.place_of-place.result c.requires c.place_of-place.ensures
+    (omega (arith, c.len.ensures, c.if-place-len.false))) ∙ sym c.fits_at.ensures ∙ c.if-not-fits_at.true)
 
 pub returns-clause-done : goal.returns-clause-done
 returns-clause-done c =
@@ -30,9 +30,9 @@ returns-clause-done c =
     let es = c.args.rows.now.items in
     let lt : c.place_of-place.result < length es = omega (arith, c.len.ensures, c.if-place-len.false) in
     let f : fits p k es ≡ true = sym (there p k es c.place_of-place.result c.requires c.place_of-place.ensures lt) ∙ sym c.fits_at.ensures ∙
-        c.if-not-fits_at.false in
+    c.if-not-fits_at.false in
     c.in_ok-insert.ensures.done ∙ entered-into p k c.args.rights es c.place_of-place.result c.index.result.now c.in_ok-entry.entry c.place_of-place.ensures lt
-        c.index.ensures c.in_ok-entry.ensures ∙ sym (fitted-in p k c.args.rights es f)
+    c.index.ensures c.in_ok-entry.ensures ∙ sym (fitted-in p k c.args.rights es f)
 
 pub returns-clause-ordered : goal.returns-clause-ordered
 returns-clause-ordered c =
@@ -41,5 +41,5 @@ returns-clause-ordered c =
     let es = c.args.rows.now.items in
     let lt : c.place_of-place.result < length es = omega (arith, c.len.ensures, c.if-place-len.false) in
     let f : fits p k es ≡ true = sym (there p k es c.place_of-place.result c.requires c.place_of-place.ensures lt) ∙ sym c.fits_at.ensures ∙
-        c.if-not-fits_at.false in
+    c.if-not-fits_at.false in
     ap is_ordered (returns-clause-done c ∙ fitted-in p k c.args.rights es f) ∙ entered-ordered p k c.args.rights es c.requires f

@@ -7,7 +7,7 @@ use Rattle.object_shelf.proofs.queue.place_of.Goals.{else-place-len-via-then-pla
 pub returns-then-same_path : goal.returns-then-same_path
 returns-then-same_path c =
     found c.args.path.now c.args.rows.now.items c.rank_of-place.result c.index.result.now c.rank_of-place.ensures
-        (omega (arith, c.len.ensures, c.if-place-len.true)) c.index.ensures (sym c.same_path.ensures ∙ c.if-same_path.true)
+    (omega (arith, c.len.ensures, c.if-place-len.true)) c.index.ensures (sym c.same_path.ensures ∙ c.if-same_path.true)
 
 pub returns : goal.returns
 returns c = let m : length c.args.rows.now.items ≡ place_in c.args.path.now c.args.rows.now.items = elim c.else-place-len.branch [
