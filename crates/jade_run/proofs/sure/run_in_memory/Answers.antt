@@ -4,5 +4,10 @@ use Rattle.jade_run.proofs.sure.run_in_memory.Goals as goal
 
 pub returns : goal.returns
 returns g c =
-    completes c.one_outcome.ensures c.args.words.now c.args.source.now c.args.sink.now.room c.jade_main.result _ _ refl refl refl refl
-    c.jade_main.ensures.headline
+    let said = c.jade_main.ensures in
+    record {
+      completes =
+          completes c.one_outcome.ensures c.args.words.now c.args.source.now c.args.sink.now.room c.jade_main.result _ _ refl refl refl refl said.headline;
+      unread = λ refused. (said.unread refused).0;
+      headline = said.headline;
+    }
