@@ -2,7 +2,8 @@
 
 ghost use Rattle.std.specs.Prelude.{◌≡◌, ◌+◌, ◌≤◌};
 ghost use Rattle.jade_syntax.specs.Abstract.{Cell};
-ghost use Rattle.jade_syntax.specs.Image.{expression, and_expression, compare_expression, sum_expression, product_expression, unary_expression, atom_expression, reference, placed, member};
+ghost use Rattle.jade_syntax.specs.Image.{expression, and_expression, compare_expression, sum_expression, product_expression, unary_expression};
+ghost use Rattle.jade_syntax.specs.Image.{atom_expression, reference, placed, member};
 ghost use Rattle.jade_meaning.specs.steps.Direct.{worth, located, blame_at, member_of, index_in, indexed};
 ghost use Rattle.jade_meaning.specs.steps.Evaluation.{evaluated, source, evaluate, evaluate_object, evaluate_read};
 
@@ -280,7 +281,8 @@ impl<'c> Setting<'c> {
         used: &mut usize,
         e: &CellRef,
     ) -> Result<Value, Pause>
-        ensures { evaluated result used.new ≡ evaluate self.now.items task.now.scope task.now.spec (source cells.now) (Cell (reference e.now).place (reference e.now).cell) used.old }
+        ensures { evaluated result used.new
+            ≡ evaluate self.now.items task.now.scope task.now.spec (source cells.now) (Cell (reference e.now).place (reference e.now).cell) used.old }
     {
         let found = match self.evaluate_object(task, cells, used, &e.name, e.pos, &e.family) {
             Ok(found) => found,
@@ -307,7 +309,8 @@ impl<'c> Setting<'c> {
         at: Pos,
         family: &Option<Expr>,
     ) -> Result<ResolvedObject, Pause>
-        ensures { evaluated result used.new ≡ evaluate_object self.now.items task.now.scope task.now.spec (source cells.now) (placed name.now at (member family.now)) used.old }
+        ensures { evaluated result used.new
+            ≡ evaluate_object self.now.items task.now.scope task.now.spec (source cells.now) (placed name.now at (member family.now)) used.old }
     {
         let range = self.items.range(name);
         match family {

@@ -88,7 +88,16 @@ impl<'c> Model for Walker<'c> {
     ghost use Rattle.jade_meaning.specs.steps.Perform.{shown};
     ghost use Rattle.jade_meaning.specs.steps.Agreement.{AgreesWithTalk};
 
-    ghost view = { λ w. record { items = w.setting.items; given = w.setting.given; limit = w.setting.limit; env = w.scope; spec = w.spec; body = w.body.now; answers = w.answers.items; done = w.done } };
+    ghost view = { λ w. record {
+      items = w.setting.items;
+      given = w.setting.given;
+      limit = w.setting.limit;
+      env = w.scope;
+      spec = w.spec;
+      body = w.body.now;
+      answers = w.answers.items;
+      done = w.done;
+    } };
 
     ghost invariant = { λ w. AgreesWithTalk (shown w.setting) w.scope w.spec w.body.now w.answers.items w.done w.told w.configuration };
 }

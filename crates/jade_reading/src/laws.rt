@@ -41,7 +41,8 @@ pub fn one_tree()
 /// A law of programs, which does nothing: programs that are spelled alike are the same tree but
 /// for places.
 pub fn one_tree_but_for_places()
-    ensures { (p q : Program) → IsProgram p → IsProgram q → bytes_of (program_parts p) ≡ bytes_of (program_parts q) → unplaced (placed_program p) ≡ unplaced (placed_program q) }
+    ensures { (p q : Program) → IsProgram p → IsProgram q → bytes_of (program_parts p) ≡ bytes_of (program_parts q)
+        → unplaced (placed_program p) ≡ unplaced (placed_program q) }
 {}
 
 /// A law of programs, which does nothing: the rules of shape count the tokens of a program, and
@@ -56,13 +57,15 @@ pub fn shape_of_program()
 /// A law of refusals, which does nothing: tokens that spell a program of the grammar with no
 /// outermost expression too long are not refused, wherever they stand.
 pub fn spelled_is_not_refused()
-    ensures { (tokens : TokenList) (p : Program) (e : ParseError) → IsProgram p → AllShort (program_parts p) → bytes_of (program_parts p) ≡ texts tokens → IsRefusal tokens e → IsMemory e }
+    ensures { (tokens : TokenList) (p : Program) (e : ParseError) → IsProgram p → AllShort (program_parts p) → bytes_of (program_parts p) ≡ texts tokens
+        → IsRefusal tokens e → IsMemory e }
 {}
 
 /// A law of texts, which does nothing: a program that a text of at most 1,048,576 bytes reads as
 /// keeps the rules of shape, with its brackets at most 64 deep.
 pub fn read_is_shaped()
-    ensures { (text : List ℕ) (tokens : TokenList) (p : Program) → length text ≤ 1048576 → reading text ≡ Whole tokens → IsReading tokens p → is_shaped p ≡ true }
+    ensures { (text : List ℕ) (tokens : TokenList) (p : Program) → length text ≤ 1048576 → reading text ≡ Whole tokens → IsReading tokens p
+        → is_shaped p ≡ true }
 {
     reading_is_cut();
 }
