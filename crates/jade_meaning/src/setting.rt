@@ -1,6 +1,7 @@
 //! What every task of a run has, what a task has of its own, and the values of expressions.
 
 ghost use Rattle.std.specs.Prelude.{◌≡◌, ◌+◌, ◌≤◌};
+ghost use Rattle.jade_syntax.specs.declared.objects.TheConstants.{OBJECT_LIMIT};
 ghost use Rattle.jade_syntax.specs.Abstract.{Cell};
 ghost use Rattle.jade_syntax.specs.Image.{expression, and_expression, compare_expression, sum_expression, product_expression, unary_expression};
 ghost use Rattle.jade_syntax.specs.Image.{atom_expression, reference, placed, member};
@@ -9,7 +10,7 @@ ghost use Rattle.jade_meaning.specs.steps.Evaluation.{evaluated, source, evaluat
 
 use crate::dense_spec::DenseSpec;
 use crate::draft::Draft;
-use crate::resolve::{Declared, Range, ResolvedObject};
+use crate::resolve::{DeclaredItems, Range, ResolvedObject};
 use crate::run_state::Store;
 use crate::scope::Scope;
 use crate::source::{Cells, Pause};
@@ -34,7 +35,7 @@ pub(crate) struct Task<'c> {
 #[derive(Drop)]
 pub(crate) struct Setting<'c> {
     pub(crate) alloc: Global,
-    pub(crate) items: Declared<'c>,
+    pub(crate) items: DeclaredItems<'c>,
     pub(crate) given: Scope<'c>,
     pub(crate) limit: u32,
 }
@@ -51,7 +52,7 @@ pub(crate) fn blame_at(kind: FaultKind, at: Pos) -> Blame
 
 /// A member of a family, or the fault `object`.
 fn member_of(range: Range, index: i64, at: Pos) -> Result<ResolvedObject, Blame>
-    requires { range.first + range.count ≤ 4096 }
+    requires { range.first + range.count ≤ OBJECT_LIMIT }
     ensures { result ≡ member_of range index at }
 {
     match index_below(index, range.count) {
