@@ -1,6 +1,6 @@
 -- A task that is walked, event by event.
-use Rattle.std.proofs.Common.{◌≡◌, ℕ, zero, suc, ◌+◌, ◌≤◌, true, false, List, [], ◌∷◌, ◌++◌, map, length, refl, ap, sym, ◌∙◌, subst, append_assoc, append-nil, drop}
-use Rattle.std.proofs.Common.{Option, Some, None, ◌<◌, arith, add-one}
+use Rattle.std.proofs.Common.{◌≡◌, ℕ, zero, suc, ◌+◌, ◌≤◌, true, false, List, [], ◌∷◌, ◌++◌, map, length, refl, ap, sym, ◌∙◌, subst, append_assoc, drop}
+use Rattle.std.proofs.Common.{append-nil, Option, Some, None, ◌<◌, arith, add-one}
 use Rattle.std.specs.Prelude.{ℤ, slice_get}
 use Rattle.std.proofs.lemmas.List.{drop_all, drop-append-le}
 use Rattle.jade_base.specs.declared.place.ObjectId.{ObjectId}

@@ -50,6 +50,8 @@ impl<'c> Plan<'c> {
         ensures count { result ≡ length (sizes self.now.program.items) }
         ensures limits { within_limits self.now.program.items ≡ true }
     {
+        // The tree of a checked program keeps the limits.
+        let _program = self.checked.program();
         self.checked.objects()
     }
 

@@ -18,7 +18,9 @@ use Rattle.jade_syntax.specs.declared.tree.Sum.{Sum, out-Sum, fold_out-Sum}
 use Rattle.jade_syntax.specs.declared.tree.SumOp.{SumOp}
 use Rattle.jade_syntax.specs.declared.tree.Unary.{Unary, fold_out-Unary}
 use Rattle.jade_syntax.specs.Measured.{capped, Measures}
-use Rattle.jade_syntax.specs.Shapes.{nothing, signs, name_extent, ◌⊕◌, all_of, in_brackets, at_atom, at_and, at_cell, at_compare, at_expr, at_product, at_sum, at_unary, expr_extent, and_extent, compare_extent, sum_extent, product_extent, unary_extent, atom_extent, cell_extent, inner_index, statement_extent, at_statement}
+use Rattle.jade_syntax.specs.Shapes.{nothing, signs, name_extent, ◌⊕◌, all_of, in_brackets, at_atom, at_and, at_cell, at_compare, at_expr, at_product, at_sum}
+use Rattle.jade_syntax.specs.Shapes.{at_unary, expr_extent, and_extent, compare_extent, sum_extent, product_extent, unary_extent, atom_extent, cell_extent}
+use Rattle.jade_syntax.specs.Shapes.{inner_index, statement_extent, at_statement}
 
 abbrev pub or_link : Pos × AndExpr → Extent
 or_link p = signs 1 ⊕ and_extent p.1
