@@ -4,8 +4,6 @@ ghost use Rattle.std.specs.Prelude.{◌≡◌, ℕ, ◌≤◌, true, List, lengt
 ghost use Rattle.jade_lexer.specs.Lexemes.{TokenList};
 ghost use Rattle.jade_lexer.specs.Reading.{reading, Whole};
 ghost use Rattle.jade_syntax.specs.declared.tree.Program.{Program};
-ghost use Rattle.jade_syntax.specs.Erased.{erased_program};
-ghost use Rattle.jade_syntax.specs.Image.{program};
 ghost use Rattle.jade_syntax.specs.PlacedImage.{placed_program};
 ghost use Rattle.jade_syntax.specs.Shapes.{program_extent, is_shaped};
 ghost use Rattle.jade_layout.specs.Spelling.{spelling};
@@ -19,12 +17,6 @@ ghost use Rattle.jade_reading.specs.ReadingBack.{ReadsBack};
 
 use jade_layout::laws::layout_is_read;
 use jade_lexer::laws::reading_is_cut;
-
-/// A law of programs, which does nothing: a program with all places, less the places that its
-/// meaning does not need, is its abstract syntax.
-pub fn erased_is_program()
-    ensures { (p : Program) → erased_program (placed_program p) ≡ program p }
-{}
 
 /// A law of programs, which does nothing: the tokens that the grammar gives a program are those of
 /// its printed layout.

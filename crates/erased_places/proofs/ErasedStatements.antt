@@ -16,7 +16,7 @@ use Rattle.jade_syntax.specs.PlacedImage.{term, phrase, phrases, placed_program}
 use Rattle.jade_syntax.specs.Image as image
 use Rattle.jade_syntax.specs.Image.{Reference as Plain, expression, action, actions, program}
 use Rattle.jade_syntax.specs.Erased.{erased, erased_object, erased_phrase, erased_phrases, erased_program}
-use Rattle.jade_reading.proofs.ErasedTerms.{map_same, expr_erased, cell_erased}
+use Rattle.erased_places.proofs.ErasedTerms.{map_same, expr_erased, cell_erased}
 
 object_erased : (o : ObjectRef) → erased_object (placed.object o) ≡ image.object o
 object_erased o = of o.member
