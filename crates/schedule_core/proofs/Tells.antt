@@ -111,10 +111,10 @@ data HasOut (o : ℕ) (p : Path) : List Live → Type 0 where
   here : (t : Live) (ts : List Live) → t.path ≡ p → is_writing (t.held o) ≡ true → HasOut o p (t ∷ ts)
   later : (t : Live) (ts : List Live) → HasOut o p ts → HasOut o p (t ∷ ts)
 
-some_entry : (d e : Entry) → ◌≡◌ {A = Option Entry} (Some d) (Some e) → d ≡ e
+pub some_entry : (d e : Entry) → ◌≡◌ {A = Option Entry} (Some d) (Some e) → d ≡ e
 some_entry d e q = cc
 
-find_both : (p : Path) (es fs : List Entry) (d : Entry) → find p (es ++ fs) ≡ Some d → (find p es ≡ Some d) ⊎ (find p fs ≡ Some d)
+pub find_both : (p : Path) (es fs : List Entry) (d : Entry) → find p (es ++ fs) ≡ Some d → (find p es ≡ Some d) ⊎ (find p fs ≡ Some d)
 find_both p [] fs d h = inr h
 find_both p (e ∷ es) fs d h = go (find_both p es fs d) (same_path p e.path) refl
   where
@@ -126,7 +126,7 @@ find_both p (e ∷ es) fs d h = go (find_both p es fs d) (same_path p e.path) re
         turn (inl x) = inl (ap (λ b. if b then Some e else find p es) q ∙ x)
         turn (inr x) = inr x
 
-takes_writing : (h : Option Mode) → takes_out h ≡ true → is_writing h ≡ true
+pub takes_writing : (h : Option Mode) → takes_out h ≡ true → is_writing h ≡ true
 takes_writing None e = absurd (cc)
 takes_writing (Some Reading) e = absurd (cc)
 takes_writing (Some Writing) e = refl
@@ -210,12 +210,12 @@ pairs_lone o [] fits h = tt
 pairs_lone o (t ∷ ts) fits h = (every_lone o t ts fits.0 h.0, pairs_lone o ts fits.1 h.1)
 
 -- a path is not that of a child
-longer : (p : Path) (k : ℕ) → p ≡ p ++ k ∷ [] → ⊥
+pub longer : (p : Path) (k : ℕ) → p ≡ p ++ k ∷ [] → ⊥
 longer [] k e = absurd (cc)
 longer (i ∷ p) k e = longer p k (let f : p ≡ p ++ k ∷ [] = cc in f)
 
 -- a task's own entry
-own_found : (o : ℕ) (b l : List Live) (t : Live) → Pairs Apart (b ++ (t ∷ l)) → touches (t.rights o) ≡ true
+pub own_found : (o : ℕ) (b l : List Live) (t : Live) → Pairs Apart (b ++ (t ∷ l)) → touches (t.rights o) ≡ true
     → find t.path (line o (b ++ (t ∷ l))) ≡ Some (record { path = t.path; rights = t.rights o; hold = t.held o; version = t.versions o })
 own_found o b l t far x =
     let front = line_away t.path o b (every_with (λ z. Apart z t) (λ z. Away t.path (slots o z)) (λ z g. before_away o t z g) b (pairs_front Apart b t l far)) in
@@ -224,11 +224,11 @@ own_found o b l t far x =
     ap (find t.path) (line_both o b (t ∷ l)) ∙ find_away t.path (line o b) (line o (t ∷ l)) front ∙ ap (find t.path) (append_assoc born mine (line o l)) ∙ find_away t.path born (mine ++ line o l) (born_away t.path t.doing.course o t (longer t.path t.part)) ∙ find_own t.path (t.rights o) (t.held o) (t.versions o) (line o l) x
 
 -- a task's next event is pending
-record Heads (t : Live) (e : Event) : Type 0 where
-  rest : List Event
-  is : t.doing.pending ≡ e ∷ rest
+pub record Heads (t : Live) (e : Event) : Type 0 where
+  pub rest : List Event
+  pub is : t.doing.pending ≡ e ∷ rest
 
-take_heads : (t : Live) (o : ℕ) (m : Mode) → First (to_come t.doing []) (λ x. x ≡ Take o m) → Heads t (Take o m)
+pub take_heads : (t : Live) (o : ℕ) (m : Mode) → First (to_come t.doing []) (λ x. x ≡ Take o m) → Heads t (Take o m)
 take_heads t o m h = go t.doing.pending refl h
   where
     deed : (c : Course) → First (from_deed c t.doing.spec t.doing.plan t.doing.steps []) (λ x. x ≡ Take o m) → Heads t (Take o m)
@@ -258,7 +258,7 @@ write_holds t o c v order h = go t.doing.pending t.doing.course order h
     go [] c' order h = deed c' order.1 h
     go (e ∷ es) c' order h = absurd (subst (λ x. Orderly t.doing.spec t.doing.plan c' (x ∷ es) t.rights t.held) h order)
 
-read_holds : (t : Live) (o c : ℕ) → Orderly t.doing.spec t.doing.plan t.doing.course t.doing.pending t.rights t.held → First (to_come t.doing []) (λ x. x ≡ Wants o c) → is_some (t.held o) ≡ true
+pub read_holds : (t : Live) (o c : ℕ) → Orderly t.doing.spec t.doing.plan t.doing.course t.doing.pending t.rights t.held → First (to_come t.doing []) (λ x. x ≡ Wants o c) → is_some (t.held o) ≡ true
 read_holds t o c order h = go t.doing.pending t.doing.course order h
   where
     deed : (c' : Course) → Ready t.held c' → First (from_deed c' t.doing.spec t.doing.plan t.doing.steps []) (λ x. x ≡ Wants o c) → is_some (t.held o) ≡ true
@@ -424,7 +424,7 @@ no_deed (Leave o) = true
 no_deed (Shift o a) = true
 no_deed (Resign b n) = false
 
-heads : (t : Live) (e : Event) → no_deed e ≡ true → First (to_come t.doing []) (λ x. x ≡ e) → Heads t e
+pub heads : (t : Live) (e : Event) → no_deed e ≡ true → First (to_come t.doing []) (λ x. x ≡ e) → Heads t e
 heads t e quiet h = go t.doing.pending refl h
   where
     never : (x : Event) → no_deed x ≡ false → x ≡ e → Heads t e
@@ -472,17 +472,17 @@ may_give o b l t far lone fits first =
     }
 
 -- no entry of the next child
-find_none : (p : Path) (es : List Entry) → Away p es → find p es ≡ None
+pub find_none : (p : Path) (es : List Entry) → Away p es → find p es ≡ None
 find_none p [] h = refl
 find_none p (e ∷ es) h = ap (λ b. if b then Some e else find p es) h.0.there ∙ find_none p es h.1
 
-kid_before : (o : ℕ) (t s : Live) → Apart s t → Away (t.path ++ t.part ∷ []) (slots o s)
+pub kid_before : (o : ℕ) (t s : Live) → Apart s t → Away (t.path ++ t.part ∷ []) (slots o s)
 kid_before o t s far =
     let kid = t.path ++ t.part ∷ [] in
     let mine : Within t.path t.part kid = record { rest = t.part ∷ []; is = refl; from = omega arith } in
     slots_away kid o s (λ e. far kid (record { rest = []; is = e ∙ sym (append-nil s.path); from = tt }) mine) (λ e. far kid (record { rest = s.part ∷ []; is = e; from = omega arith }) mine)
 
-kid_after : (o : ℕ) (t u : Live) → Apart t u → Away (t.path ++ t.part ∷ []) (slots o u)
+pub kid_after : (o : ℕ) (t u : Live) → Apart t u → Away (t.path ++ t.part ∷ []) (slots o u)
 kid_after o t u far =
     let kid = t.path ++ t.part ∷ [] in
     let mine : Within t.path t.part kid = record { rest = t.part ∷ []; is = refl; from = omega arith } in
