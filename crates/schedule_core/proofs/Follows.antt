@@ -10,13 +10,14 @@ use Rattle.jade_meaning.specs.Serial.{Mark, Path, Store, Deed, DidRead, DidWrite
 use Rattle.jade_meaning.specs.Laws.{Every, deeds, deed_of, child_path}
 use Rattle.jade_meaning.specs.Walks.{Walk}
 use Rattle.jade_meaning.specs.Walk.{First, task_of, moved, IsChildOf}
+use Rattle.jade_meaning.specs.Doing.{Doing, from_deed}
 use Rattle.object_shelf.specs.Views.{ObjectView}
 use Rattle.schedule_core.specs.declared.steps.Seat.{Seat}
-use Rattle.schedule_core.specs.Core.{Bare, Cells, Doing, mark, value_in, content_for, going_on, child_of, quietly, with_pending}
+use Rattle.schedule_core.specs.Core.{Bare, Cells, mark, value_in, content_for, going_on, child_of, quietly, with_pending}
 use Rattle.schedule_core.specs.Unplaced.{Live, event_done, deed_done}
 use Rattle.schedule_core.specs.Sound.{Orderly}
 use Rattle.schedule_core.specs.Plain.{seat_after, value_at, seated_child, Does}
-use Rattle.schedule_core.specs.Shown.{from_deed, Sits, Seated}
+use Rattle.schedule_core.specs.Shown.{Sits, Seated}
 use Rattle.schedule_core.specs.Serially.{IsTask, is_created}
 use Rattle.schedule_core.proofs.Walks.{Walks, walks_start, walks_quiet, walks_read, walks_write, walks_create}
 use Rattle.schedule_core.proofs.Showing.{path_same}

@@ -14,25 +14,26 @@ use Rattle.jade_syntax.specs.Objects.{sizes}
 use Rattle.jade_meaning.specs.Specification.{rights_on}
 use Rattle.jade_meaning.specs.Course.{Course, Reads, Writes, Steps, Creates, Changes, Ends, root_spec, root_course}
 use Rattle.jade_meaning.specs.Talk.{Event, Take, Wants, talk}
-use Rattle.jade_meaning.specs.Serial.{Path, Store, Mark, Deed, DidRead, DidWrite, DidCreate, DidEnd, serial, own, under, after, cell, with_cell, deeds_at, reads_at, read_of, serial_run, zeros, same_path}
+use Rattle.jade_meaning.specs.Serial.{Path, Store, Mark, Deed, DidRead, DidWrite, DidCreate, DidEnd, serial, own, under, after, cell, with_cell, deeds_at, reads_at, read_of, serial_run, zeros, same_path, at_object}
 use Rattle.jade_meaning.specs.Laws.{Every, deeds, child_path, root_task}
 use Rattle.jade_meaning.specs.Proper.{Proper}
 use Rattle.jade_meaning.specs.Report.{ReportAscends}
 use Rattle.jade_meaning.specs.Answer.{PartsStandByKey}
 use Rattle.jade_meaning.specs.Walk.{upcoming, First, task_of}
+use Rattle.jade_meaning.specs.Doing.{to_come}
 use Rattle.object_shelf.specs.declared.queue.Entry.{Entry}
 use Rattle.object_shelf.specs.Views.{ObjectView}
 use Rattle.object_shelf.specs.Shelves.{find, keeper_in, version_of}
 use Rattle.object_shelf.specs.Shelves as shelves
 use Rattle.schedule_core.specs.declared.steps.Seat.{Seat}
 use Rattle.schedule_core.specs.declared.notes.PartNote.{PartNote}
-use Rattle.schedule_core.specs.Core.{Cells, below, content_for, value_in, at_object, touches, enters_still, handed_on, all_allow, if_read_only, version_or, changes}
+use Rattle.schedule_core.specs.Core.{Cells, below, content_for, value_in, touches, enters_still, handed_on, all_allow, if_read_only, version_or, changes}
 use Rattle.schedule_core.specs.Unplaced.{Live, State}
 use Rattle.schedule_core.specs.Sited as sited
 use Rattle.schedule_core.specs.Sound.{Sound, Sees, Fit, Apart, Pairs, Within, Orderly, Lessened, left, all_left}
 use Rattle.schedule_core.specs.More.{Placed}
 use Rattle.schedule_core.specs.Plain.{Reached, value_at}
-use Rattle.schedule_core.specs.Shown.{slot, born_slots, slots, line, shelf_at, to_come}
+use Rattle.schedule_core.specs.Shown.{slot, born_slots, slots, line, shelf_at}
 use Rattle.schedule_core.specs.Serially.{at_deed, events_done, store_at, child_store, ContentsAreSerial, IsTask, Begins, TasksAreSerial}
 use Rattle.schedule_core.proofs.Showing.{Away, Elsewhere, path_same, born_away, slot_away, before_away, after_away, line_away, line_both, free_is, keeper_none}
 use Rattle.schedule_core.proofs.Lines.{every_with, every_front, every_back, every_append, pairs_front, pairs_back, come, see_at}

@@ -33,9 +33,10 @@ use Rattle.object_shelf.specs.Whole.{is_out}
 use Rattle.object_shelf.proofs.Order.{same-is as same_is}
 use Rattle.jade_meaning.specs.Talk.{Event, Enter, Enroll, Take, TouchRead, TouchWrite, Wants, Give, Leave, Shift, Resign}
 use Rattle.jade_meaning.specs.Walk.{upcoming, First}
+use Rattle.jade_meaning.specs.Doing.{from_deed, to_come}
 use Rattle.jade_syntax.specs.declared.tree.Program.{Program}
 use Rattle.schedule_core.specs.Core.{all_allow, allows}
-use Rattle.schedule_core.specs.Shown.{from_deed, to_come, Sits}
+use Rattle.schedule_core.specs.Shown.{Sits}
 use Rattle.schedule_core.specs.Sound.{Orderly, Ready}
 use Rattle.schedule_core.proofs.Showing.{Away, Elsewhere, born_away, slot_away, slots_away, before_away, line_away, line_both, at_away, free_is, keeper_none}
 use Rattle.schedule_core.proofs.Moves.{ahead_is}
