@@ -27,7 +27,8 @@ use Rattle.schedule_core.specs.Plain.{Reached}
 use Rattle.schedule_core.specs.Shown.{slot, born_slots, slots, line, shelf_at, Seated}
 use Rattle.schedule_core.specs.Mirror.{CoreShows, Mirror}
 use Rattle.schedule_core.specs.Tells.{CoreTells}
-use Rattle.schedule_core.specs.Queued.{InSerialOrder, ReadsBefore, HeldAlone}
+use Rattle.schedule_core.specs.Queued.{Owner, EntriesAreOwned, InSerialOrder, ReadsBefore, HeldAlone}
+use Rattle.schedule_core.proofs.Lines.{every_append, every_with}
 use Rattle.schedule_core.proofs.Order.{earlier, stands, before_child, child_before, child_first}
 use Rattle.schedule_core.proofs.Bare.{Trim, trim}
 use Rattle.schedule_core.proofs.Holds.{held_with}
@@ -146,6 +147,48 @@ seats_ordered (x ∷ seats) (t ∷ ts) h g zero (suc j) s u a b lt =
     ap (λ p. stands_before p u.path) (ap (λ (z : Seat). z.path) (sym same) ∙ sym h.0.path) ∙ seats_behind t.path seats ts h.1 g.0 j u b
 seats_ordered (x ∷ seats) (t ∷ ts) h g (suc i) zero s u a b lt = absurd (omega arith)
 seats_ordered (x ∷ seats) (t ∷ ts) h g (suc i) (suc j) s u a b lt = seats_ordered seats ts h.1 g.1 i j s u a b (omega arith)
+
+-- entries and their tasks
+owner_later : (s : Seat) (seats : List Seat) (e : Entry) → Owner seats e.path → Owner (s ∷ seats) e.path
+owner_later s seats e x = record { place = suc x.place; seat = x.seat; live = x.live; own = x.own }
+
+abbrev Owned : List Seat → Entry → Type 0
+Owned seats e = Owner seats e.path
+
+slot_owned : (seats : List Seat) (q : Path) (a : Rights) (h : Option Mode) (v : Option Cells) → Owner seats q → Every (Owned seats) (slot q a h v)
+slot_owned seats q a h v x = go (touches a)
+  where
+    go : (b : Bool) → Every (Owned seats) (if b then record { path = q; rights = a; hold = h; version = v } ∷ [] else [])
+    go true = (x, tt)
+    go false = tt
+
+born_owned : (seats : List Seat) (c : Course) (o : ℕ) (t : Live) → Owner seats (t.path ++ t.part ∷ []) → Every (Owned seats) (born_slots c o t)
+born_owned seats (Creates child body on) o t x = go (enters_still o t.doing.pending)
+  where
+    go : (b : Bool) → Every (Owned seats) (if b then [] else slot (t.path ++ t.part ∷ []) (rights_on child o) None (handed_on t o))
+    go true = tt
+    go false = slot_owned seats (t.path ++ t.part ∷ []) (rights_on child o) None (handed_on t o) x
+born_owned seats (Reads q c on) o t x = tt
+born_owned seats (Writes q c v on) o t x = tt
+born_owned seats (Steps on) o t x = tt
+born_owned seats (Changes new on) o t x = tt
+born_owned seats (Ends b) o t x = tt
+
+line_owned : (o : ℕ) (seats : List Seat) (ts : List Live) → Seated seats ts → Every (Owned seats) (line o ts)
+line_owned o [] [] h = tt
+line_owned o [] (t ∷ ts) h = absurd h
+line_owned o (s ∷ seats) [] h = absurd h
+line_owned o (s ∷ seats) (t ∷ ts) h =
+    let kid : t.path ++ t.part ∷ [] ≡ s.path ++ s.children ∷ [] = ap (λ p. p ++ t.part ∷ []) h.0.path ∙ ap (λ k. s.path ++ k ∷ []) h.0.part in
+    let young : Owner (s ∷ seats) (t.path ++ t.part ∷ []) = record { place = 0; seat = s; live = refl; own = inr kid } in
+    let mine : Owner (s ∷ seats) t.path = record { place = 0; seat = s; live = refl; own = inl h.0.path } in
+    let own = every_append (Owned (s ∷ seats)) (born_slots t.doing.course o t) (slot t.path (t.rights o) (t.held o) (t.versions o)) (born_owned (s ∷ seats) t.doing.course o t young) (slot_owned (s ∷ seats) t.path (t.rights o) (t.held o) (t.versions o) mine) in
+    every_append (Owned (s ∷ seats)) (slots o t) (line o ts) own (every_with (Owned seats) (Owned (s ∷ seats)) (λ e x. owner_later s seats e x) (line o ts) (line_owned o seats ts h.1))
+
+entry_get : (P : Entry → Type 0) (es : List Entry) (j : ℕ) (e : Entry) → Every P es → slice_get es j ≡ Some e → P e
+entry_get P [] j e h q = absurd (cc)
+entry_get P (x ∷ es) zero e h q = subst P (some_entry x e q) h.0
+entry_get P (x ∷ es) (suc j) e h q = entry_get P es j e h.1 q
 
 -- a live task of the path holds the object, with this entry
 data Holds_as (o : ℕ) (p : Path) (d : Entry) : List Live → Type 0 where
@@ -267,6 +310,11 @@ module _ (p : Program) (ns : List ℤ) (limit : ℕ) (shows : CoreShows p ns lim
   in_serial_order = record {
     tasks = λ k roll ss notes r i j s t a b lt. let m = shows.mirror k roll ss notes r in seats_ordered roll m.state.roll m.shown.seated (order p ns limit shows roll ss m) i j s t a b lt;
     queues = λ k roll ss notes r. queue_of p ns limit shows roll ss (shows.mirror k roll ss notes r);
+  }
+
+  pub entries_are_owned : EntriesAreOwned p ns limit
+  entries_are_owned = record {
+    owner = λ k roll ss notes r o j e q. let m = shows.mirror k roll ss notes r in entry_get (Owned roll) (line o m.state.roll) j e (line_owned o roll m.state.roll m.shown.seated) (ap (λ (x : ObjectView). slice_get x.queue j) (sym (m.shown.shelves o)) ∙ q);
   }
 
   pub held_alone : CoreTells p ns limit → HeldAlone p ns limit

@@ -1,9 +1,10 @@
 -- How the entries of an object stand to each other, in words of plain data alone.
-use Rattle.std.specs.Prelude.{◌≡◌, ◌≢◌, ◌<◌, ℕ, true, false, List, Option, Some, None, ℤ, slice_get, is_some}
+use Rattle.std.specs.Prelude.{◌≡◌, ◌≢◌, ◌<◌, ◌⊎◌, ℕ, true, false, List, Option, Some, None, ℤ, slice_get, is_some}
 use Rattle.jade_base.specs.declared.rights.Mode.{Mode}
 use Rattle.jade_base.specs.declared.rights.Mode.TheVariants.{Reading, Commuting}
 use Rattle.jade_syntax.specs.declared.tree.Program.{Program}
 use Rattle.jade_meaning.specs.Talk.{Event, Enter, Enroll, Take, TouchRead, TouchWrite, Wants, Give, Leave, Shift, Resign}
+use Rattle.jade_meaning.specs.Laws.{child_path}
 use Rattle.object_shelf.specs.declared.queue.Entry.{Entry}
 use Rattle.object_shelf.specs.Views.{ObjectView}
 use Rattle.object_shelf.specs.Shelves.{same_path, find, changes, takes_out, blocker_in, keeper_in}
@@ -19,6 +20,18 @@ pub record InSerialOrder (p : Program) (ns : List ℤ) (limit : ℕ) : Type 0 wh
       → (i j : ℕ) (s t : Seat) → slice_get roll i ≡ Some s → slice_get roll j ≡ Some t → i < j → stands_before s.path t.path ≡ true
   pub queues : (k : ℕ) (roll : List Seat) (ss : List ObjectView) (notes : List PartNote) → Reached p ns limit k roll ss notes
       → (o : ℕ) → is_ordered (shelf_at ss o).queue ≡ true
+
+-- a live task whose own entry, or whose next child's, has this path
+pub record Owner (roll : List Seat) (p : List ℕ) : Type 0 where
+  pub place : ℕ
+  pub seat : Seat
+  pub live : slice_get roll place ≡ Some seat
+  pub own : (p ≡ seat.path) ⊎ (p ≡ child_path seat.path seat.children)
+
+-- Each entry is that of a live task, or of the child that a live task is about to make.
+pub record EntriesAreOwned (p : Program) (ns : List ℤ) (limit : ℕ) : Type 0 where
+  pub owner : (k : ℕ) (roll : List Seat) (ss : List ObjectView) (notes : List PartNote) → Reached p ns limit k roll ss notes
+      → (o j : ℕ) (e : Entry) → slice_get (shelf_at ss o).queue j ≡ Some e → Owner roll e.path
 
 -- an entry of a path that is held for reading, and seen, and stands before that of another path
 pub record ReadsBefore (d : Entry) (p q : List ℕ) : Type 0 where
