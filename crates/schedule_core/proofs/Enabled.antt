@@ -1,5 +1,5 @@
 -- What no entry keeps a task from stays so.
-use Rattle.std.proofs.Common.{◌≡◌, ◌≢◌, ℕ, zero, suc, Bool, true, false, not, ◌&&◌, ◌||◌, List, [], ◌∷◌, ◌++◌, refl, sym, ap, ◌∙◌, subst, Option, Some, None, ◌⊎◌, inl, inr}
+use Rattle.std.proofs.Common.{◌≡◌, ◌≢◌, ℕ, zero, suc, Bool, true, false, ◌&&◌, ◌||◌, List, [], ◌∷◌, ◌++◌, refl, sym, ap, ◌∙◌, subst, Option, Some, None, ◌⊎◌, inl, inr}
 use Rattle.std.specs.Prelude.{ℤ, nat_eq, is_none, slice_get, if◌then◌else◌}
 use Rattle.std.proofs.lemmas.Bool.Decides.{eqb_tells}
 use Rattle.jade_base.specs.declared.rights.Rights.{Rights}
@@ -11,12 +11,12 @@ use Rattle.jade_meaning.specs.Talk.{Event, Enter, Enroll, Take, TouchRead, Touch
 use Rattle.jade_meaning.specs.Walk.{upcoming, First}
 use Rattle.object_shelf.specs.declared.queue.Entry.{Entry}
 use Rattle.object_shelf.specs.Views.{ObjectView}
-use Rattle.object_shelf.specs.Shelves.{same_path, find, at, without, entered_in, newborn, changes, conflicts, blocker_in, keeper_in, if_read_only, held_for, version_at, released, with_rights, taken, given, shifted, left, entered, written}
+use Rattle.object_shelf.specs.Shelves.{same_path, find, at, without, entered_in, newborn, changes, conflicts, blocker_in, if_read_only, held_for, version_at, released, with_rights, taken, given, shifted, left, entered, written}
 use Rattle.object_shelf.proofs.Order.{same-is as same_is}
 use Rattle.schedule_core.specs.declared.steps.Seat.{Seat}
 use Rattle.schedule_core.specs.declared.notes.PartNote.{PartNote}
 use Rattle.schedule_core.specs.Fitting.{Lessened}
-use Rattle.schedule_core.specs.Plain.{on_shelf, Does, StepIn, NotedIn, Reached}
+use Rattle.schedule_core.specs.Plain.{on_shelf, Does, NotedIn, Reached}
 use Rattle.schedule_core.specs.Shown.{shelf_at}
 use Rattle.schedule_core.specs.Tells.{EntriesAreThere}
 use Rattle.schedule_core.specs.Queued.{Spares, StaysEnabled}

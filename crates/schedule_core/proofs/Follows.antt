@@ -1,22 +1,21 @@
 -- A seat follows the serial run: its task is one of the run, and the events that it has told are the deeds that are done.
-use Rattle.std.proofs.Common.{◌≡◌, ℕ, zero, suc, ◌+◌, Bool, true, false, List, [], ◌∷◌, ◌++◌, length, take, drop, refl, sym, ap, ◌∙◌, subst, Option, Some, None, arith, append-nil, append_assoc, length-append}
-use Rattle.std.specs.Prelude.{ℤ, slice_get, if◌then◌else◌}
+use Rattle.std.proofs.Common.{◌≡◌, ℕ, suc, List, [], ◌∷◌, ◌++◌, length, refl, sym, ap, ◌∙◌, subst, Some, None, arith, append-nil, length-append}
+use Rattle.std.specs.Prelude.{ℤ, if◌then◌else◌}
 use Rattle.std.specs.List.{filter_map, cons_option}
 use Rattle.std.proofs.lemmas.List.Elements.{filter_map-append}
-use Rattle.jade_meaning.specs.Specification.{Specification}
 use Rattle.jade_meaning.specs.Course.{Course, Reads, Writes, Steps, Creates, Changes, Ends}
-use Rattle.jade_meaning.specs.Talk.{Task, Event, Enter, Enroll, Take, TouchRead, TouchWrite, Wants, Give, Leave, Shift, Resign, talk}
-use Rattle.jade_meaning.specs.Serial.{Mark, Path, Store, Deed, DidRead, DidWrite, DidCreate, DidEnd, deeds_at, reads_at, read_of, same_path}
-use Rattle.jade_meaning.specs.Laws.{Every, deeds, deed_of, child_path}
+use Rattle.jade_meaning.specs.Talk.{Task, Event, Enter, Enroll, Take, TouchRead, TouchWrite, Wants, Give, Leave, Shift, Resign}
+use Rattle.jade_meaning.specs.Serial.{Mark, Path, Deed, DidRead, DidWrite, DidCreate, DidEnd, deeds_at, reads_at, read_of, same_path}
+use Rattle.jade_meaning.specs.Laws.{Every, deeds, deed_of}
 use Rattle.jade_meaning.specs.Walks.{Walk}
-use Rattle.jade_meaning.specs.Walk.{First, task_of, moved, IsChildOf}
-use Rattle.jade_meaning.specs.Doing.{Doing, from_deed}
+use Rattle.jade_meaning.specs.Walk.{First, task_of, moved}
+use Rattle.jade_meaning.specs.Doing.{from_deed}
 use Rattle.object_shelf.specs.Views.{ObjectView}
 use Rattle.schedule_core.specs.declared.steps.Seat.{Seat}
-use Rattle.schedule_core.specs.Core.{Bare, Cells, mark, value_in, content_for, going_on, child_of, quietly, with_pending}
+use Rattle.schedule_core.specs.Core.{Cells, mark, value_in, content_for, going_on, child_of, quietly, with_pending}
 use Rattle.schedule_core.specs.Unplaced.{Live, event_done, deed_done}
 use Rattle.schedule_core.specs.Sound.{Orderly}
-use Rattle.schedule_core.specs.Plain.{seat_after, value_at, seated_child, Does}
+use Rattle.schedule_core.specs.Plain.{seat_after, value_at, Does}
 use Rattle.schedule_core.specs.Shown.{Sits, Seated}
 use Rattle.schedule_core.specs.Serially.{IsTask, is_created}
 use Rattle.schedule_core.proofs.Walks.{Walks, walks_start, walks_quiet, walks_read, walks_write, walks_create}

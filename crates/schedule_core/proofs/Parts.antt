@@ -1,6 +1,6 @@
 -- What is noted is what the serial run has of the parts that have ended.
-use Rattle.std.proofs.Common.{◌≡◌, ◌≤◌, ℕ, zero, suc, List, [], ◌∷◌, ◌++◌, map, refl, sym, ap, ◌∙◌, subst, Option, Some, None, arith, append_assoc}
-use Rattle.std.specs.Prelude.{ℤ, slice_get}
+use Rattle.std.proofs.Common.{◌≡◌, ◌≤◌, ℕ, suc, List, [], ◌∷◌, ◌++◌, map, refl, sym, ap, ◌∙◌, subst, arith, append_assoc}
+use Rattle.std.specs.Prelude.{ℤ}
 use Rattle.std.specs.List.{filter_map, cons_option}
 use Rattle.jade_base.specs.Places.{key}
 use Rattle.jade_syntax.specs.declared.tree.Program.{Program}
@@ -21,8 +21,6 @@ use Rattle.schedule_core.specs.Unplaced.{State}
 use Rattle.schedule_core.specs.Sited.{Live, bare}
 use Rattle.schedule_core.specs.Sound.{left, all_left, From}
 use Rattle.schedule_core.specs.Shown.{Seated}
-use Rattle.schedule_core.specs.Plain.{Reached}
-use Rattle.schedule_core.specs.Mirror.{CoreShows}
 use Rattle.schedule_core.specs.Parts.{Woven, nothing, first, second, IsUnended, Noted, NotesAreSerial}
 use Rattle.schedule_core.proofs.Lines.{every_append, every_with}
 use Rattle.schedule_core.proofs.Frames.{from_less}

@@ -3,7 +3,7 @@ use Rattle.std.proofs.Common.{◌≡◌, ℕ, zero, suc, ◌<◌, Bool, true, fa
 use Rattle.std.specs.Prelude.{ℤ, slice_get, is_some, if◌then◌else◌}
 use Rattle.jade_base.specs.declared.rights.Rights.{Rights}
 use Rattle.jade_base.specs.declared.rights.Mode.{Mode}
-use Rattle.jade_base.specs.declared.rights.Mode.TheVariants.{Reading, Writing, Commuting}
+use Rattle.jade_base.specs.declared.rights.Mode.TheVariants.{Reading}
 use Rattle.jade_base.specs.Rights.{is_there}
 use Rattle.jade_syntax.specs.declared.tree.Program.{Program}
 use Rattle.jade_syntax.specs.Image.{program}
@@ -17,13 +17,11 @@ use Rattle.object_shelf.specs.Views.{ObjectView}
 use Rattle.object_shelf.specs.Shelves.{same_path, find, takes_out}
 use Rattle.object_shelf.specs.Order.{stands_before, before_all, is_ordered}
 use Rattle.schedule_core.specs.declared.steps.Seat.{Seat}
-use Rattle.schedule_core.specs.declared.notes.PartNote.{PartNote}
 use Rattle.schedule_core.specs.Core.{Cells, changes, touches, enters_still, handed_on, is_writing, quiet}
 use Rattle.schedule_core.specs.Unplaced.{Live, State}
 use Rattle.schedule_core.specs.Sited as sited
-use Rattle.schedule_core.specs.Sound.{Apart, Pairs, Fit, Before, From, Within}
+use Rattle.schedule_core.specs.Sound.{Apart, Pairs, Fit, Before}
 use Rattle.schedule_core.specs.More.{InOrder}
-use Rattle.schedule_core.specs.Plain.{Reached}
 use Rattle.schedule_core.specs.Shown.{slot, born_slots, slots, line, shelf_at, Seated}
 use Rattle.schedule_core.specs.Mirror.{CoreShows, Mirror}
 use Rattle.schedule_core.specs.Tells.{CoreTells}

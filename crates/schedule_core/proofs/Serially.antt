@@ -1,5 +1,5 @@
 -- Live tasks stand in the serial run, and have its contents there.
-use Rattle.std.proofs.Common.{◌≡◌, ℕ, zero, suc, Bool, true, false, ◌||◌, List, [], ◌∷◌, ◌++◌, length, take, map, refl, sym, ap, ◌∙◌, subst, Option, Some, None, arith, append-nil, append_assoc, ◌⊎◌, inl, inr}
+use Rattle.std.proofs.Common.{◌≡◌, ℕ, suc, Bool, true, false, List, [], ◌∷◌, ◌++◌, length, take, map, refl, sym, ap, ◌∙◌, subst, Option, Some, None, arith, append-nil, append_assoc}
 use Rattle.std.specs.Prelude.{ℤ, slice_get, is_some, if◌then◌else◌}
 use Rattle.std.specs.List.{filter_map}
 use Rattle.std.proofs.lemmas.List.Elements.{filter_map-append}
@@ -13,7 +13,7 @@ use Rattle.jade_syntax.specs.Image.{program}
 use Rattle.jade_syntax.specs.Objects.{sizes}
 use Rattle.jade_meaning.specs.Specification.{rights_on}
 use Rattle.jade_meaning.specs.Course.{Course, Reads, Writes, Steps, Creates, Changes, Ends, root_spec, root_course}
-use Rattle.jade_meaning.specs.Talk.{Event, Take, Wants, talk}
+use Rattle.jade_meaning.specs.Talk.{Take, Wants, talk}
 use Rattle.jade_meaning.specs.Serial.{Path, Store, Mark, Deed, DidRead, DidWrite, DidCreate, DidEnd, serial, own, under, after, cell, with_cell, deeds_at, reads_at, read_of, serial_run, zeros, same_path, at_object}
 use Rattle.jade_meaning.specs.Laws.{Every, deeds, child_path, root_task}
 use Rattle.jade_meaning.specs.Proper.{Proper}
@@ -30,13 +30,13 @@ use Rattle.schedule_core.specs.declared.notes.PartNote.{PartNote}
 use Rattle.schedule_core.specs.Core.{Cells, below, content_for, value_in, touches, enters_still, handed_on, all_allow, if_read_only, version_or, changes}
 use Rattle.schedule_core.specs.Unplaced.{Live, State}
 use Rattle.schedule_core.specs.Sited as sited
-use Rattle.schedule_core.specs.Sound.{Sound, Sees, Fit, Apart, Pairs, Within, Orderly, Lessened, left, all_left}
+use Rattle.schedule_core.specs.Sound.{Sound, Fit, Apart, Pairs, Within, Orderly, Lessened, left, all_left}
 use Rattle.schedule_core.specs.More.{Placed}
 use Rattle.schedule_core.specs.Plain.{Reached, value_at}
 use Rattle.schedule_core.specs.Shown.{slot, born_slots, slots, line, shelf_at}
-use Rattle.schedule_core.specs.Serially.{at_deed, events_done, store_at, child_store, ContentsAreSerial, IsTask, Begins, TasksAreSerial}
+use Rattle.schedule_core.specs.Serially.{at_deed, events_done, store_at, child_store, ContentsAreSerial, Begins, TasksAreSerial}
 use Rattle.schedule_core.proofs.Showing.{Away, Elsewhere, path_same, born_away, slot_away, before_away, after_away, line_away, line_both, free_is, keeper_none}
-use Rattle.schedule_core.proofs.Lines.{every_with, every_front, every_back, every_append, pairs_front, pairs_back, come, see_at}
+use Rattle.schedule_core.proofs.Lines.{every_with, every_back, every_append, pairs_front, pairs_back, come, see_at}
 use Rattle.schedule_core.proofs.Frames.{none_there, cover_lessens, lessened_twice}
 use Rattle.schedule_core.proofs.Places.{count_before, deeds_both, after_both}
 use Rattle.schedule_core.proofs.Given.{place_is, given_content}
@@ -46,11 +46,10 @@ use Rattle.schedule_core.proofs.Changing.{mode_may}
 use Rattle.schedule_core.proofs.Acts.{touch_less}
 use Rattle.schedule_core.proofs.Bare.{Found, found, trim, all_allow_bare}
 use Rattle.schedule_core.proofs.Moves.{ahead_is}
-use Rattle.schedule_core.proofs.Walks.{Walks}
 use Rattle.schedule_core.proofs.Prefixes.{events_so_far}
-use Rattle.schedule_core.proofs.Follows.{Follows, Beside}
-use Rattle.schedule_core.proofs.Mirrors.{Kept, kept, Split, split_at, beside_at, find_away, find_own, value_is, not_kid, proper_covers}
-use Rattle.schedule_core.proofs.Tells.{own_found, find_none, Heads, take_heads, read_holds, some_entry, kid_before, kid_after}
+use Rattle.schedule_core.proofs.Follows.{Follows}
+use Rattle.schedule_core.proofs.Mirrors.{Kept, kept, Split, split_at, beside_at, find_away, value_is, not_kid, proper_covers}
+use Rattle.schedule_core.proofs.Tells.{own_found, find_none, take_heads, read_holds, some_entry, kid_before, kid_after}
 
 -- the first mark of what is left is the task's own
 record Own_first (k : ℕ) (ms : List Mark) : Type 0 where

@@ -4,7 +4,7 @@ use Rattle.std.specs.Prelude.{ℤ, slice_get, is_some, is_none, if◌then◌else
 use Rattle.jade_base.specs.declared.rights.Rights.{Rights}
 use Rattle.jade_base.specs.declared.rights.Mode.{Mode}
 use Rattle.jade_base.specs.declared.rights.Mode.TheVariants.{Reading, Writing, Commuting}
-use Rattle.jade_base.specs.Rights.{is_there, has_rights, no_rights}
+use Rattle.jade_base.specs.Rights.{is_there}
 use Rattle.jade_syntax.specs.Image.{program}
 use Rattle.jade_syntax.specs.Objects.{sizes}
 use Rattle.jade_meaning.specs.Specification.{rights_on}
@@ -15,13 +15,10 @@ use Rattle.object_shelf.specs.declared.queue.Entry.{Entry}
 use Rattle.object_shelf.specs.Views.{ObjectView}
 use Rattle.object_shelf.specs.Shelves.{same_path, find, takes_out}
 use Rattle.schedule_core.specs.declared.steps.Seat.{Seat}
-use Rattle.schedule_core.specs.declared.notes.PartNote.{PartNote}
 use Rattle.schedule_core.specs.Core.{Cells, changes, touches, enters_still, handed_on, quiet, is_writing}
 use Rattle.schedule_core.specs.Unplaced.{Live}
 use Rattle.schedule_core.specs.Sited as sited
 use Rattle.schedule_core.specs.Sound.{Apart, Pairs, Fit, Before, Within, may}
-use Rattle.schedule_core.specs.Laws.{SoundSomewhere}
-use Rattle.schedule_core.specs.Plain.{Reached}
 use Rattle.schedule_core.specs.Shown.{slot, born_slots, slots, line, shelf_at, Seated}
 use Rattle.schedule_core.specs.Mirror.{CoreShows, Mirror}
 use Rattle.schedule_core.proofs.Showing.{path_same}

@@ -1,5 +1,5 @@
 -- How the entries of an object stand to each other, in words of plain data alone.
-use Rattle.std.specs.Prelude.{◌≡◌, ◌≢◌, ◌<◌, ◌⊎◌, ℕ, true, false, List, Option, Some, None, ℤ, slice_get, is_some}
+use Rattle.std.specs.Prelude.{◌≡◌, ◌≢◌, ◌<◌, ◌⊎◌, ℕ, true, false, List, Some, None, ℤ, slice_get, is_some}
 use Rattle.jade_base.specs.declared.rights.Mode.{Mode}
 use Rattle.jade_base.specs.declared.rights.Mode.TheVariants.{Reading, Commuting}
 use Rattle.jade_syntax.specs.declared.tree.Program.{Program}
