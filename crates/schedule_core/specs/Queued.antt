@@ -12,7 +12,7 @@ use Rattle.object_shelf.specs.Order.{stands_before, is_ordered}
 use Rattle.schedule_core.specs.declared.steps.Seat.{Seat}
 use Rattle.schedule_core.specs.declared.notes.PartNote.{PartNote}
 use Rattle.schedule_core.specs.Plain.{Reached, NotedIn}
-use Rattle.schedule_core.specs.Shown.{shelf_at}
+use Rattle.schedule_core.specs.ByNumber.{shelf_at}
 
 -- Live tasks and entries stand in the serial order of tasks.
 pub record InSerialOrder (p : Program) (ns : List ℤ) (limit : ℕ) : Type 0 where

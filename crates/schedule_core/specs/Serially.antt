@@ -15,7 +15,7 @@ use Rattle.object_shelf.specs.Shelves.{find, keeper_in, content_for}
 use Rattle.schedule_core.specs.declared.steps.Seat.{Seat}
 use Rattle.schedule_core.specs.declared.notes.PartNote.{PartNote}
 use Rattle.schedule_core.specs.Plain.{Reached, value_at}
-use Rattle.schedule_core.specs.Shown.{shelf_at}
+use Rattle.schedule_core.specs.ByNumber.{shelf_at}
 
 -- the store of the serial run just before the task of the path does its deed of this number, counted from 0
 abbrev pub at_deed : Path → ℕ → List Mark → Store → Store

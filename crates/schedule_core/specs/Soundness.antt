@@ -9,7 +9,7 @@ use Rattle.schedule_core.specs.declared.steps.Seat.{Seat}
 use Rattle.schedule_core.specs.declared.notes.PartNote.{PartNote}
 use Rattle.schedule_core.specs.Counts.{total}
 use Rattle.schedule_core.specs.Plain.{Reached, free_in}
-use Rattle.schedule_core.specs.Shown.{shelf_at}
+use Rattle.schedule_core.specs.ByNumber.{shelf_at}
 use Rattle.schedule_core.specs.Tells.{CoreTells, EntriesAreThere}
 use Rattle.schedule_core.specs.Serially.{ContentsAreSerial, TasksAreSerial}
 use Rattle.schedule_core.specs.Queued.{EntriesAreOwned, InSerialOrder, HeldAlone, StaysEnabled}

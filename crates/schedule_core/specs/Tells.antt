@@ -15,7 +15,7 @@ use Rattle.schedule_core.specs.declared.steps.Seat.{Seat}
 use Rattle.schedule_core.specs.declared.notes.PartNote.{PartNote}
 use Rattle.schedule_core.specs.Fitting.{Lessened, may}
 use Rattle.schedule_core.specs.Plain.{Reached}
-use Rattle.schedule_core.specs.Shown.{shelf_at}
+use Rattle.schedule_core.specs.ByNumber.{shelf_at}
 
 -- a path's entry, with a hold of this kind
 pub record Holding (kind : Option Mode → Bool) (p : List ℕ) (es : List Entry) : Type 0 where
