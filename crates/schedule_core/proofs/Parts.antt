@@ -38,7 +38,7 @@ firsts [] = nothing
 firsts (x ∷ xs) = first x (firsts xs)
 
 gap_woven : {P : List PartNote → List PartNote → Type 0} (own rest : List PartNote) {ns us : List PartNote}
-      → ((xs ws : List PartNote) → P xs ws → Woven xs rest ws) → Gap P own ns us → Woven ns (own ++ rest) us
+    → ((xs ws : List PartNote) → P xs ws → Woven xs rest ws) → Gap P own ns us → Woven ns (own ++ rest) us
 gap_woven own rest f (here {ns = ns} {ws = ws} p q) = subst (λ z. Woven ns (own ++ rest) z) (sym q) (seconds own ns rest ws (f ns ws p))
 gap_woven own rest f (past n w) = first n (gap_woven own rest f w)
 
@@ -46,7 +46,7 @@ weave_woven : (roll : List Live) (ns ws : List PartNote) → Weave roll ns ws �
 weave_woven [] ns ws w = subst (λ z. Woven ns [] z) w (firsts ns)
 weave_woven (t ∷ ts) ns ws w =
     subst (λ z. Woven ns z ws) (sym (notes_both (left t) (all_left ts)))
-          (gap_woven (notes_of (left t)) (notes_of (all_left ts)) (λ xs us v. weave_woven ts xs us v) w)
+    (gap_woven (notes_of (left t)) (notes_of (all_left ts)) (λ xs us v. weave_woven ts xs us v) w)
 
 -- the keys of what is left
 every_join : {A : Type 0} (P : A → Type 0) (xs ys : List A) → Every P xs → Every P ys → Every P (xs ++ ys)
@@ -69,7 +69,7 @@ serial_keyed (Writes o c v on) k n store = (omega arith, serial_keyed on k n (wi
 serial_keyed (Creates child body on) k n store =
     let inner = serial body 0 0 store in
     let later = every_with (Keyed (suc k)) (Keyed k) (λ m f. from_less k (suc k) (key m.path m.children) (omega arith) f) _
-          (serial_keyed on (suc k) 0 (after inner store)) in
+    (serial_keyed on (suc k) 0 (after inner store)) in
     (omega arith, every_join (Keyed k) (map (under k) inner) _ (every_image (Keyed k) (under k) inner (every_of _ (λ m. omega arith) inner)) later)
 serial_keyed (Steps on) k n store = serial_keyed on k (suc n) store
 serial_keyed (Changes new on) k n store = serial_keyed on k n store
@@ -89,17 +89,17 @@ key_split p k (i ∷ q) c f = record { child = i; rest = q ++ c ∷ []; from = f
 left_keyed : (t : Live) → Every (λ m. Under_path t.path t.part (key m.path m.children)) (left t)
 left_keyed t =
     every_image (λ m. Under_path t.path t.part (key m.path m.children)) (below t.path) _
-          (every_with (Keyed t.part) (λ m. Under_path t.path t.part (key (t.path ++ m.path) m.children)) (λ m f. key_split t.path t.part m.path m.children f) _
-          (serial_keyed t.doing.course t.part t.doing.steps t.place))
+    (every_with (Keyed t.part) (λ m. Under_path t.path t.part (key (t.path ++ m.path) m.children)) (λ m f. key_split t.path t.part m.path m.children f) _
+    (serial_keyed t.doing.course t.part t.doing.steps t.place))
 
 every_note : (R : Path → Type 0) (ms : List Mark) → Every (λ m. R (key m.path m.children)) ms → Every (λ n. R (note_key n)) (notes_of ms)
 every_note R [] h = tt
 every_note R (m ∷ ms) h = go m.deed refl (every_note R ms h.1)
   where
     go : (d : Deed) → m.deed ≡ d → Every (λ n. R (note_key n)) (notes_of ms)
-          → Every (λ n. R (note_key n)) (map note_of (cons_option (part_of_deed m.deed m) (filter_map (λ m. part_of_deed m.deed m) ms)))
+        → Every (λ n. R (note_key n)) (map note_of (cons_option (part_of_deed m.deed m) (filter_map (λ m. part_of_deed m.deed m) ms)))
     go d e more = subst (λ d. Every (λ n. R (note_key n)) (map note_of (cons_option (part_of_deed d m) (filter_map (λ m. part_of_deed m.deed m) ms)))) (sym e)
-          (by d)
+        (by d)
       where
         by : (d : Deed) → Every (λ n. R (note_key n)) (map note_of (cons_option (part_of_deed d m) (filter_map (λ m. part_of_deed m.deed m) ms)))
         by (DidRead o c v) = more
@@ -119,14 +119,22 @@ unended_notes (s ∷ seats) (t ∷ ts) h =
     let same : t.path ≡ s.path = h.0.path in
     let many : t.part ≡ s.children = h.0.part in
     let own = every_with (λ n. R (note_key n)) (IsUnended (s ∷ seats)) (λ n x. let y : IsUnended (s ∷ seats) n =
-          record { place = 0; seat = s; child = x.child; rest = x.rest; live = refl; from = subst (λ k. k ≤ x.child) many x.from; key = x.is
-          ∙ ap (λ p. p ++ (x.child ∷ x.rest)) same } in y) (notes_of (left t)) (every_note R (left t) (left_keyed t)) in
+    record {
+      place = 0;
+      seat = s;
+      child = x.child;
+      rest = x.rest;
+      live = refl;
+      from = subst (λ k. k ≤ x.child) many x.from;
+      key = x.is
+          ∙ ap (λ p. p ++ (x.child ∷ x.rest)) same;
+    } in y) (notes_of (left t)) (every_note R (left t) (left_keyed t)) in
     subst (Every (IsUnended (s ∷ seats))) (sym (notes_both (left t) (all_left ts)))
-          (every_append (IsUnended (s ∷ seats)) (notes_of (left t)) (notes_of (all_left ts)) own
-          (every_with (IsUnended seats) (IsUnended (s ∷ seats)) (λ n x. later s seats n x) (notes_of (all_left ts)) (unended_notes seats ts h.1)))
+    (every_append (IsUnended (s ∷ seats)) (notes_of (left t)) (notes_of (all_left ts)) own
+    (every_with (IsUnended seats) (IsUnended (s ∷ seats)) (λ n x. later s seats n x) (notes_of (all_left ts)) (unended_notes seats ts h.1)))
 
 module _ (p : Program) (ns : List ℤ) (limit k : ℕ) (seats : List Seat) (ss : List ObjectView) (notes : List PartNote)
-      (x : Kept p ns limit k seats ss notes) where
+    (x : Kept p ns limit k seats ss notes) where
   noted_of : Noted p ns limit seats notes
   noted_of = record {
     unended = notes_of (all_left x.somewhere.placed.roll);
@@ -139,15 +147,15 @@ none_left [] h = refl
 none_left (t ∷ ts) h = absurd h
 
 all_noted : (p : Program) (ns : List ℤ) (limit k : ℕ) (ss : List ObjectView) (notes : List PartNote) (x : Kept p ns limit k [] ss notes) → notes
-      ≡ notes_of (serial_run (program p) ns limit)
+    ≡ notes_of (serial_run (program p) ns limit)
 all_noted p ns limit k ss notes x =
     let none = none_left x.somewhere.placed.roll (subst (λ (y : State). Seated [] y.roll) (sym x.somewhere.same) x.shown.seated) in
     subst (λ roll. Weave roll notes (notes_of (serial_run (program p) ns limit))) none x.weave
 
 module _ (proper : (p : AbstractProgram) (ns : List ℤ) (limit : ℕ)
-      → Proper (root_spec p) (root_course p ns limit)) (ascends : (p : AbstractProgram) (ns : List ℤ) (limit : ℕ)
-      → ReportAscends p ns limit) (stand : (p : AbstractProgram) (ns : List ℤ) (limit : ℕ)
-      → PartsStandByKey p ns limit) (p : Program) (ns : List ℤ) (limit : ℕ) where
+    → Proper (root_spec p) (root_course p ns limit)) (ascends : (p : AbstractProgram) (ns : List ℤ) (limit : ℕ)
+    → ReportAscends p ns limit) (stand : (p : AbstractProgram) (ns : List ℤ) (limit : ℕ)
+    → PartsStandByKey p ns limit) (p : Program) (ns : List ℤ) (limit : ℕ) where
   pub notes_are_serial : NotesAreSerial p ns limit
   notes_are_serial = record {
     noted = λ k roll ss notes r. noted_of p ns limit k roll ss notes (kept proper ascends stand p ns limit k roll ss notes r);

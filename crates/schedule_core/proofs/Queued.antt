@@ -72,11 +72,11 @@ before_line : (p : Path) (o : ℕ) (us : List Live) → Every (Ahead p) us → b
 before_line p o [] h = refl
 before_line p o (u ∷ us) h =
     before_both p (slots o u) (line o us) (before_both p (born_slots u.doing.course o u) (slot u.path (u.rights o) (u.held o) (u.versions o))
-          (before_born p u.doing.course o u h.0.kid) (before_slot p u.path (u.rights o) (u.held o) (u.versions o) h.0.task)) (before_line p o us h.1)
+    (before_born p u.doing.course o u h.0.kid) (before_slot p u.path (u.rights o) (u.held o) (u.versions o) h.0.task)) (before_line p o us h.1)
 
 -- queues in order, one behind the other
 ordered_slot : (q : Path) (a : Rights) (h : Option Mode) (v : Option Cells) (fs : List Entry) → before_all q fs ≡ true → is_ordered fs ≡ true
-      → is_ordered (slot q a h v ++ fs) ≡ true
+    → is_ordered (slot q a h v ++ fs) ≡ true
 ordered_slot q a h v fs b o = go (touches a)
   where
     go : (x : Bool) → is_ordered ((if x then record { path = q; rights = a; hold = h; version = v } ∷ [] else []) ++ fs) ≡ true
@@ -84,7 +84,7 @@ ordered_slot q a h v fs b o = go (touches a)
     go false = o
 
 ordered_born : (c : Course) (o : ℕ) (t : Live) (fs : List Entry) → before_all (t.path ++ t.part ∷ []) fs ≡ true → is_ordered fs ≡ true
-      → is_ordered (born_slots c o t ++ fs) ≡ true
+    → is_ordered (born_slots c o t ++ fs) ≡ true
 ordered_born (Creates child body on) o t fs b h = go (enters_still o t.doing.pending)
   where
     go : (x : Bool) → is_ordered ((if x then [] else slot (t.path ++ t.part ∷ []) (rights_on child o) None (handed_on t o)) ++ fs) ≡ true
@@ -98,15 +98,25 @@ ordered_born (Ends x) o t fs b h = h
 
 ahead_of : (t u : Live) → InOrder t u → Apart t u → Ahead t.path u
 ahead_of t u e far =
-    record { task = e; kid = stands t.path (u.path ++ u.part ∷ [])
-          (before_child t.path u.path u.part (earlier t.path u.path e) (λ q is from. far t.path (record { rest = []; is = sym (append-nil t.path); from =
-          tt }) (record { rest = q; is = is; from = from }))) }
+    record {
+      task = e;
+      kid = stands t.path (u.path ++ u.part ∷ [])
+          (before_child t.path u.path u.part (earlier t.path u.path e) (λ q is from. far t.path (record {
+            rest = [];
+            is = sym (append-nil t.path);
+            from =
+                tt;
+          }) (record { rest = q; is = is; from = from })));
+    }
 
 kid_ahead : (t u : Live) → Ahead t.path u → Ahead (t.path ++ t.part ∷ []) u
 kid_ahead t u a =
-    record { task = stands (t.path ++ t.part ∷ []) u.path (child_before t.path u.path t.part (earlier t.path u.path a.task)); kid =
+    record {
+      task = stands (t.path ++ t.part ∷ []) u.path (child_before t.path u.path t.part (earlier t.path u.path a.task));
+      kid =
           stands (t.path ++ t.part ∷ []) (u.path ++ u.part ∷ [])
-          (child_before t.path (u.path ++ u.part ∷ []) t.part (earlier t.path (u.path ++ u.part ∷ []) a.kid)) }
+          (child_before t.path (u.path ++ u.part ∷ []) t.part (earlier t.path (u.path ++ u.part ∷ []) a.kid));
+    }
 
 each_ahead : (t : Live) (us : List Live) → Every (InOrder t) us → Every (Apart t) us → Every (Ahead t.path) us
 each_ahead t [] h far = tt
@@ -127,8 +137,8 @@ ordered_line o (t ∷ ts) h far =
     let first : stands_before kid t.path ≡ true = stands kid t.path (child_first t.path t.part) in
     let rest = ordered_line o ts h.1 far.1 in
     ap is_ordered (append_assoc born mine (line o ts)) ∙ ordered_born t.doing.course o t (mine ++ line o ts)
-          (before_both kid mine (line o ts) (before_slot kid t.path (t.rights o) (t.held o) (t.versions o) first) (before_line kid o ts kids))
-          (ordered_slot t.path (t.rights o) (t.held o) (t.versions o) (line o ts) (before_line t.path o ts behind) rest)
+    (before_both kid mine (line o ts) (before_slot kid t.path (t.rights o) (t.held o) (t.versions o) first) (before_line kid o ts kids))
+    (ordered_slot t.path (t.rights o) (t.held o) (t.versions o) (line o ts) (before_line t.path o ts behind) rest)
 
 -- the order of tasks without places
 each_bare : (s : sited.Live) (ts : List sited.Live) → Every (InOrder s) ts → Every (InOrder (sited.bare s)) (map sited.bare ts)
@@ -141,14 +151,14 @@ order_bare (t ∷ ts) h = (each_bare t ts h.0, order_bare ts h.1)
 
 -- seats in order
 seats_behind : (p : Path) (seats : List Seat) (ts : List Live) → Seated seats ts → Every (λ (u : Live). stands_before p u.path ≡ true) ts → (j : ℕ) (s : Seat)
-      → slice_get seats j ≡ Some s → stands_before p s.path ≡ true
+    → slice_get seats j ≡ Some s → stands_before p s.path ≡ true
 seats_behind p [] ts h g j s e = absurd (cc)
 seats_behind p (x ∷ seats) [] h g j s e = absurd h
 seats_behind p (x ∷ seats) (t ∷ ts) h g zero s e = let same : x ≡ s = cc in ap (stands_before p) (ap (λ (z : Seat). z.path) (sym same) ∙ sym h.0.path) ∙ g.0
 seats_behind p (x ∷ seats) (t ∷ ts) h g (suc j) s e = seats_behind p seats ts h.1 g.1 j s e
 
 seats_ordered : (seats : List Seat) (ts : List Live) → Seated seats ts → Pairs InOrder ts → (i j : ℕ) (s u : Seat) → slice_get seats i ≡ Some s
-      → slice_get seats j ≡ Some u → i < j → stands_before s.path u.path ≡ true
+    → slice_get seats j ≡ Some u → i < j → stands_before s.path u.path ≡ true
 seats_ordered [] ts h g i j s u a b lt = absurd (cc)
 seats_ordered (x ∷ seats) [] h g i j s u a b lt = absurd h
 seats_ordered (x ∷ seats) (t ∷ ts) h g zero zero s u a b lt = absurd (omega arith)
@@ -193,9 +203,9 @@ line_owned o (s ∷ seats) (t ∷ ts) h =
     let young : Owner (s ∷ seats) (t.path ++ t.part ∷ []) = record { place = 0; seat = s; live = refl; own = inr kid } in
     let mine : Owner (s ∷ seats) t.path = record { place = 0; seat = s; live = refl; own = inl h.0.path } in
     let own = every_append (Owned (s ∷ seats)) (born_slots t.doing.course o t) (slot t.path (t.rights o) (t.held o) (t.versions o))
-          (born_owned (s ∷ seats) t.doing.course o t young) (slot_owned (s ∷ seats) t.path (t.rights o) (t.held o) (t.versions o) mine) in
+    (born_owned (s ∷ seats) t.doing.course o t young) (slot_owned (s ∷ seats) t.path (t.rights o) (t.held o) (t.versions o) mine) in
     every_append (Owned (s ∷ seats)) (slots o t) (line o ts) own
-          (every_with (Owned seats) (Owned (s ∷ seats)) (λ e x. owner_later s seats e x) (line o ts) (line_owned o seats ts h.1))
+    (every_with (Owned seats) (Owned (s ∷ seats)) (λ e x. owner_later s seats e x) (line o ts) (line_owned o seats ts h.1))
 
 entry_get : (P : Entry → Type 0) (es : List Entry) (j : ℕ) (e : Entry) → Every P es → slice_get es j ≡ Some e → P e
 entry_get P [] j e h q = absurd (cc)
@@ -205,11 +215,11 @@ entry_get P (x ∷ es) (suc j) e h q = entry_get P es j e h.1 q
 -- a live task of the path holds the object, with this entry
 data Holds_as (o : ℕ) (p : Path) (d : Entry) : List Live → Type 0 where
   here : (t : Live) (ts : List Live) → t.path ≡ p → d ≡ record { path = t.path; rights = t.rights o; hold = t.held o; version = t.versions o }
-        → Holds_as o p d (t ∷ ts)
+      → Holds_as o p d (t ∷ ts)
   later : (t : Live) (ts : List Live) → Holds_as o p d ts → Holds_as o p d (t ∷ ts)
 
 slot_holds : (p q : Path) (a : Rights) (h : Option Mode) (v : Option Cells) (d : Entry) → find p (slot q a h v) ≡ Some d → (q ≡ p)
-      × (d ≡ record { path = q; rights = a; hold = h; version = v })
+    × (d ≡ record { path = q; rights = a; hold = h; version = v })
 slot_holds p q a h v d = go (touches a)
   where
     row : Entry
@@ -229,7 +239,7 @@ born_holds p (Creates child body on) o t d f x = go (enters_still o t.doing.pend
     go : (b : Bool) → find p (if b then [] else slot (t.path ++ t.part ∷ []) (rights_on child o) None (handed_on t o)) ≡ Some d → ⊥
     go true g = absurd (cc)
     go false g = let r = slot_holds p (t.path ++ t.part ∷ []) (rights_on child o) None (handed_on t o) d g in
-          absurd (let y : false ≡ true = sym (ap (λ (z : Entry). is_some z.hold) r.1) ∙ x in cc)
+        absurd (let y : false ≡ true = sym (ap (λ (z : Entry). is_some z.hold) r.1) ∙ x in cc)
 born_holds p (Reads q c on) o t d f x = absurd (cc)
 born_holds p (Writes q c v on) o t d f x = absurd (cc)
 born_holds p (Steps on) o t d f x = absurd (cc)
@@ -254,12 +264,28 @@ somewhere t = record { path = t.path; part = t.part; place = []; rights = t.righ
 
 -- of two tasks that hold an object, one with its content out
 two_hold : (o : ℕ) (s t : Live) → Fit s → Fit t → Before o s t → is_some (s.held o) ≡ true → is_some (t.held o) ≡ true → (is_writing (s.held o) ≡ true)
-      ⊎ (is_writing (t.held o) ≡ true) → (is_writing (t.held o) ≡ true) × (quiet o s ≡ true) × (s.held o ≡ Some Reading)
+    ⊎ (is_writing (t.held o) ≡ true) → (is_writing (t.held o) ≡ true) × (quiet o s ≡ true) × (s.held o ≡ Some Reading)
 unfolding somewhere
 two_hold o s t f g b hs ht w =
-    held_with o (somewhere s) (somewhere t) (record { proper = f.proper; less = f.less; holds = f.holds; keeps = f.keeps; reading = f.reading; plain =
-          f.plain; orderly = f.orderly }) (record { proper = g.proper; less = g.less; holds = g.holds; keeps = g.keeps; reading = g.reading; plain =
-          g.plain; orderly = g.orderly }) (record { writing = b.writing; reading = b.reading }) hs ht w
+    held_with o (somewhere s) (somewhere t) (record {
+      proper = f.proper;
+      less = f.less;
+      holds = f.holds;
+      keeps = f.keeps;
+      reading = f.reading;
+      plain =
+          f.plain;
+      orderly = f.orderly;
+    }) (record {
+      proper = g.proper;
+      less = g.less;
+      holds = g.holds;
+      keeps = g.keeps;
+      reading = g.reading;
+      plain =
+          g.plain;
+      orderly = g.orderly;
+    }) (record { writing = b.writing; reading = b.reading }) hs ht w
 
 out_some : (h : Option Mode) → takes_out h ≡ true → is_some h ≡ true
 out_some None e = absurd (cc)
@@ -274,8 +300,8 @@ calm_rights a v h = go (changes a) h
 
 -- a reader before, the writer among those behind
 reader_first : (o : ℕ) (q r : Path) (d e : Entry) (t : Live) (us : List Live) → t.path ≡ q → d
-      ≡ record { path = t.path; rights = t.rights o; hold = t.held o; version = t.versions o } → Fit t → Every Fit us → Every (Before o t) us
-      → Every (InOrder t) us → is_some d.hold ≡ true → takes_out e.hold ≡ true → Holds_as o r e us → ReadsBefore d q r
+    ≡ record { path = t.path; rights = t.rights o; hold = t.held o; version = t.versions o } → Fit t → Every Fit us → Every (Before o t) us
+    → Every (InOrder t) us → is_some d.hold ≡ true → takes_out e.hold ≡ true → Holds_as o r e us → ReadsBefore d q r
 reader_first o q r d e t _ path is ft fs bs os hd he (later u us x) = reader_first o q r d e t us path is ft fs.1 bs.1 os.1 hd he x
 reader_first o q r d e t _ path is ft fs bs os hd he (here u us p i) =
     let mine : is_some (t.held o) ≡ true = ap (λ (z : Entry). is_some z.hold) (sym is) ∙ hd in
@@ -290,8 +316,8 @@ reader_first o q r d e t _ path is ft fs bs os hd he (here u us p i) =
 
 -- no holder behind a writer
 writer_last : (o : ℕ) (r : Path) (d e : Entry) (t : Live) (us : List Live) → e
-      ≡ record { path = t.path; rights = t.rights o; hold = t.held o; version = t.versions o } → Fit t → Every Fit us → Every (Before o t) us → is_some d.hold
-      ≡ true → takes_out e.hold ≡ true → Holds_as o r d us → ⊥
+    ≡ record { path = t.path; rights = t.rights o; hold = t.held o; version = t.versions o } → Fit t → Every Fit us → Every (Before o t) us → is_some d.hold
+    ≡ true → takes_out e.hold ≡ true → Holds_as o r d us → ⊥
 writer_last o r d e t _ is ft fs bs hd he (later u us x) = writer_last o r d e t us is ft fs.1 bs.1 hd he x
 writer_last o r d e t _ is ft fs bs hd he (here u us p i) =
     let out : takes_out (t.held o) ≡ true = ap (λ (z : Entry). takes_out z.hold) (sym is) ∙ he in
@@ -304,16 +330,16 @@ none_holds o p d _ (here t ts e x) n = absurd (cc)
 none_holds o p d _ (later t ts x) n = absurd (cc)
 
 reads_before : (o : ℕ) (q r : Path) (d e : Entry) (ts : List Live) → same_path q r ≡ false → Every Fit ts → Pairs (Before o) ts → Pairs InOrder ts
-      → is_some d.hold ≡ true → takes_out e.hold ≡ true → Holds_as o q d ts → Holds_as o r e ts → ReadsBefore d q r
+    → is_some d.hold ≡ true → takes_out e.hold ≡ true → Holds_as o q d ts → Holds_as o r e ts → ReadsBefore d q r
 reads_before o q r d e [] n fs bs os hd he a b = absurd (none_holds o q d [] a refl)
 reads_before o q r d e (t ∷ ts) n fs bs os hd he (here _ _ p i) (here _ _ p' i') =
-      absurd (let y : true ≡ false = sym (ap (same_path q) (sym p' ∙ p) ∙ path_same q) ∙ n in cc)
+    absurd (let y : true ≡ false = sym (ap (same_path q) (sym p' ∙ p) ∙ path_same q) ∙ n in cc)
 reads_before o q r d e (t ∷ ts) n fs bs os hd he (here _ _ p i) (later _ _ b) = reader_first o q r d e t ts p i fs.0 fs.1 bs.0 os.0 hd he b
 reads_before o q r d e (t ∷ ts) n fs bs os hd he (later _ _ a) (here _ _ p i) = absurd (writer_last o q d e t ts i fs.0 fs.1 bs.0 hd he a)
 reads_before o q r d e (t ∷ ts) n fs bs os hd he (later _ _ a) (later _ _ b) = reads_before o q r d e ts n fs.1 bs.1 os.1 hd he a b
 
 module _ (p : Program) (ns : List ℤ) (limit : ℕ) (shows : CoreShows p ns limit) (seats : List Seat) (ss : List ObjectView)
-      (m : Mirror p ns limit seats ss) where
+    (m : Mirror p ns limit seats ss) where
   known : Trim m.state
   known = trim (serial_run (program p) ns limit) (zeros (sizes p.items)) m.state m.sound
 
@@ -327,24 +353,24 @@ module _ (p : Program) (ns : List ℤ) (limit : ℕ) (shows : CoreShows p ns lim
   queue_of o = ap is_ordered (rows o) ∙ ordered_line o m.state.roll order known.apart
 
   readers_of : (o : ℕ) (q r : List ℕ) (d e : Entry) → same_path q r ≡ false → find q (shelf_at ss o).queue ≡ Some d → is_some d.hold ≡ true
-        → find r (shelf_at ss o).queue ≡ Some e → takes_out e.hold ≡ true → ReadsBefore d q r
+      → find r (shelf_at ss o).queue ≡ Some e → takes_out e.hold ≡ true → ReadsBefore d q r
   readers_of o q r d e n a hd b he =
       reads_before o q r d e m.state.roll n known.fits (known.before o) order hd he (line_holds q o m.state.roll d (ap (find q) (sym (rows o))
-            ∙ a) hd) (line_holds r o m.state.roll e (ap (find r) (sym (rows o)) ∙ b) (out_some e.hold he))
+      ∙ a) hd) (line_holds r o m.state.roll e (ap (find r) (sym (rows o)) ∙ b) (out_some e.hold he))
 
 module _ (p : Program) (ns : List ℤ) (limit : ℕ) (shows : CoreShows p ns limit) where
   pub in_serial_order : InSerialOrder p ns limit
   in_serial_order = record {
     tasks = λ k roll ss notes r i j s t a b lt. let m = shows.mirror k roll ss notes r in
-          seats_ordered roll m.state.roll m.shown.seated (order p ns limit shows roll ss m) i j s t a b lt;
+        seats_ordered roll m.state.roll m.shown.seated (order p ns limit shows roll ss m) i j s t a b lt;
     queues = λ k roll ss notes r. queue_of p ns limit shows roll ss (shows.mirror k roll ss notes r);
   }
 
   pub entries_are_owned : EntriesAreOwned p ns limit
   entries_are_owned = record {
     owner = λ k roll ss notes r o j e q. let m = shows.mirror k roll ss notes r in
-          entry_get (Owned roll) (line o m.state.roll) j e (line_owned o roll m.state.roll m.shown.seated)
-          (ap (λ (x : ObjectView). slice_get x.queue j) (sym (m.shown.shelves o)) ∙ q);
+        entry_get (Owned roll) (line o m.state.roll) j e (line_owned o roll m.state.roll m.shown.seated)
+        (ap (λ (x : ObjectView). slice_get x.queue j) (sym (m.shown.shelves o)) ∙ q);
   }
 
   pub held_alone : CoreTells p ns limit → HeldAlone p ns limit

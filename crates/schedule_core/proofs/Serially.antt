@@ -90,7 +90,7 @@ kid_first t child body on e =
       second = below t.path (under t.part (own 0 f.deed));
       rest = map (below t.path) (map (under t.part) f.rest ++ later);
       is = ap (λ c. map (below t.path) (serial c t.part t.doing.steps t.place)) e
-            ∙ ap (λ ms. below t.path (own t.part d) ∷ map (below t.path) (map (under t.part) ms ++ later)) f.is;
+          ∙ ap (λ ms. below t.path (own t.part d) ∷ map (below t.path) (map (under t.part) ms ++ later)) f.is;
       here = append-nil t.path;
       still = λ store. refl;
       there = refl;
@@ -110,11 +110,11 @@ own_entry o b l t far e h = go (touches (t.rights o)) refl
     rest : (x : Bool) → touches (t.rights o) ≡ x → find t.path (line o (b ++ (t ∷ l))) ≡ find t.path ((if x then own_is ∷ [] else []) ++ line o l)
     rest x q =
         let front = line_away t.path o b (every_with (λ z. Apart z t) (λ z. Away t.path (slots o z)) (λ z g. before_away o t z g) b
-              (pairs_front Apart b t l far)) in
+        (pairs_front Apart b t l far)) in
         let mine = slot t.path (t.rights o) (t.held o) (t.versions o) in
         ap (find t.path) (line_both o b (t ∷ l)) ∙ find_away t.path (line o b) (line o (t ∷ l)) front ∙ ap (find t.path) (append_assoc born mine (line o l))
-              ∙ find_away t.path born (mine ++ line o l) (born_away t.path t.doing.course o t (not_kid t.path t.part))
-              ∙ ap (λ y. find t.path ((if y then own_is ∷ [] else []) ++ line o l)) q
+        ∙ find_away t.path born (mine ++ line o l) (born_away t.path t.doing.course o t (not_kid t.path t.part))
+        ∙ ap (λ y. find t.path ((if y then own_is ∷ [] else []) ++ line o l)) q
 
     go : (x : Bool) → touches (t.rights o) ≡ x → (touches (t.rights o) ≡ true) × (e ≡ own_is)
     go true q = (q, sym (some_entry own_is e (sym (ap (λ b. if b then Some own_is else find t.path (line o l)) (path_same t.path)) ∙ sym (rest true q) ∙ h)))
@@ -133,7 +133,7 @@ record Kid_entry (o : ℕ) (t : Live) (e : Entry) : Type 0 where
   version : e.version ≡ handed_on t o
 
 kid_entry : (o : ℕ) (b l : List Live) (t : Live) → Pairs Apart (b ++ (t ∷ l)) → (e : Entry) → find (t.path ++ t.part ∷ []) (line o (b ++ (t ∷ l))) ≡ Some e
-      → Kid_entry o t e
+    → Kid_entry o t e
 kid_entry o b l t far e h = by t.doing.course refl
   where
     kid : Path
@@ -144,16 +144,16 @@ kid_entry o b l t far e h = by t.doing.course refl
 
     none : find kid behind ≡ None
     none = find_none kid behind (every_append (Elsewhere kid) (slot t.path (t.rights o) (t.held o) (t.versions o)) (line o l)
-          (slot_away kid t.path (t.rights o) (t.held o) (t.versions o) (λ q. not_kid t.path t.part (sym q)))
-          (line_away kid o l (every_with (Apart t) (λ u. Away kid (slots o u)) (λ u g. kid_after o t u g) l (pairs_back Apart b t l far))))
+        (slot_away kid t.path (t.rights o) (t.held o) (t.versions o) (λ q. not_kid t.path t.part (sym q)))
+        (line_away kid o l (every_with (Apart t) (λ u. Away kid (slots o u)) (λ u g. kid_after o t u g) l (pairs_back Apart b t l far))))
 
     rest : find kid (line o (b ++ (t ∷ l))) ≡ find kid (born_slots t.doing.course o t ++ behind)
     rest =
         let born = born_slots t.doing.course o t in
         let mine = slot t.path (t.rights o) (t.held o) (t.versions o) in
         ap (find kid) (line_both o b (t ∷ l)) ∙ find_away kid (line o b) (line o (t ∷ l))
-              (line_away kid o b (every_with (λ z. Apart z t) (λ z. Away kid (slots o z)) (λ z g. kid_before o t z g) b (pairs_front Apart b t l far)))
-              ∙ ap (find kid) (append_assoc born mine (line o l))
+        (line_away kid o b (every_with (λ z. Apart z t) (λ z. Away kid (slots o z)) (λ z g. kid_before o t z g) b (pairs_front Apart b t l far)))
+        ∙ ap (find kid) (append_assoc born mine (line o l))
 
     never : (es : List Entry) → es ≡ [] → find kid (es ++ behind) ≡ Some e → ⊥
     never es q g = let n : None ≡ Some e = sym none ∙ sym (ap (λ xs. find kid (xs ++ behind)) q) ∙ g in absurd (cc)
@@ -168,8 +168,15 @@ kid_entry o b l t far e h = by t.doing.course refl
         row = record { path = kid; rights = rights_on child o; hold = None; version = handed_on t o }
 
         there : (x : Bool) → touches (rights_on child o) ≡ x → find kid ((if x then row ∷ [] else []) ++ behind) ≡ Some e → Kid_entry o t e
-        there true r g = record { child = child; body = body; on = on; creates = q; some = r; version =
-              ap (λ (z : Entry). z.version) (sym (some_entry row e (sym (ap (λ b. if b then Some row else find kid behind) (path_same kid)) ∙ g))) }
+        there true r g = record {
+          child = child;
+          body = body;
+          on = on;
+          creates = q;
+          some = r;
+          version =
+              ap (λ (z : Entry). z.version) (sym (some_entry row e (sym (ap (λ b. if b then Some row else find kid behind) (path_same kid)) ∙ g)));
+        }
         there false r g = absurd (never [] refl g)
 
         still : (x : Bool) → find kid ((if x then [] else slot kid (rights_on child o) None (handed_on t o)) ++ behind) ≡ Some e → Kid_entry o t e
@@ -189,7 +196,7 @@ handed_is a v xs h = go (changes a) h
     go false e = e
 
 module _ (p : Program) (ns : List ℤ) (limit k : ℕ) (seats : List Seat) (ss : List ObjectView) (notes : List PartNote) (x : Kept p ns limit k seats ss notes)
-      (i : ℕ) (s : Seat) (at : slice_get seats i ≡ Some s) where
+    (i : ℕ) (s : Seat) (at : slice_get seats i ≡ Some s) where
   abbrev run : List Mark
   run = serial_run (program p) ns limit
 
@@ -216,7 +223,7 @@ module _ (p : Program) (ns : List ℤ) (limit k : ℕ) (seats : List Seat) (ss :
 
   placed : Placed run zero_store x.somewhere.placed.log r.here
   placed = (every_back (Placed run zero_store x.somewhere.placed.log) r.front (r.here ∷ r.back)
-        (subst (Every (Placed run zero_store x.somewhere.placed.log)) r.is x.somewhere.ranged.places)).0
+      (subst (Every (Placed run zero_store x.somewhere.placed.log)) r.is x.somewhere.ranged.places)).0
 
   follow : Follows run (root_task (program p) ns limit) x.state.log s sp.task
   follow = (beside_at (Follows run (root_task (program p) ns limit) x.state.log) seats x.state.roll i s x.shown.seated at x.follows).1
@@ -233,8 +240,8 @@ module _ (p : Program) (ns : List ℤ) (limit k : ℕ) (seats : List Seat) (ss :
   events_are : events_done s.walker ≡ follow.done
   events_are =
       ap (λ n. take n (talk (task_of s.walker) s.walker.answers)) (sym follow.many)
-            ∙ ap (λ vs. take (length follow.done) (talk (task_of s.walker) vs)) (sym (append-nil s.walker.answers))
-            ∙ ap (take (length follow.done)) (follow.walks.talks []) ∙ take-append_seam follow.done (to_come sp.task.doing [])
+      ∙ ap (λ vs. take (length follow.done) (talk (task_of s.walker) vs)) (sym (append-nil s.walker.answers))
+      ∙ ap (take (length follow.done)) (follow.walks.talks []) ∙ take-append_seam follow.done (to_come sp.task.doing [])
 
   own_within : Within r.here.path r.here.part r.here.path
   own_within = record { rest = []; is = sym (append-nil r.here.path); from = tt }
@@ -246,9 +253,9 @@ module _ (p : Program) (ns : List ℤ) (limit k : ℕ) (seats : List Seat) (ss :
       let one : left r.here ≡ m ∷ map (below r.here.path) f.rest = ap (map (below r.here.path)) f.is in
       let same : same_path m.path r.here.path ≡ true = ap (λ q. same_path q r.here.path) (append-nil r.here.path) ∙ path_same r.here.path in
       let done : deeds (events_done s.walker) ≡ deeds_at r.here.path placed.front = ap deeds events_are ∙ follow.deeds ∙ ap (deeds_at s.path) (sym log_is)
-            ∙ ap (λ q. deeds_at q x.somewhere.placed.log) (sym path_is) ∙ sym (placed.done r.here.path own_within) in
+      ∙ ap (λ q. deeds_at q x.somewhere.placed.log) (sym path_is) ∙ sym (placed.done r.here.path own_within) in
       ap (λ ds. at_deed s.path (length ds) run zero_store) done ∙ ap (λ q. at_deed q (length (deeds_at r.here.path placed.front)) run zero_store) (sym path_is)
-            ∙ place_is run zero_store x.somewhere.placed.log r.here m (map (below r.here.path) f.rest) placed one same
+      ∙ place_is run zero_store x.somewhere.placed.log r.here m (map (below r.here.path) f.rest) placed one same
 
   kid_within : Within r.here.path r.here.part (r.here.path ++ r.here.part ∷ [])
   kid_within = record { rest = r.here.part ∷ []; is = refl; from = omega arith }
@@ -260,16 +267,16 @@ module _ (p : Program) (ns : List ℤ) (limit k : ℕ) (seats : List Seat) (ss :
       let name : child_path s.path s.children ≡ kid = ap (λ q. q ++ s.children ∷ []) (sym path_is) ∙ ap (λ n. r.here.path ++ n ∷ []) (sym part_is) in
       let front = placed.front ++ f.first ∷ [] in
       let whole : run ≡ front ++ (f.second ∷ (f.rest ++ placed.back)) = placed.is ∙ ap (λ ms. placed.front ++ (ms ++ placed.back)) f.is
-            ∙ sym (append_assoc placed.front (f.first ∷ []) (f.second ∷ (f.rest ++ placed.back))) in
+      ∙ sym (append_assoc placed.front (f.first ∷ []) (f.second ∷ (f.rest ++ placed.back))) in
       let none_first : deeds_at kid (f.first ∷ []) ≡ [] = none_there kid (f.first ∷ []) (λ q. not_kid r.here.path r.here.part (sym f.here ∙ q), tt) in
       let none : deeds_at kid front ≡ [] = deeds_both kid placed.front (f.first ∷ [])
-            ∙ ap (λ ds. ds ++ deeds_at kid (f.first ∷ [])) (placed.done kid kid_within
-            ∙ placed.unborn kid kid_within (λ q. not_kid r.here.path r.here.part (sym q))) ∙ none_first in
+      ∙ ap (λ ds. ds ++ deeds_at kid (f.first ∷ [])) (placed.done kid kid_within
+      ∙ placed.unborn kid kid_within (λ q. not_kid r.here.path r.here.part (sym q))) ∙ none_first in
       let count : length (deeds_at kid front) ≡ 0 = ap (λ (ds : List Deed). length ds) none in
       ap (λ q. at_deed q 0 run zero_store) name ∙ ap (λ n. at_deed kid n run zero_store) (sym count)
-            ∙ ap (λ ms. at_deed kid (length (deeds_at kid front)) ms zero_store) whole
-            ∙ count_before kid front (f.rest ++ placed.back) f.second zero_store (ap (λ q. same_path q kid) f.there ∙ path_same kid)
-            ∙ after_both placed.front (f.first ∷ []) zero_store ∙ f.still (after placed.front zero_store) ∙ sym placed.place
+      ∙ ap (λ ms. at_deed kid (length (deeds_at kid front)) ms zero_store) whole
+      ∙ count_before kid front (f.rest ++ placed.back) f.second zero_store (ap (λ q. same_path q kid) f.there ∙ path_same kid)
+      ∙ after_both placed.front (f.first ∷ []) zero_store ∙ f.still (after placed.front zero_store) ∙ sym placed.place
 
   apart : Pairs Apart (sp.before ++ (sp.task ∷ sp.later))
   apart = subst (Pairs Apart) sp.is (trim run zero_store x.state x.somewhere).apart
@@ -290,9 +297,9 @@ module _ (p : Program) (ns : List ℤ) (limit k : ℕ) (seats : List Seat) (ss :
   has_is : (o : ℕ) → touches (sp.task.rights o) ≡ true → shelves.content_for s.path (shelf_at ss o) ≡ content_for r.here o (x.somewhere.placed.contents o)
   has_is o some =
       ap (λ es. version_of (find s.path es) (shelf_at ss o).content) (rows o)
-            ∙ ap (λ q. version_of (find q (line o (sp.before ++ (sp.task ∷ sp.later)))) (shelf_at ss o).content) (sym sp.sits.path)
-            ∙ ap (λ z. version_of z (shelf_at ss o).content) (own_found o sp.before sp.later sp.task apart some)
-            ∙ ap (version_or (sp.task.versions o)) (cells o) ∙ ap (λ v. version_or v (x.somewhere.placed.contents o)) (versions_are o)
+      ∙ ap (λ q. version_of (find q (line o (sp.before ++ (sp.task ∷ sp.later)))) (shelf_at ss o).content) (sym sp.sits.path)
+      ∙ ap (λ z. version_of z (shelf_at ss o).content) (own_found o sp.before sp.later sp.task apart some)
+      ∙ ap (version_or (sp.task.versions o)) (cells o) ∙ ap (λ v. version_or v (x.somewhere.placed.contents o)) (versions_are o)
 
   seen : (o : ℕ) → touches (sp.task.rights o) ≡ true → (xs : Cells) → sp.task.versions o ≡ Some xs → xs ≡ at_object r.here.place o
   seen o some xs v =
@@ -301,19 +308,19 @@ module _ (p : Program) (ns : List ℤ) (limit k : ℕ) (seats : List Seat) (ss :
       sym (ap (λ w. version_or w (come o r.front (x.somewhere.placed.contents o))) (sym (versions_are o) ∙ v)) ∙ it
 
   entry_at : (o : ℕ) (e : Entry) → find s.path (shelf_at ss o).queue ≡ Some e → (touches (sp.task.rights o) ≡ true)
-        × (e ≡ record { path = sp.task.path; rights = sp.task.rights o; hold = sp.task.held o; version = sp.task.versions o })
+      × (e ≡ record { path = sp.task.path; rights = sp.task.rights o; hold = sp.task.held o; version = sp.task.versions o })
   entry_at o e h =
       own_entry o sp.before sp.later sp.task apart e (ap (λ q. find q (line o (sp.before ++ (sp.task ∷ sp.later)))) sp.sits.path
-            ∙ ap (find s.path) (sym (rows o)) ∙ h)
+      ∙ ap (find s.path) (sym (rows o)) ∙ h)
 
   held_here : (o : ℕ) → is_some (sp.task.held o) ≡ true → shelves.content_for s.path (shelf_at ss o) ≡ at_object (store_at p ns limit s) o
   held_here o some =
       has_is o (may_some (sp.task.held o) (sp.task.rights o) some (fit.holds o))
-            ∙ held_content run zero_store x.somewhere.placed.contents x.somewhere.placed.log r.front r.back r.here sound o
-            (ap (λ (z : Live). is_some (z.held o)) r.same_here ∙ some) ∙ ap (λ st. at_object st o) (sym store_is)
+      ∙ held_content run zero_store x.somewhere.placed.contents x.somewhere.placed.log r.front r.back r.here sound o
+      (ap (λ (z : Live). is_some (z.held o)) r.same_here ∙ some) ∙ ap (λ st. at_object st o) (sym store_is)
 
   held_of : (o : ℕ) (e : Entry) → find s.path (shelf_at ss o).queue ≡ Some e → is_some e.hold ≡ true → shelves.content_for s.path (shelf_at ss o)
-        ≡ at_object (store_at p ns limit s) o
+      ≡ at_object (store_at p ns limit s) o
   held_of o e h some = held_here o (ap (λ (z : Entry). is_some z.hold) (sym (entry_at o e h).1) ∙ some)
 
   kept_of : (o : ℕ) (e : Entry) → find s.path (shelf_at ss o).queue ≡ Some e → (xs : Cells) → e.version ≡ Some xs → xs ≡ at_object (store_at p ns limit s) o
@@ -322,13 +329,13 @@ module _ (p : Program) (ns : List ℤ) (limit k : ℕ) (seats : List Seat) (ss :
       seen o q.0 xs (ap (λ (z : Entry). z.version) (sym q.1) ∙ v) ∙ ap (λ st. at_object st o) (sym store_is)
 
   handed_of : (o : ℕ) (m : Mode) → First (upcoming s.walker) (λ y. y ≡ Take o m) → keeper_in s.path m (shelf_at ss o).queue ≡ None
-        → shelves.content_for s.path (shelf_at ss o) ≡ at_object (store_at p ns limit s) o
+      → shelves.content_for s.path (shelf_at ss o) ≡ at_object (store_at p ns limit s) o
   handed_of o m first clear =
       let head = take_heads sp.task o m (ahead_is s sp.task (λ y. y ≡ Take o m) sp.sits first) in
       let order = subst (λ es. Orderly sp.task.doing.spec sp.task.doing.plan sp.task.doing.course es sp.task.rights sp.task.held) head.is fit.orderly in
       let some = may_some (Some m) (sp.task.rights o) refl (mode_may (sp.task.rights o) m order.1) in
       let k : keeper_in sp.task.path m (line o (sp.before ++ (sp.task ∷ sp.later))) ≡ None =
-            ap (λ q. keeper_in q m (line o (sp.before ++ (sp.task ∷ sp.later)))) sp.sits.path ∙ ap (keeper_in s.path m) (sym (rows o)) ∙ clear in
+      ap (λ q. keeper_in q m (line o (sp.before ++ (sp.task ∷ sp.later)))) sp.sits.path ∙ ap (keeper_in s.path m) (sym (rows o)) ∙ clear in
       let free = free_is o m sp.before sp.later sp.task apart (keeper_none sp.task.path m (line o (sp.before ++ (sp.task ∷ sp.later))) k) in
       let may : all_allow o m r.front ≡ true = sym (all_allow_bare o m r.front) ∙ ap (all_allow o m) r.same_front ∙ free in
       let mode : mode_of (r.here.rights o) ≡ Some m = ap (λ (z : Live). mode_of (z.rights o)) r.same_here ∙ order.1 in
@@ -340,15 +347,15 @@ module _ (p : Program) (ns : List ℤ) (limit k : ℕ) (seats : List Seat) (ss :
       value_is o c s.path ss ∙ ap (λ xs. value_in xs c) (held_here o some)
 
   child_of_it : (o : ℕ) (e : Entry) → find (child_path s.path s.children) (shelf_at ss o).queue ≡ Some e → (xs : Cells) → e.version ≡ Some xs → xs
-        ≡ at_object (child_store p ns limit s) o
+      ≡ at_object (child_store p ns limit s) o
   child_of_it o e h xs v =
       let kid : child_path s.path s.children ≡ sp.task.path ++ sp.task.part ∷ [] = ap (λ q. q ++ s.children ∷ []) (sym sp.sits.path)
-            ∙ ap (λ n. sp.task.path ++ n ∷ []) (sym sp.sits.part) in
+      ∙ ap (λ n. sp.task.path ++ n ∷ []) (sym sp.sits.part) in
       let row = kid_entry o sp.before sp.later sp.task apart e (ap (λ q. find q (line o (sp.before ++ (sp.task ∷ sp.later)))) (sym kid)
-            ∙ ap (find (child_path s.path s.children)) (sym (rows o)) ∙ h) in
+      ∙ ap (find (child_path s.path s.children)) (sym (rows o)) ∙ h) in
       let less : Lessened (rights_on row.child o) (sp.task.rights o) =
-            lessened_twice (rights_on row.child o) (rights_on sp.task.doing.spec o) (sp.task.rights o)
-            (cover_lessens sp.task.doing.spec row.child (proper_covers (subst (Proper sp.task.doing.spec) row.creates fit.proper)) o) (fit.less o) in
+      lessened_twice (rights_on row.child o) (rights_on sp.task.doing.spec o) (sp.task.rights o)
+      (cover_lessens sp.task.doing.spec row.child (proper_covers (subst (Proper sp.task.doing.spec) row.creates fit.proper)) o) (fit.less o) in
       let had = touch_less (rights_on row.child o) (sp.task.rights o) less row.some in
       let version = handed_is (sp.task.rights o) (sp.task.versions o) xs (sym row.version ∙ v) in
       seen o had xs version ∙ ap (λ st. at_object st o) (sym (child_is row.child row.body row.on (ap (λ (z : Live). z.doing.course) r.same_here ∙ row.creates)))
@@ -359,20 +366,20 @@ module _ (p : Program) (ns : List ℤ) (limit k : ℕ) (seats : List Seat) (ss :
       record {
         rest = later;
         is = ap (filter_map read_of) (x.somewhere.sound.deeds s.path ∙ deeds_both s.path x.somewhere.placed.log (all_left x.somewhere.placed.roll))
-              ∙ filter_map-append read_of (deeds_at s.path x.somewhere.placed.log) (deeds_at s.path (all_left x.somewhere.placed.roll))
-              ∙ ap (λ vs. vs ++ later) (ap (reads_at s.path) log_is ∙ follow.answers);
+            ∙ filter_map-append read_of (deeds_at s.path x.somewhere.placed.log) (deeds_at s.path (all_left x.somewhere.placed.roll))
+            ∙ ap (λ vs. vs ++ later) (ap (reads_at s.path) log_is ∙ follow.answers);
       }
 
   events_of : Begins (talk (task_of s.walker) (reads_at s.path run)) (events_done s.walker)
   events_of =
       let so = events_so_far run zero_store x.somewhere.placed s.path (task_of s.walker) s.walker.answers follow.done sp.task.doing x.somewhere.sound
-            follow.walks (ap (reads_at s.path) log_is ∙ follow.answers) in
+      follow.walks (ap (reads_at s.path) log_is ∙ follow.answers) in
       record { rest = so.0; is = so.1 ∙ ap (λ es. es ++ so.0) (sym events_are) }
 
 module _ (proper : (p : AbstractProgram) (ns : List ℤ) (limit : ℕ)
-      → Proper (root_spec p) (root_course p ns limit)) (ascends : (p : AbstractProgram) (ns : List ℤ) (limit : ℕ)
-      → ReportAscends p ns limit) (stand : (p : AbstractProgram) (ns : List ℤ) (limit : ℕ)
-      → PartsStandByKey p ns limit) (p : Program) (ns : List ℤ) (limit : ℕ) where
+    → Proper (root_spec p) (root_course p ns limit)) (ascends : (p : AbstractProgram) (ns : List ℤ) (limit : ℕ)
+    → ReportAscends p ns limit) (stand : (p : AbstractProgram) (ns : List ℤ) (limit : ℕ)
+    → PartsStandByKey p ns limit) (p : Program) (ns : List ℤ) (limit : ℕ) where
   whole : (k : ℕ) (roll : List Seat) (ss : List ObjectView) (notes : List PartNote) → Reached p ns limit k roll ss notes → Kept p ns limit k roll ss notes
   whole k roll ss notes r = kept proper ascends stand p ns limit k roll ss notes r
 
