@@ -249,22 +249,12 @@ fn settle(shelf: &mut Shelf, hand: &mut Option<Content>)
     ensures one { is_one shelf.new.home hand.new ≡ true }
     ensures out { is_some hand.new ≡ is_out shelf.new.queue }
 {
-    if has_holder(shelf) {
+    if shelf.is_out() {
         return;
     }
     match hand.take() {
         Some(content) => shelf.bring(content),
         None => {}
-    }
-}
-
-// Whether an entry has the content out.
-fn has_holder(shelf: &Shelf) -> bool
-    ensures { result ≡ is_out shelf.now.queue }
-{
-    match shelf.holder() {
-        Some(_) => true,
-        None => false,
     }
 }
 
