@@ -16,7 +16,7 @@ use Rattle.object_shelf.specs.Shelves.{same_path, find, at, without, entered_in,
 use Rattle.object_shelf.specs.Shelves.{released, with_rights, taken, given, shifted, left, entered, written}
 use Rattle.object_shelf.proofs.Order.{same-is as same_is}
 use Rattle.schedule_core.specs.declared.steps.Seat.{Seat}
-use Rattle.schedule_core.specs.declared.notes.PartNote.{PartNote}
+use Rattle.task_roll.specs.declared.note.PartNote.{PartNote}
 use Rattle.schedule_core.specs.Fitting.{Lessened}
 use Rattle.schedule_core.specs.Plain.{on_shelf, Does, NotedIn, Reached}
 use Rattle.schedule_core.specs.Shown.{shelf_at}

@@ -15,7 +15,7 @@ use Rattle.jade_meaning.specs.Report.{ReportAscends}
 use Rattle.jade_meaning.specs.Answer.{PartsStandByKey}
 use Rattle.object_shelf.specs.Views.{ObjectView}
 use Rattle.schedule_core.specs.declared.steps.Seat.{Seat}
-use Rattle.schedule_core.specs.declared.notes.PartNote.{PartNote}
+use Rattle.task_roll.specs.declared.note.PartNote.{PartNote}
 use Rattle.schedule_core.specs.Notes.{note_key, note_of, notes_of}
 use Rattle.schedule_core.specs.Core.{below}
 use Rattle.schedule_core.specs.Unplaced.{State}

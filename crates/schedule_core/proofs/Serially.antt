@@ -28,7 +28,7 @@ use Rattle.object_shelf.specs.Views.{ObjectView}
 use Rattle.object_shelf.specs.Shelves.{find, keeper_in, version_of}
 use Rattle.object_shelf.specs.Shelves as shelves
 use Rattle.schedule_core.specs.declared.steps.Seat.{Seat}
-use Rattle.schedule_core.specs.declared.notes.PartNote.{PartNote}
+use Rattle.task_roll.specs.declared.note.PartNote.{PartNote}
 use Rattle.schedule_core.specs.Core.{Cells, below, content_for, value_in, touches, enters_still, handed_on, all_allow, if_read_only, version_or, changes}
 use Rattle.schedule_core.specs.Unplaced.{Live, State}
 use Rattle.schedule_core.specs.Sited as sited

@@ -7,7 +7,7 @@ use Rattle.jade_meaning.specs.Laws.{Every}
 use Rattle.jade_meaning.specs.Report.{report}
 use Rattle.object_shelf.specs.Views.{ObjectView}
 use Rattle.schedule_core.specs.declared.steps.Seat.{Seat}
-use Rattle.schedule_core.specs.declared.notes.PartNote.{PartNote}
+use Rattle.task_roll.specs.declared.note.PartNote.{PartNote}
 use Rattle.schedule_core.specs.Notes.{note_key, notes_of, told}
 use Rattle.schedule_core.specs.Plain.{Reached}
 

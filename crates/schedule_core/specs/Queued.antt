@@ -10,7 +10,7 @@ use Rattle.object_shelf.specs.Views.{ObjectView}
 use Rattle.object_shelf.specs.Shelves.{same_path, find, changes, takes_out, blocker_in, keeper_in}
 use Rattle.object_shelf.specs.Order.{stands_before, is_ordered}
 use Rattle.schedule_core.specs.declared.steps.Seat.{Seat}
-use Rattle.schedule_core.specs.declared.notes.PartNote.{PartNote}
+use Rattle.task_roll.specs.declared.note.PartNote.{PartNote}
 use Rattle.schedule_core.specs.Plain.{Reached, NotedIn}
 use Rattle.schedule_core.specs.ByNumber.{shelf_at}
 

@@ -13,7 +13,7 @@ use Rattle.object_shelf.specs.declared.queue.Entry.{Entry}
 use Rattle.object_shelf.specs.Views.{ObjectView}
 use Rattle.object_shelf.specs.Shelves.{find, keeper_in, content_for}
 use Rattle.schedule_core.specs.declared.steps.Seat.{Seat}
-use Rattle.schedule_core.specs.declared.notes.PartNote.{PartNote}
+use Rattle.task_roll.specs.declared.note.PartNote.{PartNote}
 use Rattle.schedule_core.specs.Plain.{Reached, value_at}
 use Rattle.schedule_core.specs.ByNumber.{shelf_at}
 

@@ -6,7 +6,7 @@ use Rattle.jade_meaning.specs.Serial.{final, at_object}
 use Rattle.jade_meaning.specs.Walk.{upcoming, First}
 use Rattle.object_shelf.specs.Views.{ObjectView}
 use Rattle.schedule_core.specs.declared.steps.Seat.{Seat}
-use Rattle.schedule_core.specs.declared.notes.PartNote.{PartNote}
+use Rattle.task_roll.specs.declared.note.PartNote.{PartNote}
 use Rattle.schedule_core.specs.Counts.{total}
 use Rattle.schedule_core.specs.Plain.{Reached, free_in}
 use Rattle.schedule_core.specs.ByNumber.{shelf_at}
