@@ -27,7 +27,7 @@ clear-stops m (x ∷ es) zero e le lt q h =
 clear-stops m (x ∷ es) (suc n) e le lt q h = go (clear-stops m es n e) (conflicts m x) le
   where
     go : (n ≤ clear_for m es → n < length es → e ≡ slice_index_or es n e → conflicts m e ≡ true → n ≡ clear_for m es) → (b : Bool)
-          → suc n ≤ (if b then 0 else suc (clear_for m es)) → suc n ≡ (if b then 0 else suc (clear_for m es))
+        → suc n ≤ (if b then 0 else suc (clear_for m es)) → suc n ≡ (if b then 0 else suc (clear_for m es))
     go f true le = absurd (omega arith)
     go f false le = ap suc (f (omega arith) (omega arith) q h)
 
@@ -40,7 +40,7 @@ clear-goes m (x ∷ es) zero e le lt q h =
 clear-goes m (x ∷ es) (suc n) e le lt q h = go (clear-goes m es n e) (conflicts m x) le
   where
     go : (n ≤ clear_for m es → n < length es → e ≡ slice_index_or es n e → conflicts m e ≡ false → n + 1 ≤ clear_for m es) → (b : Bool)
-          → suc n ≤ (if b then 0 else suc (clear_for m es)) → suc n + 1 ≤ (if b then 0 else suc (clear_for m es))
+        → suc n ≤ (if b then 0 else suc (clear_for m es)) → suc n + 1 ≤ (if b then 0 else suc (clear_for m es))
     go f true le = absurd (omega arith)
     go f false le = let r = f (omega arith) (omega arith) q h in omega (arith, r)
 
@@ -100,7 +100,7 @@ entered-near m [] (suc n) e le ln = absurd (omega arith)
 entered-near m (x ∷ es) (suc n) e le ln = go (entered-near m es n e) (conflicts m x) le
   where
     go : (n ≤ clear_for m es → n ≤ length es → n ≤ clear_for m (insert es n e)) → (b : Bool) → suc n ≤ (if b then 0 else suc (clear_for m es))
-          → suc n ≤ (if b then 0 else suc (clear_for m (insert es n e)))
+        → suc n ≤ (if b then 0 else suc (clear_for m (insert es n e)))
     go f true le = absurd (omega arith)
     go f false le = let r = f (omega arith) (omega arith) in omega (arith, r)
 
@@ -111,7 +111,7 @@ entered-clear m [] (suc n) e le ln h = absurd (omega arith)
 entered-clear m (x ∷ es) (suc n) e le ln h = go (entered-clear m es n e) (conflicts m x) le
   where
     go : (n ≤ clear_for m es → n ≤ length es → conflicts m e ≡ false → clear_for m (insert es n e) ≡ suc (clear_for m es)) → (b : Bool)
-          → suc n ≤ (if b then 0 else suc (clear_for m es)) →
+        → suc n ≤ (if b then 0 else suc (clear_for m es)) →
         (if b then 0 else suc (clear_for m (insert es n e))) ≡ suc (if b then 0 else suc (clear_for m es))
     go f true le = absurd (omega arith)
     go f false le = ap suc (f (omega arith) (omega arith) h)
@@ -138,7 +138,7 @@ changed-near m [] (suc n) e le = absurd (omega arith)
 changed-near m (x ∷ es) (suc n) e le = go (changed-near m es n e) (conflicts m x) le
   where
     go : (n ≤ clear_for m es → n ≤ clear_for m (slice_set es n e)) → (b : Bool) → suc n ≤ (if b then 0 else suc (clear_for m es))
-          → suc n ≤ (if b then 0 else suc (clear_for m (slice_set es n e)))
+        → suc n ≤ (if b then 0 else suc (clear_for m (slice_set es n e)))
     go f true le = absurd (omega arith)
     go f false le = let r = f (omega arith) in omega (arith, r)
 
@@ -153,13 +153,13 @@ changed-clear m [] n e lt h = absurd (omega arith)
 changed-clear m (x ∷ es) zero e lt h = go (conflicts m x) lt
   where
     go : (b : Bool) → 0 < (if b then 0 else suc (clear_for m es)) → (if b then 0 else suc (clear_for m es))
-          ≡ (if conflicts m e then 0 else suc (clear_for m es))
+        ≡ (if conflicts m e then 0 else suc (clear_for m es))
     go true lt = absurd (omega arith)
     go false lt = subst (λ b. suc (clear_for m es) ≡ (if b then 0 else suc (clear_for m es))) (sym h) refl
 changed-clear m (x ∷ es) (suc n) e lt h = go (changed-clear m es n e) (conflicts m x) lt
   where
     go : (n < clear_for m es → conflicts m e ≡ false → clear_for m es ≡ clear_for m (slice_set es n e)) → (b : Bool)
-          → suc n < (if b then 0 else suc (clear_for m es)) →
+        → suc n < (if b then 0 else suc (clear_for m es)) →
         (if b then 0 else suc (clear_for m es)) ≡ (if b then 0 else suc (clear_for m (slice_set es n e)))
     go f true lt = absurd (omega arith)
     go f false lt = ap suc (f (omega arith) h)
@@ -181,7 +181,7 @@ left-near m [] (suc n) le = absurd (omega arith)
 left-near m (x ∷ es) (suc n) le = go (left-near m es n) (conflicts m x) le
   where
     go : (n ≤ clear_for m es → n ≤ clear_for m (remove es n)) → (b : Bool) → suc n ≤ (if b then 0 else suc (clear_for m es))
-          → suc n ≤ (if b then 0 else suc (clear_for m (remove es n)))
+        → suc n ≤ (if b then 0 else suc (clear_for m (remove es n)))
     go f true le = absurd (omega arith)
     go f false le = let r = f (omega arith) in omega (arith, r)
 

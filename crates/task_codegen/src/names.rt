@@ -4,8 +4,8 @@ ghost use Rattle.std.specs.Prelude.{◌≡◌, [], ◌∷◌, ◌+◌, ◌-◌, 
 ghost use Rattle.task_translation.specs.Compile.{slot_of, entry, inputs_in, given_scope};
 ghost use Rattle.task_codegen.specs.Compiled.{created};
 
-use jade_meaning::resolve::DeclaredItems;
 use jade_base::Memory;
+use jade_meaning::resolve::DeclaredItems;
 use jade_syntax::Name;
 use jade_syntax::name::same_name;
 use jade_syntax::tree::{Item, NameList};

@@ -7,11 +7,11 @@ ghost use Rattle.jade_syntax.specs.Objects.{sizes};
 ghost use Rattle.task_translation.specs.Compile.{compiled, inputs_in};
 ghost use Rattle.task_translation.specs.Correct.{Follows};
 
-use jade_meaning::resolve::DeclaredItems;
 use crate::slots::size;
 use crate::statements::task;
 use code_meaning::code::Body;
 use jade_base::Memory;
+use jade_meaning::resolve::DeclaredItems;
 use jade_syntax::Checked;
 use jade_syntax::tree::{NameList, Program};
 use std::alloc::Global;

@@ -33,7 +33,7 @@ returns-clause-done c =
     let f : fits p k es ≡ true = sym (there p k es c.entry_place-place.result c.requires.ordered c.entry_place-place.ensures lt) ∙ sym c.child_fits.ensures ∙
     c.if-not-child_fits.false in
     c.in_ok-insert.ensures.done ∙ entered-into p k c.args.rights es c.entry_place-place.result c.index.result.now c.in_ok-entry.entry
-          c.entry_place-place.ensures lt
+    c.entry_place-place.ensures lt
     c.index.ensures c.in_ok-entry.ensures ∙ sym (fitted-in p k c.args.rights es f)
 
 pub returns-clause-order : goal.returns-clause-order

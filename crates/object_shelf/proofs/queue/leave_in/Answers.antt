@@ -15,8 +15,11 @@ returns-then-place-len-clause-order c =
 
 pub returns-else-place-len-clause-done : goal.returns-else-place-len-clause-done
 returns-else-place-len-clause-done c =
-    without-no-place c.args.path.now c.args.rows.now.items c.entry_place-place.result c.entry_place-place.ensures (omega (arith, c.len.ensures,
-          c.if-place-len.false))
+    without-no-place c.args.path.now c.args.rows.now.items c.entry_place-place.result c.entry_place-place.ensures (omega (
+      arith,
+      c.len.ensures,
+      c.if-place-len.false,
+    ))
 
 pub returns-then-place-len-clause-clears : goal.returns-then-place-len-clause-clears
 returns-then-place-len-clause-clears c =

@@ -14,7 +14,7 @@ returns-then-place-len-clause-done c =
 pub returns-then-place-len-clause-order : goal.returns-then-place-len-clause-order
 returns-then-place-len-clause-order c =
     ap is_ordered (returns-then-place-len-clause-done c) ∙ at-ordered c.args.path.now (with_rights c.args.rights) c.args.rows.now.items (λ e. refl)
-          ∙ c.requires.ordered
+    ∙ c.requires.ordered
 
 pub returns-else-place-len-clause-done : goal.returns-else-place-len-clause-done
 returns-else-place-len-clause-done c =

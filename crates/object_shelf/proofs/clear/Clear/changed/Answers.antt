@@ -16,6 +16,6 @@ returns c = λ es e g w f q h.
       commuting = c.clear_changed-self-3.ensures es f q h.commuting;
       out = out-changed es c.args.place e f c.args.was_out (takes_out c.index.result.now.hold) c.args.self.now.out c.out_changed-self.result g w
           (ap (λ (x : Entry). takes_out x.hold) (sym own)) h.out c.out_changed-self.ensures.same c.out_changed-self.ensures.more
-                c.out_changed-self.ensures.fewer ∙
+          c.out_changed-self.ensures.fewer ∙
           ap out_many (sym q);
     }
