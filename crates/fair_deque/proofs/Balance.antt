@@ -51,7 +51,12 @@ module _ {T : Type 0} where
       )
 
   pub admits : Admits IsBalanced (history {T = T} [] [])
-  admits items views b h = omega (arith, b h, weight-append (λ (u : History T). weight h u.put) views (history {T = T} [] [] ∷ []), weight-append (λ (u : History T). weight h u.taken) views (history {T = T} [] [] ∷ []))
+  admits items views b h = omega (
+    arith,
+    b h,
+    weight-append (λ (u : History T). weight h u.put) views (history {T = T} [] [] ∷ []),
+    weight-append (λ (u : History T). weight h u.taken) views (history {T = T} [] [] ∷ []),
+  )
 
   pub learns : (port : ℕ) (v : History T) → Learns IsBalanced port v (λ items. Accounts v items)
   learns port v items views b at = record { histories = views; balanced = b; place = port; there = at }
