@@ -1,5 +1,5 @@
 mod Ranging
-mod Newest
+mod Naming
 mod Patching
 mod Opening
 mod Chaining
@@ -7,3 +7,4 @@ mod Params
 mod Blocks
 mod Cells
 mod Sizing
+mod Whole

@@ -7,23 +7,16 @@ ghost use Rattle.task_codegen.specs.Compiled.{created};
 use crate::ranges::Ranges;
 use jade_base::Memory;
 use jade_syntax::Name;
-use jade_syntax::name::same_name;
 use jade_syntax::tree::{Item, NameList};
+use name_scope::NameScope;
 use std::alloc::Global;
 use std::marker::Model;
-
-/// A variable in scope, and its slot.
-#[derive(Clone, Copy)]
-struct Variable<'p> {
-    name: &'p Name,
-    slot: u32,
-}
 
 /// A body: its variables in scope, of which the newest of a name counts, the items, and the next
 /// free slot. Contracts see the variables with the newest first.
 #[derive(Drop)]
 pub(crate) struct Names<'m, 'p> {
-    variables: Vec<Variable<'p>>,
+    variables: NameScope<'p, u32>,
     ranges: &'m Ranges<'p>,
     next: u32,
 }
@@ -34,7 +27,7 @@ impl<'m, 'p> Model for Names<'m, 'p> {
 
     ghost Value = { InBody };
 
-    ghost view = { λ b. record { items = b.ranges.now; scope = in_scope b.variables.items; next = b.next } };
+    ghost view = { λ b. record { items = b.ranges.now; scope = in_scope b.variables; next = b.next } };
 }
 
 impl<'m, 'p> Names<'m, 'p> {
@@ -43,7 +36,7 @@ impl<'m, 'p> Names<'m, 'p> {
         ensures { result ≡ record { items = ranges.now; scope = []; next = 0 } }
     {
         Names {
-            variables: Vec::new(alloc),
+            variables: NameScope::none(alloc),
             ranges,
             next: 0,
         }
@@ -75,7 +68,7 @@ impl<'m, 'p> Names<'m, 'p> {
         ensures { OnOk result (self.new ≡ record { items = self.old.items; scope = entry name.now slot ∷ self.old.scope; next = slot + 1 }) }
     {
         let next = slot.checked_add(1).ok_or(Memory)?;
-        self.variables.push(Variable { name, slot })?;
+        self.variables.declare(name.bytes(), slot)?;
         self.next = next;
         Ok(())
     }
@@ -84,23 +77,15 @@ impl<'m, 'p> Names<'m, 'p> {
     pub(crate) fn leave(&mut self, len: usize, next: u32)
         ensures { self.new ≡ record { items = self.old.items; scope = drop (length self.old.scope - len) self.old.scope; next = next } }
     {
-        self.variables.truncate(len);
+        self.variables.leave(len);
         self.next = next;
     }
 
-    /// The slot of a name, where it is a variable. It takes no memory.
+    /// The slot of a name, where it is a variable, in constant time. It takes no memory.
     pub(crate) fn slot_of(&self, name: &Name) -> Option<u32>
         ensures { result ≡ slot_of name.now self.now.scope }
     {
-        let mut left = self.variables.len();
-        while left > 0 {
-            left -= 1;
-            let variable = &self.variables[left];
-            if same_name(name.bytes(), variable.name.bytes()) {
-                return Some(variable.slot);
-            }
-        }
-        None
+        self.variables.get(name.bytes())
     }
 
     /// The inputs are in scope.

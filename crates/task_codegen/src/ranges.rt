@@ -1,14 +1,16 @@
 //! The objects that names stand for.
 
-ghost use Rattle.std.specs.Prelude.{◌≡◌, ◌+◌, ◌≤◌, length};
-ghost use Rattle.jade_syntax.specs.Numbering.{same_name};
-ghost use Rattle.jade_syntax.specs.Objects.{sizes, amount};
+ghost use Rattle.std.specs.Prelude.{◌≡◌, ◌+◌, ◌≤◌, [], ◌∷◌, ◌++◌, length, replicate, IfOk, OnOk};
+ghost use Rattle.jade_syntax.specs.Objects.{sizes, sizes as sizes_of, amount};
 ghost use Rattle.jade_meaning.specs.Course.{range_from};
-ghost use Rattle.task_codegen.specs.Extents.{as_range};
+ghost use Rattle.task_codegen.specs.Extents.{as_range, Declares, Finds};
 
+use crate::expressions::small;
+use jade_base::Memory;
 use jade_syntax::Name;
-use jade_syntax::name::same_name as same_bytes;
 use jade_syntax::tree::{Item, Items};
+use name_scope::NameScope;
+use std::alloc::Global;
 use std::marker::Model;
 
 /// The objects that a name stands for: their first number, how many they are, and the cells of
@@ -20,13 +22,6 @@ pub(crate) struct Range {
     pub(crate) size: usize,
 }
 
-// Whether two names are the same.
-fn same_name(first: &Name, second: &Name) -> bool
-    ensures { result ≡ same_name first.now second.now }
-{
-    same_bytes(first.bytes(), second.bytes())
-}
-
 // A number of cells or members; none where it is below zero.
 fn amount_of(number: i64) -> usize
     ensures { result ≡ amount number }
@@ -34,11 +29,13 @@ fn amount_of(number: i64) -> usize
     if number < 0 { 0 } else { number as usize }
 }
 
-/// The items of a program of at most 4,096 objects, which contracts see as the list of them.
+/// The items of a program of at most 4,096 objects, which contracts see as the list of them. `named`
+/// has for each name the objects of the first item of that name.
 #[derive(Drop)]
 pub(crate) struct Ranges<'p> {
     items: &'p Items,
     objects: usize,
+    named: NameScope<'p, Range>,
 }
 
 impl<'p> Model for Ranges<'p> {
@@ -47,6 +44,7 @@ impl<'p> Model for Ranges<'p> {
     ghost use Rattle.jade_syntax.specs.declared.tree.Item.{Item as ItemOf};
     ghost use Rattle.jade_syntax.specs.contracts.tree.Item as item;
     ghost use Rattle.jade_syntax.specs.Objects.{sizes};
+    ghost use Rattle.task_codegen.specs.Extents.{Finds};
 
     ghost Value = { List ItemOf };
 
@@ -54,19 +52,21 @@ impl<'p> Model for Ranges<'p> {
 
     ghost view = { λ d. d.items.now };
 
-    ghost invariant = { λ d. (d.objects ≡ length (sizes d.items.now)) × (length (sizes d.items.now) ≤ 4096) };
+    ghost invariant = { λ d. (d.objects ≡ length (sizes d.items.now)) × Finds d.items.now d.named };
 }
 
 impl<'p> Ranges<'p> {
     /// These items.
-    pub(crate) fn of(items: &'p Items) -> Ranges<'p>
+    pub(crate) fn of(alloc: Global, items: &'p Items) -> Result<Ranges<'p>, Memory>
         requires { length (sizes items.now) ≤ 4096 }
-        ensures { result ≡ items.now }
+        ensures { IfOk result (λ ranges. ranges ≡ items.now) }
     {
-        Ranges {
+        let named = named_ranges(alloc, items)?;
+        Ok(Ranges {
             items,
             objects: count_objects(items),
-        }
+            named,
+        })
     }
 
     /// The items.
@@ -83,12 +83,19 @@ impl<'p> Ranges<'p> {
         self.objects
     }
 
-    /// The objects that a name stands for; one that is not declared has the number after the last,
-    /// and no cell.
+    /// The objects that a name stands for, in constant time; one that is not declared has the number
+    /// after the last, and no cell.
     pub(crate) fn range(&self, name: &Name) -> Range
         ensures { as_range result ≡ range_from 0 name.now self.now }
     {
-        range_of(self.items, name)
+        match self.named.get(name.bytes()) {
+            Some(range) => range,
+            None => Range {
+                first: self.objects,
+                count: 0,
+                size: 0,
+            },
+        }
     }
 }
 
@@ -108,49 +115,85 @@ fn count_objects(items: &Items) -> usize
     count
 }
 
-// The objects that a name stands for.
-fn range_of(items: &Items, name: &Name) -> Range
-    requires { length (sizes items.now) ≤ 4096 }
-    ensures { as_range result ≡ range_from 0 name.now items.now }
+// One more item is declared before the others, the first of whose objects has this number; the
+// answer is the first number then.
+fn declare_item<'p>(
+    named: &mut NameScope<'p, Range>,
+    item: &'p Item,
+    next: usize,
+) -> Result<usize, Memory>
+    requires { length (sizes (item.now ∷ [])) ≤ next }
+    ensures { IfOk result (Declares named.old named.new item.now next) }
 {
-    let mut first = 0;
-    for i in 0..items.len() {
-        match items.at(i) {
-            Item::Input { .. } => {}
-            Item::Single {
-                name: declared,
-                size,
-                ..
-            } => {
-                if same_name(name, declared) {
-                    return Range {
-                        first,
-                        count: 1,
-                        size: amount_of(size.value),
-                    };
-                }
-                first += 1;
-            }
-            Item::Family {
-                name: declared,
-                count,
-                size,
-                ..
-            } => {
-                if same_name(name, declared) {
-                    return Range {
-                        first,
-                        count: amount_of(count.value),
-                        size: amount_of(size.value),
-                    };
-                }
-                first += amount_of(count.value);
-            }
+    match item {
+        Item::Input { .. } => Ok(next),
+        Item::Single { name, size, .. } => {
+            let first = next - 1;
+            let size = amount_of(size.value);
+            let count = 1;
+            named.declare(name.bytes(), Range { first, count, size })?;
+            Ok(first)
+        }
+        Item::Family {
+            name, count, size, ..
+        } => {
+            let count = amount_of(count.value);
+            let first = next - count;
+            let size = amount_of(size.value);
+            named.declare(name.bytes(), Range { first, count, size })?;
+            Ok(first)
         }
     }
-    Range {
-        first,
-        count: 0,
-        size: 0,
+}
+
+// The objects that each name stands for: the first item of a name is declared last.
+fn named_ranges<'p>(alloc: Global, items: &'p Items) -> Result<NameScope<'p, Range>, Memory>
+    requires { length (sizes items.now) ≤ 4096 }
+    ensures { IfOk result (Finds items.now) }
+{
+    let mut named = NameScope::none(alloc);
+    let mut first = count_objects(items);
+    let mut left = items.len();
+    while left > 0 {
+        left -= 1;
+        first = declare_item(&mut named, items.at(left), first)?;
     }
+    Ok(named)
+}
+
+// The sizes of the objects of an item.
+fn push_sizes(sizes: &mut Vec<u32>, item: &Item) -> Result<(), Memory>
+    ensures { OnOk result (sizes.new.items ≡ sizes.old.items ++ sizes_of (item.now ∷ [])) }
+{
+    match item {
+        Item::Input { .. } => Ok(()),
+        Item::Single { size, .. } => {
+            sizes.push(small(amount_of(size.value))?)?;
+            Ok(())
+        }
+        Item::Family { count, size, .. } => {
+            push_many(sizes, amount_of(count.value), small(amount_of(size.value))?)
+        }
+    }
+}
+
+// A size, so many times.
+fn push_many(sizes: &mut Vec<u32>, count: usize, size: u32) -> Result<(), Memory>
+    ensures { OnOk result (sizes.new.items ≡ sizes.old.items ++ replicate count size) }
+{
+    for _ in 0..count {
+        sizes.push(size)?;
+    }
+    Ok(())
+}
+
+/// The sizes of all objects. The error is want of memory, or a size that is too large.
+pub(crate) fn sizes(alloc: Global, items: &Items) -> Result<Vec<u32>, Memory>
+    ensures { IfOk result (λ sizes. sizes.items ≡ sizes_of items.now) }
+{
+    let mut sizes = Vec::new(alloc);
+    for i in 0..items.len() {
+        push_sizes(&mut sizes, items.at(i))?;
+    }
+    Ok(sizes)
 }
