@@ -14,7 +14,7 @@ slot_found x [] = refl
 slot_found x (v ∷ vs) = by_cases (same_name x v.0) (slot_found x vs)
   where
     by_cases : (b : Bool) → lookup (same_name x) vs ≡ slot_of x (in_scope vs)
-          → cond b (Some v.1) (lookup (same_name x) vs) ≡ (if b then Some v.1 else slot_of x (in_scope vs))
+        → cond b (Some v.1) (lookup (same_name x) vs) ≡ (if b then Some v.1 else slot_of x (in_scope vs))
     by_cases true h = refl
     by_cases false h = h
 

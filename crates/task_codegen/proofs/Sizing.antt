@@ -27,7 +27,7 @@ pub reaches_more : (os : List Operand) (i j : ℕ) (o : Operand) → slice_get o
 reaches_more os i j o at e = sym (ap reaches (drop_item os i o at ∙ ap (λ k. o ∷ drop k os) e))
 
 pub room_more : (calls : Calls) (least : ℕ) (code : List Instruction) (i j : ℕ) (x : Instruction) → slice_get code i ≡ Some x → i + 1 ≡ j
-      → max (needs calls x) (room calls least (drop j code)) ≡ room calls least (drop i code)
+    → max (needs calls x) (room calls least (drop j code)) ≡ room calls least (drop i code)
 room_more calls least code i j x at e = sym (ap (room calls least) (drop_item code i x at ∙ ap (λ k. x ∷ drop k code) e))
 
 -- the bodies before one have their slots
@@ -56,13 +56,13 @@ calls_same : (inputs : ℕ) (before now : List Body) (at : ℕ) → Sizing input
 calls_same inputs before now at h =
     let f = with_slots inputs (calls_of before) in
     ap calls_of h.same ∙ map-append (λ b. b.call) (map f (take at before)) (drop at before)
-          ∙ ap (λ l. l ++ calls_of (drop at before)) (calls_kept inputs (calls_of before) (take at before))
+    ∙ ap (λ l. l ++ calls_of (drop at before)) (calls_kept inputs (calls_of before) (take at before))
     ∙ sym (map-append (λ b. b.call) (take at before) (drop at before)) ∙ ap calls_of (take-append-drop at before)
 
 pub one_sized : (inputs : ℕ) (before now next : List Body) (at n : ℕ) (b : Body) → at < length before → Sizing inputs before now at → b
-      ≡ slice_index_or now at b → n ≡ (with_slots inputs (calls_of now) b).slots
+    ≡ slice_index_or now at b → n ≡ (with_slots inputs (calls_of now) b).slots
     → ((base rest : List Body) (old : Body) → now ≡ base ++ old ∷ rest → length base ≡ at → next
-          ≡ base ++ record { call = old.call; slots = n; code = old.code } ∷ rest) → Sizing inputs before next (at + 1)
+    ≡ base ++ record { call = old.call; slots = n; code = old.code } ∷ rest) → Sizing inputs before next (at + 1)
 one_sized inputs before now next at n b lt h eb en set =
     let f = with_slots inputs (calls_of before) in
     let b0 = slice_index_or before at b in
@@ -75,7 +75,7 @@ one_sized inputs before now next at n b lt h eb en set =
     let slots : n ≡ (f b0).slots = en ∙ ap₂ (λ c (k : Body). (with_slots inputs c k).slots) (calls_same inputs before now at h) is in
     record {
       same = set base rest b0 now_is long ∙ ap (λ s. base ++ record { call = b0.call; slots = s; code = b0.code } ∷ rest) slots
-            ∙ sym (append_assoc base (f b0 ∷ []) rest) ∙ ap (λ l. l ++ rest) (sym (map_more f before at b0 here));
+          ∙ sym (append_assoc base (f b0 ∷ []) rest) ∙ ap (λ l. l ++ rest) (sym (map_more f before at b0 here));
       within = omega (arith, lt);
     }
 

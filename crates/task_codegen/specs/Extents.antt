@@ -25,4 +25,4 @@ pub record Finds (items : List Item) (named : List (Name × Range)) : Type 0 whe
 pub record Declares (before after : List (Name × Range)) (item : Item) (next first : ℕ) : Type 0 where
   pub counted : first + length (sizes (item ∷ [])) ≡ next
   pub at : (x : Name) (objects : ℕ) (rest : List Item) → range_or_none objects (lookup (same_name x) before) ≡ range_from next x rest
-        → range_or_none objects (lookup (same_name x) after) ≡ range_from first x (item ∷ rest)
+      → range_or_none objects (lookup (same_name x) after) ≡ range_from first x (item ∷ rest)

@@ -135,7 +135,10 @@ fn declare_item<'p>(
             Ok(first)
         }
         Item::Family {
-            name, count, size, ..
+            name,
+            count,
+            size,
+            ..
         } => {
             let count = amount_of(count.value);
             let first = next - count;

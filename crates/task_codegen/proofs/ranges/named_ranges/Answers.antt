@@ -6,7 +6,7 @@ pub declare_item-requires : goal.declare_item-requires
 declare_item-requires c =
     let next : (c.loop-left.left - 1) + 1 ≡ c.loop-left.left = omega arith in
     room_before c.args.items.now (c.loop-left.left - 1) c.loop-left.left c.at.result.now c.loop-left.named c.loop-left.first c.at.ensures next
-          c.loop-left.invariant
+    c.loop-left.invariant
 
 pub loop-left-preserved : goal.loop-left-preserved
 loop-left-preserved c =
