@@ -5,3 +5,4 @@ mod Meanings
 mod Fitting
 mod Acting
 mod Running
+mod Executing

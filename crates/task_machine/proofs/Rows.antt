@@ -10,6 +10,11 @@ use Rattle.std.proofs.Common.{drop}
 use Rattle.jade_base.specs.Held.{Held}
 use Rattle.task_machine.specs.declared.holdings.Row.{Row}
 use Rattle.task_machine.specs.Playing.{Contents, cell_of, writable, put_in, with_cell}
+use Rattle.std.proofs.Common.{map}
+use Rattle.jade_base.specs.declared.place.ObjectId.{ObjectId}
+use Rattle.jade_base.specs.declared.rights.Rights.{Rights}
+use Rattle.jade_base.specs.Specification.{AllAbove, IsAscending}
+use Rattle.task_machine.specs.Executions.{with_content}
 use Rattle.task_machine.specs.steps.Holding.{RowsAbove, RowsAscend, contents_of, row_from, cell_in, written, Written, written_in, WrittenIn}
 
 above_at : (n : ℕ) (rs : List Row) (k : ℕ) (d : Row) → RowsAbove n rs → k < length rs → n < (slice_index_or rs k d).object.0
@@ -32,6 +37,7 @@ pub record IsRow (rs : List Row) (o j : ℕ) : Type 0 where
   pub object : (d : Row) → (slice_index_or rs j d).object.0 ≡ o
   pub content : (d : Row) → contents_of rs o ≡ (slice_index_or rs j d).content
   pub set : (x : Row) → x.object.0 ≡ o → (p : ℕ) → contents_of (slice_set rs j x) p ≡ cond (eqb p o) x.content (contents_of rs p)
+  pub filled : (d : Row) (h : Option Held) → slice_set rs j (record { object = (slice_index_or rs j d).object; content = h }) ≡ with_content o h rs
 
 first_row : (r : Row) (rs : List Row) (o : ℕ) → r.object.0 ≡ o → IsRow (r ∷ rs) o 0
 first_row r rs o e = record {
@@ -39,6 +45,7 @@ first_row r rs o e = record {
   object = λ d. e;
   content = λ d. rw (eq-eqb r.object.0 o e);
   set = λ x q p. each x q p (cases_eq p o);
+  filled = λ d h. ap (λ b. cond b (record { object = r.object; content = h } ∷ rs) (r ∷ with_content o h rs)) (sym (eq-eqb r.object.0 o e));
 }
   where
     each : (x : Row) → x.object.0 ≡ o → (p : ℕ) → (p ≡ o) ⊎ (p ≡ o → ⊥) → cond (eqb x.object.0 p) x.content (contents_of rs p) ≡ cond (eqb p o) x.content (cond (eqb r.object.0 p) r.content (contents_of rs p))
@@ -51,6 +58,9 @@ later_row r rs o j ne h = record {
   object = h.object;
   content = λ d. rw (ne_eqb r.object.0 o ne) (h.content d);
   set = λ x q p. each x q p (cases_eq r.object.0 p);
+  filled = λ d g.
+      ap (λ l. r ∷ l) (h.filled d g)
+      ∙ ap (λ b. cond b (record { object = r.object; content = g } ∷ rs) (r ∷ with_content o g rs)) (sym (ne_eqb r.object.0 o ne));
 }
   where
     each : (x : Row) → x.object.0 ≡ o → (p : ℕ) → (r.object.0 ≡ p) ⊎ (r.object.0 ≡ p → ⊥) → cond (eqb r.object.0 p) r.content (contents_of (slice_set rs j x) p) ≡ cond (eqb p o) x.content (cond (eqb r.object.0 p) r.content (contents_of rs p))
@@ -140,3 +150,28 @@ row_same o k rs d lt e h = sym (h ∙ row_turn o k rs d lt ∙ ap (λ b. cond b 
 
 pub row_other : (o k : ℕ) (rs : List Row) (d : Row) → k < length rs → ((slice_index_or rs k d).object.0 ≡ o → ⊥) → row_from o 0 rs ≡ row_from o k (drop k rs) → row_from o 0 rs ≡ row_from o (k + 1) (drop (k + 1) rs)
 row_other o k rs d lt e h = h ∙ row_turn o k rs d lt ∙ ap (λ b. cond b (Some k) (row_from o (k + 1) (drop (k + 1) rs))) (ne_eqb (slice_index_or rs k d).object.0 o e)
+
+missing_content : (o n : ℕ) (h : Option Held) (rs : List Row) → row_from o n rs ≡ None → rs ≡ with_content o h rs
+missing_content o n h [] e = refl
+missing_content o n h (r ∷ rs) e = go (λ g. missing_content o (suc n) h rs g) (cases_eq r.object.0 o)
+  where
+    go : (row_from o (suc n) rs ≡ None → rs ≡ with_content o h rs) → (r.object.0 ≡ o) ⊎ (r.object.0 ≡ o → ⊥) → r ∷ rs ≡ with_content o h (r ∷ rs)
+    go more (inl q) =
+        let e' : Some n ≡ None = rw (eq-eqb r.object.0 o q) at e in
+        absurd (none-some n (sym e'))
+    go more (inr ne) =
+        let e' : row_from o (suc n) rs ≡ None = rw (ne_eqb r.object.0 o ne) at e in
+        ap (λ l. r ∷ l) (more e') ∙ ap (λ b. cond b (record { object = r.object; content = h } ∷ rs) (r ∷ with_content o h rs)) (sym (ne_eqb r.object.0 o ne))
+
+pub missing_same : (o : ℕ) (h : Option Held) (rs : List Row) → None ≡ row_from o 0 rs → rs ≡ with_content o h rs
+missing_same o h rs e = missing_content o 0 h rs (sym e)
+
+-- rows without contents, one for each object of a specification
+rows_above : (n : ℕ) (es : List (ObjectId × Rights)) → AllAbove n es → RowsAbove n (map (λ x. record { object = x.0; content = None }) es)
+rows_above n [] h = tt
+rows_above n (e ∷ es) h = (h.0, rows_above n es h.1)
+
+pub rows_ascend : (es : List (ObjectId × Rights)) → IsAscending es → RowsAscend (map (λ x. record { object = x.0; content = None }) es)
+rows_ascend [] h = tt
+rows_ascend (e ∷ es) h = (rows_above e.0.0 es h.1, rows_ascend es h.2)
+

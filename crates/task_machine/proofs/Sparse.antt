@@ -5,8 +5,12 @@ use Rattle.std.proofs.lemmas.Bool.{cases_eq, eq-eqb, ne_eqb}
 use Rattle.std.proofs.lemmas.Option.{none-some, same_Some}
 use Rattle.jade_base.specs.declared.place.ObjectId.{ObjectId}
 use Rattle.jade_base.specs.declared.rights.Rights.{Rights}
-use Rattle.jade_base.specs.Rights.{no_rights}
-use Rattle.jade_base.specs.Specification.{AllAbove, IsAscending, rights_in, settled}
+use Rattle.std.specs.Prelude.{◌||◌}
+use Rattle.std.proofs.lemmas.Bool.{true≢false}
+use Rattle.jade_base.specs.declared.rights.Right.{Right}
+use Rattle.jade_base.specs.declared.rights.Right.TheVariants.{Absent, Deferred, Immediate}
+use Rattle.jade_base.specs.Rights.{no_rights, is_there, has_rights, join}
+use Rattle.jade_base.specs.Specification.{AllAbove, IsAscending, rights_in, settled, kept, Specification as Sparse}
 use Rattle.access_spec.specs.Copies.{copied, copied_in, with_copied, rewritten}
 use Rattle.jade_meaning.specs.Specification.{Specification, numbers, rights_on}
 use Rattle.jade_meaning.specs.Spread.{spread}
@@ -78,3 +82,53 @@ settled_is (e ∷ es) o = ap (cond (eqb e.0.0 o.0) e.1) (settled_is es o)
 -- a copy that was not changed
 pub settled_copy : (n : ℕ) (es : List (ObjectId × Rights)) → copy_spread n (settled es) ≡ spread n es
 settled_copy n es = tab_same (λ o. copied (settled es) (id o)) (λ o. rights_in es (id o)) 0 n (λ k. settled_is es (id k))
+
+-- one declaration more
+pub joined_spread : (n : ℕ) (old new : List (ObjectId × Rights)) (o : ObjectId) (r : Rights) → o.0 < n → rights_in new o ≡ join (rights_in old o) r
+    → ((other : ObjectId) → (other ≡ o → ⊥) → rights_in new other ≡ rights_in old other)
+    → spread n new ≡ slice_set (spread n old) o.0 (join (rights_on (spread n old) o.0) r)
+joined_spread n old new o r lt here elsewhere =
+    let f : ℕ → Rights = λ i. rights_in old (id i) in
+    let g : ℕ → Rights = λ i. rights_in new (id i) in
+    let z : 0 + o.0 ≡ o.0 = omega arith in
+    let at : rights_on (spread n old) o.0 ≡ rights_in old o = tab_at f 0 n o.0 lt ∙ ap f z in
+    sym (ap (λ a. slice_set (spread n old) o.0 (join a r)) at
+    ∙ tab_set f g 0 n o.0 (join (rights_in old o) r) (ap g z ∙ here) (λ k ne. sym (elsewhere (id k) (λ q. ne (ap (λ (x : ObjectId). x.0) q ∙ sym z)))))
+
+absent : (r : Right) → is_there r ≡ false → r ≡ Absent
+absent Absent h = refl
+absent Deferred h = absurd (true≢false h)
+absent Immediate h = absurd (true≢false h)
+
+neither : (a b : Bool) → (a || b) ≡ false → (a ≡ false) × (b ≡ false)
+neither true b h = absurd (true≢false h)
+neither false b h = (refl, h)
+
+no_right_is : (a : Rights) → has_rights a ≡ false → a ≡ no_rights
+no_right_is a h =
+    let two = neither (is_there a.reads || is_there a.writes) (is_there a.commutes) h in
+    let one = neither (is_there a.reads) (is_there a.writes) two.0 in
+    ap (λ r. record { reads = r; writes = a.writes; commutes = a.commutes }) (absent a.reads one.0)
+    ∙ ap (λ w. record { reads = Absent; writes = w; commutes = a.commutes }) (absent a.writes one.1)
+    ∙ ap (λ c. record { reads = Absent; writes = Absent; commutes = c }) (absent a.commutes two.1)
+
+copied_above : (es : List (ObjectId × Rights)) (ds : List Rights) (o : ObjectId) (n : ℕ) → o.0 ≤ n → AllAbove n es → copied_in es ds o ≡ no_rights
+copied_above [] ds o n le h = refl
+copied_above (e ∷ es) [] o n le h = refl
+copied_above (e ∷ es) (d ∷ ds) o n le h = ap (λ b. cond b d (copied_in es ds o)) (ne_eqb e.0.0 o.0 (λ q. omega (arith, h.0, q, le))) ∙ copied_above es ds o n le h.1
+
+kept_is : (es : List (ObjectId × Rights)) (ds : List Rights) (o : ObjectId) → IsAscending es → rights_in (kept es ds) o ≡ copied_in es ds o
+kept_is [] ds o h = refl
+kept_is (e ∷ es) [] o h = refl
+kept_is (e ∷ es) (d ∷ ds) o h = go (has_rights d) refl (kept_is es ds o h.2)
+  where
+    same : (e.0.0 ≡ o.0) ⊎ (e.0.0 ≡ o.0 → ⊥) → has_rights d ≡ false → copied_in es ds o ≡ cond (eqb e.0.0 o.0) d (copied_in es ds o)
+    same (inl q) none = copied_above es ds o e.0.0 (omega (arith, q)) h.1 ∙ sym (no_right_is d none) ∙ sym (ap (λ b. cond b d (copied_in es ds o)) (eq-eqb e.0.0 o.0 q))
+    same (inr ne) none = sym (ap (λ b. cond b d (copied_in es ds o)) (ne_eqb e.0.0 o.0 ne))
+    go : (t : Bool) → has_rights d ≡ t → rights_in (kept es ds) o ≡ copied_in es ds o → rights_in (cond t ((e.0, d) ∷ kept es ds) (kept es ds)) o ≡ cond (eqb e.0.0 o.0) d (copied_in es ds o)
+    go true q more = ap (cond (eqb e.0.0 o.0) d) more
+    go false q more = more ∙ same (cases_eq e.0.0 o.0) q
+
+-- the copy as the specification
+pub kept_spread : (n : ℕ) (s : Sparse) → IsAscending s.entries → spread n (kept s.entries s.draft) ≡ copy_spread n s
+kept_spread n s h = tab_same (λ o. rights_in (kept s.entries s.draft) (id o)) (λ o. copied s (id o)) 0 n (λ k. kept_is s.entries s.draft (id k) h)

@@ -3,3 +3,4 @@ pub mod Holding
 pub mod Owning
 pub mod Acting
 pub mod Running
+pub mod Executing

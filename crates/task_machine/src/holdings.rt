@@ -2,14 +2,16 @@
 
 ghost use Rattle.std.specs.Prelude.{◌≡◌, ◌<◌, length, IfSome};
 ghost use Rattle.task_machine.specs.Playing.{cell_of};
+ghost use Rattle.task_machine.specs.Executions.{with_content};
 ghost use Rattle.task_machine.specs.steps.Holding.{RowsAscend, contents_of, row_from, cell_in, Written, WrittenIn};
 
 use jade_base::{Content, Mode, ObjectId};
 use std::marker::Model;
+use std::mem;
 
 /// An object, with its content where that is held.
 #[derive(Debug, Drop)]
-pub(crate) struct Row {
+pub struct Row {
     object: ObjectId,
     content: Option<Content>,
 }
@@ -45,6 +47,14 @@ impl Holdings {
         ensures { Written (contents_of self.old) object cell number result (contents_of self.new) }
     {
         write_among(self.rows.as_mut_slice(), object, cell, number)
+    }
+
+    /// Another content of an object, or none, in place of the one that it has, which is the result.
+    pub(crate) fn put(&mut self, object: ObjectId, content: Option<Content>) -> Option<Content>
+        ensures content { result ≡ contents_of self.old object.0 }
+        ensures rows { self.new ≡ with_content object.0 content self.old }
+    {
+        put_among(self.rows.as_mut_slice(), object.0 as usize, content)
     }
 }
 
@@ -99,6 +109,19 @@ fn write_among(rows: &mut [Row], object: usize, cell: usize, number: i64) -> boo
     match place_of(rows, object) {
         None => false,
         Some(place) => write_at(&mut rows[place].content, cell, number),
+    }
+}
+
+// Another content of an object, or none, in place of the one that it has.
+fn put_among(rows: &mut [Row], object: usize, content: Option<Content>) -> Option<Content>
+    requires { RowsAscend rows.old }
+    ensures content { result ≡ contents_of rows.old object }
+    ensures rows { rows.new ≡ with_content object content rows.old }
+    ensures ascend { RowsAscend rows.new }
+{
+    match place_of(rows, object) {
+        None => None,
+        Some(place) => mem::replace(&mut rows[place].content, content),
     }
 }
 

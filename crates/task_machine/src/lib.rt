@@ -1,8 +1,12 @@
 //! Runs the code of a task, up to the next thing that the task asks for.
 #![tactic(auto)]
 
+mod execution;
 mod frame;
 mod holdings;
 mod numbers;
 mod play;
 mod section;
+
+pub use execution::Execution;
+pub use frame::Pause;

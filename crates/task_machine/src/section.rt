@@ -1,18 +1,18 @@
 //! The specification of a task, and what its sections make.
 
-ghost use Rattle.std.specs.Prelude.{◌≡◌, ◌<◌, true, false, None, Some, replicate, IfNone, MatchResult};
-ghost use Rattle.jade_base.specs.Rights.{is_immediate, no_rights};
-ghost use Rattle.jade_base.specs.Specification.{rights_in, settled};
+ghost use Rattle.std.specs.Prelude.{◌≡◌, ◌<◌, true, false, None, Some, replicate, slice_set, OnOk, OnErr};
+ghost use Rattle.jade_base.specs.Rights.{is_immediate, join, no_rights};
+ghost use Rattle.jade_base.specs.Specification.{joined_in, kept, rights_in, settled};
 ghost use Rattle.jade_meaning.specs.Specification.{rights_on, covers};
 ghost use Rattle.jade_meaning.specs.Spread.{spread};
 ghost use Rattle.jade_meaning.specs.Changes.{change_of, declared};
 ghost use Rattle.jade_meaning.specs.Course.{Building, Amending};
 ghost use Rattle.jade_syntax.specs.declared.tree.DeclareWord.{DeclareWord as WordOf};
-ghost use Rattle.task_machine.specs.steps.Owning.{id, rights_of, draft_of};
+ghost use Rattle.task_machine.specs.steps.Owning.{copy_spread, rights_of, draft_of};
 ghost use Rattle.task_machine.specs.steps.Acting.{KeepsRights, SaidBy};
 
 use access_spec::{Change, WorkingCopy};
-use jade_base::{ObjectId, Right, Rights, Spec};
+use jade_base::{Memory, ObjectId, Right, Rights, Spec};
 use jade_meaning::laws::spread_agrees;
 use jade_syntax::tree::DeclareWord;
 use spec_cover::uncovered;
@@ -21,7 +21,7 @@ use std::mem;
 
 /// Whether there is a section, and whose specification it makes.
 #[derive(Clone, Copy, Debug, PartialEq, Eq)]
-pub(crate) enum Section {
+pub enum Section {
     Absent,
     Building,
     Amending,
@@ -194,4 +194,28 @@ pub(crate) fn covers_child(own: &Own) -> bool
         None => true,
         Some(object) => object.0 >= own.objects,
     }
+}
+
+/// Declares rights on an object for a child, in its section. The error is want of memory, and
+/// changes nothing.
+pub(crate) fn declare_for_child(own: &mut Own, alloc: Global, object: ObjectId, rights: Rights) -> Result<(), Memory>
+    requires { object.0 < own.old.objects }
+    ensures declared { OnOk result (own.new ≡ record own.old { child = settled (joined_in own.old.child.entries object rights) }) }
+    ensures spread { OnOk result (spread own.new.objects own.new.child.entries ≡ slice_set (spread own.old.objects own.old.child.entries) object.0 (join (rights_on (spread own.old.objects own.old.child.entries) object.0) rights)) }
+    ensures refused { OnErr result (own.new ≡ own.old) }
+{
+    own.child.declare(alloc, object, rights)?;
+    Ok(())
+}
+
+/// The copy that a section of the task itself has changed is its specification from here on.
+pub(crate) fn commit(own: &mut Own)
+    ensures changed { own.new ≡ record own.old { spec = settled (kept own.old.spec.entries own.old.spec.draft); section = Section.Absent } }
+    ensures rights { rights_of own.new ≡ copy_spread own.old.objects own.old.spec }
+{
+    let _count = own.spec.spec().len();
+    let empty = WorkingCopy::begin(Spec::empty(own.alloc));
+    let spec = mem::replace(&mut own.spec, empty).commit();
+    own.spec = WorkingCopy::begin(spec);
+    own.section = Section::Absent;
 }

@@ -2,6 +2,7 @@
 use Rattle.std.specs.Prelude.{◌≡◌, ℕ, suc, ◌<◌, ◌==◌, Bool, true, false, List, [], ◌∷◌, map, Option, Some, None, ℤ, if◌then◌else◌}
 use Rattle.jade_base.specs.Held.{Held}
 use Rattle.task_machine.specs.declared.holdings.Row.{Row}
+pub use Rattle.task_machine.specs.Playing.{contents_of}
 use Rattle.task_machine.specs.Playing.{Contents, cell_of, writable, put_in, with_cell}
 
 -- each row is of an object above this one
@@ -13,11 +14,6 @@ RowsAbove n (r ∷ rs) = (n < r.object.0) × RowsAbove n rs
 abbrev pub RowsAscend : List Row → Type 0
 RowsAscend [] = Unit {0}
 RowsAscend (r ∷ rs) = RowsAbove r.object.0 rs × RowsAscend rs
-
--- the content of each object that is held
-abbrev pub contents_of : List Row → Contents
-contents_of [] o = None
-contents_of (r ∷ rs) o = if r.object.0 == o then r.content else contents_of rs o
 
 -- the first row of an object, from a place on
 abbrev pub row_from : ℕ → ℕ → List Row → Option ℕ
