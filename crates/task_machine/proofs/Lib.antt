@@ -6,3 +6,4 @@ mod Fitting
 mod Acting
 mod Running
 mod Executing
+mod Filling

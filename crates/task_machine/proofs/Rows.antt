@@ -10,11 +10,12 @@ use Rattle.std.proofs.Common.{drop}
 use Rattle.jade_base.specs.Held.{Held}
 use Rattle.task_machine.specs.declared.holdings.Row.{Row}
 use Rattle.task_machine.specs.Playing.{Contents, cell_of, writable, put_in, with_cell}
-use Rattle.std.proofs.Common.{map}
+use Rattle.std.proofs.Common.{map, take, ◌++◌}
+use Rattle.std.proofs.lemmas.List.{take_all}
 use Rattle.jade_base.specs.declared.place.ObjectId.{ObjectId}
 use Rattle.jade_base.specs.declared.rights.Rights.{Rights}
 use Rattle.jade_base.specs.Specification.{AllAbove, IsAscending}
-use Rattle.task_machine.specs.Executions.{with_content}
+use Rattle.task_machine.specs.Executions.{with_content, without_content}
 use Rattle.task_machine.specs.steps.Holding.{RowsAbove, RowsAscend, contents_of, row_from, cell_in, written, Written, written_in, WrittenIn}
 
 above_at : (n : ℕ) (rs : List Row) (k : ℕ) (d : Row) → RowsAbove n rs → k < length rs → n < (slice_index_or rs k d).object.0
@@ -167,11 +168,22 @@ pub missing_same : (o : ℕ) (h : Option Held) (rs : List Row) → None ≡ row_
 missing_same o h rs e = missing_content o 0 h rs (sym e)
 
 -- rows without contents, one for each object of a specification
-rows_above : (n : ℕ) (es : List (ObjectId × Rights)) → AllAbove n es → RowsAbove n (map (λ x. record { object = x.0; content = None }) es)
+rows_above : (n : ℕ) (es : List (ObjectId × Rights)) → AllAbove n es → RowsAbove n (map without_content es)
 rows_above n [] h = tt
 rows_above n (e ∷ es) h = (h.0, rows_above n es h.1)
 
-pub rows_ascend : (es : List (ObjectId × Rights)) → IsAscending es → RowsAscend (map (λ x. record { object = x.0; content = None }) es)
+pub rows_ascend : (es : List (ObjectId × Rights)) → IsAscending es → RowsAscend (map without_content es)
 rows_ascend [] h = tt
 rows_ascend (e ∷ es) h = (rows_above e.0.0 es h.1, rows_ascend es h.2)
 
+
+rows_next : (es : List (ObjectId × Rights)) (i : ℕ) (x : ObjectId × Rights) → slice_get es i ≡ Some x → map without_content (take (suc i) es) ≡ map without_content (take i es) ++ without_content x ∷ []
+rows_next [] i x h = absurd (none-some x h)
+rows_next (y ∷ es) zero x h = ap (λ z. without_content z ∷ []) (same_Some y x h)
+rows_next (y ∷ es) (suc i) x h = ap (λ l. without_content y ∷ l) (rows_next es i x h)
+
+pub rows_more : (es : List (ObjectId × Rights)) (i : ℕ) (x : ObjectId × Rights) → slice_get es i ≡ Some x → map without_content (take i es) ++ without_content x ∷ [] ≡ map without_content (take (i + 1) es)
+rows_more es i x h = let z : suc i ≡ i + 1 = omega arith in sym (rows_next es i x h) ∙ ap (λ n. map without_content (take n es)) z
+
+pub rows_whole : (es : List (ObjectId × Rights)) (i : ℕ) (rs : List Row) → length es ≤ i → IsAscending es → rs ≡ map without_content (take i es) → RowsAscend rs
+rows_whole es i rs le h e = subst RowsAscend (sym (e ∙ ap (map without_content) (take_all i es le))) (rows_ascend es h)

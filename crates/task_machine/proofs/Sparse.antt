@@ -9,12 +9,12 @@ use Rattle.std.specs.Prelude.{◌||◌}
 use Rattle.std.proofs.lemmas.Bool.{true≢false}
 use Rattle.jade_base.specs.declared.rights.Right.{Right}
 use Rattle.jade_base.specs.declared.rights.Right.TheVariants.{Absent, Deferred, Immediate}
-use Rattle.jade_base.specs.Rights.{no_rights, is_there, has_rights, join}
+use Rattle.jade_base.specs.Rights.{both_rights, no_rights, is_there, has_rights, join}
 use Rattle.jade_base.specs.Specification.{AllAbove, IsAscending, rights_in, settled, kept, Specification as Sparse}
 use Rattle.access_spec.specs.Copies.{copied, copied_in, with_copied, rewritten}
 use Rattle.jade_meaning.specs.Specification.{Specification, numbers, rights_on}
 use Rattle.jade_meaning.specs.Spread.{spread}
-use Rattle.task_machine.specs.steps.Owning.{id, copy_spread}
+use Rattle.task_machine.specs.steps.Owning.{id, copy_spread, RightsBelow}
 
 module _ (f : ℕ → Rights) where
   pub tab_at : (i n k : ℕ) → k < n → rights_on (map f (numbers i n)) k ≡ f (i + k)
@@ -132,3 +132,10 @@ kept_is (e ∷ es) (d ∷ ds) o h = go (has_rights d) refl (kept_is es ds o h.2)
 -- the copy as the specification
 pub kept_spread : (n : ℕ) (s : Sparse) → IsAscending s.entries → spread n (kept s.entries s.draft) ≡ copy_spread n s
 kept_spread n s h = tab_same (λ o. rights_in (kept s.entries s.draft) (id o)) (λ o. copied s (id o)) 0 n (λ k. kept_is s.entries s.draft (id k) h)
+
+all_both : (f : ℕ → Rights) (i n : ℕ) → ((k : ℕ) → k < i + n → f k ≡ both_rights) → map f (numbers i n) ≡ replicate n both_rights
+all_both f i zero h = refl
+all_both f i (suc n) h = ap (λ x. x ∷ map f (numbers (suc i) n)) (h i (omega arith)) ∙ ap (λ l. both_rights ∷ l) (all_both f (suc i) n (λ k lt. h k (omega (arith, lt))))
+
+pub below_all : (n m : ℕ) (es : List (ObjectId × Rights)) → n ≤ m → RightsBelow m es → spread n es ≡ replicate n both_rights
+below_all n m es le h = all_both (λ o. rights_in es (id o)) 0 n (λ k lt. h.below (id k) (omega (arith, lt, le)))

@@ -1,11 +1,12 @@
 //! The contents that a task holds.
 
-ghost use Rattle.std.specs.Prelude.{◌≡◌, ◌<◌, length, IfSome};
+ghost use Rattle.std.specs.Prelude.{◌≡◌, ◌<◌, length, map, IfOk, IfSome};
 ghost use Rattle.task_machine.specs.Playing.{cell_of};
-ghost use Rattle.task_machine.specs.Executions.{with_content};
+ghost use Rattle.task_machine.specs.Executions.{with_content, without_content};
 ghost use Rattle.task_machine.specs.steps.Holding.{RowsAscend, contents_of, row_from, cell_in, Written, WrittenIn};
 
-use jade_base::{Content, Mode, ObjectId};
+use jade_base::{Content, Memory, Mode, ObjectId, Spec};
+use std::alloc::Global;
 use std::marker::Model;
 use std::mem;
 
@@ -35,6 +36,21 @@ impl Model for Holdings {
 }
 
 impl Holdings {
+    /// No content of any object of a specification. The error is want of memory.
+    pub(crate) fn none(alloc: Global, spec: &Spec) -> Result<Holdings, Memory>
+        ensures { IfOk result (λ held. held ≡ map without_content spec.now.entries) }
+    {
+        let mut rows = Vec::new(alloc);
+        'rows: for place in 0..spec.len() {
+            let (object, _) = spec.entry(place);
+            rows.push(Row {
+                object,
+                content: None,
+            })?;
+        }
+        Ok(Holdings { rows })
+    }
+
     /// The number in a cell of an object, where the object is held; a cell that is not there has 0.
     pub(crate) fn cell(&self, object: usize, cell: usize) -> Option<i64>
         ensures { result ≡ cell_in (contents_of self.now object) cell }

@@ -7,6 +7,7 @@ mod holdings;
 mod numbers;
 mod play;
 mod section;
+mod slots;
 
 pub use execution::Execution;
 pub use frame::Pause;

@@ -1,7 +1,7 @@
 //! The specification of a task, and what its sections make.
 
-ghost use Rattle.std.specs.Prelude.{◌≡◌, ◌<◌, true, false, None, Some, replicate, slice_set, OnOk, OnErr};
-ghost use Rattle.jade_base.specs.Rights.{is_immediate, join, no_rights};
+ghost use Rattle.std.specs.Prelude.{◌≡◌, ◌<◌, true, false, None, Some, replicate, slice_set, IfOk, OnOk, OnErr};
+ghost use Rattle.jade_base.specs.Rights.{both_rights, is_immediate, join, no_rights};
 ghost use Rattle.jade_base.specs.Specification.{joined_in, kept, rights_in, settled};
 ghost use Rattle.jade_meaning.specs.Specification.{rights_on, covers};
 ghost use Rattle.jade_meaning.specs.Spread.{spread};
@@ -198,10 +198,16 @@ pub(crate) fn covers_child(own: &Own) -> bool
 
 /// Declares rights on an object for a child, in its section. The error is want of memory, and
 /// changes nothing.
-pub(crate) fn declare_for_child(own: &mut Own, alloc: Global, object: ObjectId, rights: Rights) -> Result<(), Memory>
+pub(crate) fn declare_for_child(
+    own: &mut Own,
+    alloc: Global,
+    object: ObjectId,
+    rights: Rights,
+) -> Result<(), Memory>
     requires { object.0 < own.old.objects }
     ensures declared { OnOk result (own.new ≡ record own.old { child = settled (joined_in own.old.child.entries object rights) }) }
-    ensures spread { OnOk result (spread own.new.objects own.new.child.entries ≡ slice_set (spread own.old.objects own.old.child.entries) object.0 (join (rights_on (spread own.old.objects own.old.child.entries) object.0) rights)) }
+    ensures spread { OnOk result (spread own.new.objects own.new.child.entries ≡ slice_set
+        (spread own.old.objects own.old.child.entries) object.0 (join (rights_on (spread own.old.objects own.old.child.entries) object.0) rights)) }
     ensures refused { OnErr result (own.new ≡ own.old) }
 {
     own.child.declare(alloc, object, rights)?;
@@ -218,4 +224,22 @@ pub(crate) fn commit(own: &mut Own)
     let spec = mem::replace(&mut own.spec, empty).commit();
     own.spec = WorkingCopy::begin(spec);
     own.section = Section::Absent;
+}
+
+// Immediate rights to read and to write.
+fn both_rights() -> Rights
+    ensures { result ≡ both_rights }
+{
+    rights(Right::Immediate, Right::Immediate)
+}
+
+/// Immediate reading and writing of so many objects. The error is want of memory.
+pub(crate) fn all_rights(alloc: Global, objects: u32) -> Result<Spec, Memory>
+    ensures { IfOk result (λ spec. spread objects spec.entries ≡ replicate objects both_rights) }
+{
+    let mut spec = Spec::empty(alloc);
+    'objects: for object in 0..objects {
+        spec.declare(alloc, ObjectId(object), both_rights())?;
+    }
+    Ok(spec)
 }

@@ -1,9 +1,9 @@
 -- What a task has of its own beside its slots: its specification, and that of a section.
-use Rattle.std.specs.Prelude.{◌≡◌, ℕ, ◌<◌, Bool, true, false, List, map, slice_set}
+use Rattle.std.specs.Prelude.{◌≡◌, ℕ, ◌<◌, ◌≤◌, Bool, true, false, List, map, slice_set}
 use Rattle.jade_base.specs.declared.place.ObjectId.{ObjectId}
 use Rattle.jade_base.specs.declared.rights.Rights.{Rights}
-use Rattle.jade_base.specs.Rights.{join}
-use Rattle.jade_base.specs.Specification.{Specification as Sparse}
+use Rattle.jade_base.specs.Rights.{both_rights, no_rights}
+use Rattle.jade_base.specs.Specification.{Specification as Sparse, rights_in}
 use Rattle.access_spec.specs.Copies.{copied}
 use Rattle.jade_syntax.specs.declared.tree.DeclareWord.{DeclareWord}
 use Rattle.jade_meaning.specs.Specification.{Specification, rights_on, numbers}
@@ -22,3 +22,8 @@ rights_of w = spread w.objects w.spec.entries
 -- what the section has made so far
 abbrev pub draft_of : Own → Draft
 draft_of w = drafted_as w.section w.objects w.child w.spec
+
+-- both rights, immediate, on each object below a number, and none on any other
+pub record RightsBelow (n : ℕ) (es : List (ObjectId × Rights)) : Type 0 where
+  pub below : (o : ObjectId) → o.0 < n → rights_in es o ≡ both_rights
+  pub above : (o : ObjectId) → n ≤ o.0 → rights_in es o ≡ no_rights
