@@ -1,5 +1,6 @@
 -- Words of a section of the task itself, and of one of a child.
-use Rattle.std.proofs.Common.{◌≡◌, ℕ, zero, suc, ◌+◌, ◌<◌, ◌≤◌, ◌⊎◌, inl, inr, List, [], ◌∷◌, map, length, Bool, true, false, eqb, cond, Option, Some, None, refl, sym, ap, ap₂, ◌∙◌, subst, arith}
+use Rattle.std.proofs.Common.{◌≡◌, ℕ, zero, suc, ◌+◌, ◌<◌, ◌≤◌, ◌⊎◌, inl, inr, List, [], ◌∷◌, map, length, Bool, true, false, eqb, cond, Option, Some, None}
+use Rattle.std.proofs.Common.{refl, sym, ap, ap₂, ◌∙◌, subst, arith}
 use Rattle.std.specs.Prelude.{IsSomeAnd, IsTrue, slice_get, slice_index_or, slice_set, replicate}
 use Rattle.std.proofs.lemmas.Bool.{cases_eq, cases_lt, le-leb, lt-leb, eq-eqb, ne_eqb, true≢false}
 use Rattle.std.proofs.Math.Dec.{leb}
@@ -34,23 +35,27 @@ none_stays change.NoReads r h = sym (same_Some no_rights r h)
 none_stays change.NoWrites r h = sym (same_Some no_rights r h)
 none_stays change.Neither r h = sym (same_Some no_rights r h)
 
-copied_new : (es : List (ObjectId × Rights)) (ds : List Rights) (o : ObjectId) (r : Rights) → (copied_in es ds o ≡ no_rights → r ≡ no_rights) → copied_in es (rewritten es ds o r) o ≡ r
+copied_new : (es : List (ObjectId × Rights)) (ds : List Rights) (o : ObjectId) (r : Rights) → (copied_in es ds o ≡ no_rights → r ≡ no_rights)
+      → copied_in es (rewritten es ds o r) o ≡ r
 copied_new [] ds o r h = sym (h refl)
 copied_new (e ∷ es) [] o r h = sym (h refl)
 copied_new (e ∷ es) (d ∷ ds) o r h = go (copied_new es ds o r) (cases_eq e.0.0 o.0)
   where
-    go : ((copied_in es ds o ≡ no_rights → r ≡ no_rights) → copied_in es (rewritten es ds o r) o ≡ r) → (e.0.0 ≡ o.0) ⊎ (e.0.0 ≡ o.0 → ⊥) → copied_in (e ∷ es) (rewritten (e ∷ es) (d ∷ ds) o r) o ≡ r
+    go : ((copied_in es ds o ≡ no_rights → r ≡ no_rights) → copied_in es (rewritten es ds o r) o ≡ r) → (e.0.0 ≡ o.0) ⊎ (e.0.0 ≡ o.0 → ⊥)
+          → copied_in (e ∷ es) (rewritten (e ∷ es) (d ∷ ds) o r) o ≡ r
     go more (inl q) = rw (eq-eqb e.0.0 o.0 q, eq-eqb e.0.0 o.0 q) refl
     go more (inr ne) =
         let h' : copied_in es ds o ≡ no_rights → r ≡ no_rights = λ z. h (rw (ne_eqb e.0.0 o.0 ne) z) in
         rw (ne_eqb e.0.0 o.0 ne, ne_eqb e.0.0 o.0 ne) (more h')
 
-copied_other : (es : List (ObjectId × Rights)) (ds : List Rights) (o k : ObjectId) (r : Rights) → (k.0 ≡ o.0 → ⊥) → copied_in es (rewritten es ds o r) k ≡ copied_in es ds k
+copied_other : (es : List (ObjectId × Rights)) (ds : List Rights) (o k : ObjectId) (r : Rights) → (k.0 ≡ o.0 → ⊥) → copied_in es (rewritten es ds o r) k
+      ≡ copied_in es ds k
 copied_other [] ds o k r far = refl
 copied_other (e ∷ es) [] o k r far = refl
 copied_other (e ∷ es) (d ∷ ds) o k r far = go (copied_other es ds o k r far) (cases_eq e.0.0 o.0)
   where
-    go : copied_in es (rewritten es ds o r) k ≡ copied_in es ds k → (e.0.0 ≡ o.0) ⊎ (e.0.0 ≡ o.0 → ⊥) → copied_in (e ∷ es) (rewritten (e ∷ es) (d ∷ ds) o r) k ≡ copied_in (e ∷ es) (d ∷ ds) k
+    go : copied_in es (rewritten es ds o r) k ≡ copied_in es ds k → (e.0.0 ≡ o.0) ⊎ (e.0.0 ≡ o.0 → ⊥) → copied_in (e ∷ es) (rewritten (e ∷ es) (d ∷ ds) o r) k
+          ≡ copied_in (e ∷ es) (d ∷ ds) k
     go more (inl q) =
         let ne : e.0.0 ≡ k.0 → ⊥ = λ z. far (sym z ∙ q) in
         subst (λ b. copied_in (e ∷ es) (cond b (r ∷ ds) (d ∷ rewritten es ds o r)) k ≡ copied_in (e ∷ es) (d ∷ ds) k) (sym (eq-eqb e.0.0 o.0 q))
@@ -61,7 +66,8 @@ copied_other (e ∷ es) (d ∷ ds) o k r far = go (copied_other es ds o k r far)
 
 module _ (w : Own) (how : DeclareWord) (ch : Change) (o : ℕ) (kind : w.section ≡ section.Amending) (asks : change_of how ≡ Some ch) where
   -- what the word comes to in a section of the task itself
-  said_is : (a : Rights) → rights_on (copy_spread w.objects w.spec) o ≡ a → said (draft_of w) how o ≡ amended_to (copy_spread w.objects w.spec) o (amended_by ch a)
+  said_is : (a : Rights) → rights_on (copy_spread w.objects w.spec) o ≡ a → said (draft_of w) how o
+        ≡ amended_to (copy_spread w.objects w.spec) o (amended_by ch a)
   said_is a e =
       ap (λ k. said (drafted_as k w.objects w.child w.spec) how o) kind
       ∙ ap (λ r. amended_to (copy_spread w.objects w.spec) o (amended how r)) e
@@ -70,7 +76,8 @@ module _ (w : Own) (how : DeclareWord) (ch : Change) (o : ℕ) (kind : w.section
   within_is : o < w.objects → rights_on (copy_spread w.objects w.spec) o ≡ copied w.spec (id o)
   within_is lt = let z : 0 + o ≡ o = omega arith in tab_at (λ i. copied w.spec (id i)) 0 w.objects o lt ∙ ap (λ i. copied w.spec (id i)) z
 
-  pub changed : (s : Sparse) → o < w.objects → (x : Option Rights) → amended_by ch (copied w.spec (id o)) ≡ x → IsSomeAnd x (λ r. s ≡ with_copied w.spec (id o) r) → SaidBy word.Done w how o (record w { spec = s })
+  pub changed : (s : Sparse) → o < w.objects → (x : Option Rights) → amended_by ch (copied w.spec (id o)) ≡ x
+        → IsSomeAnd x (λ r. s ≡ with_copied w.spec (id o) r) → SaidBy word.Done w how o (record w { spec = s })
   changed s lt None e h = absurd h
   changed s lt (Some r) e h =
       let z : 0 + o ≡ o = omega arith in
@@ -126,7 +133,8 @@ module _ (n : ℕ) (parent child : Sparse) (agree : SpreadAgrees n parent.entrie
   pub covers_not : (o : ℕ) → o < n → covered_on parent child (id o) ≡ false → covers (spread n parent.entries) (spread n child.entries) ≡ false
   covers_not o lt e = not_true (covers (spread n parent.entries) (spread n child.entries)) (λ h. true≢false (sym (agree.if_covers h o lt) ∙ e))
 
-  pub covers_some : (at : ObjectId) → covered_on parent child at ≡ false → IsCoveredBelow parent child at.0 → leb n at.0 ≡ covers (spread n parent.entries) (spread n child.entries)
+  pub covers_some : (at : ObjectId) → covered_on parent child at ≡ false → IsCoveredBelow parent child at.0 → leb n at.0
+        ≡ covers (spread n parent.entries) (spread n child.entries)
   covers_some at e h = go (cases_lt at.0 n)
     where
       go : (at.0 < n) ⊎ (n ≤ at.0) → leb n at.0 ≡ covers (spread n parent.entries) (spread n child.entries)

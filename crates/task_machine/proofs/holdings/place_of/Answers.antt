@@ -9,10 +9,12 @@ returns-then-rows-object-clause-row c =
     sym (h ∙ ap Some z)
 
 pub returns-then-rows-place-clause-row : goal.returns-then-rows-place-clause-row
-returns-then-rows-place-clause-row c = row_same c.args.object c.loop-place.place c.args.rows.now c.index-rows-place.result c.loop-place-test.true c.if-rows-place.true c.loop-place.invariant
+returns-then-rows-place-clause-row c = row_same c.args.object c.loop-place.place c.args.rows.now c.index-rows-place.result c.loop-place-test.true
+      c.if-rows-place.true c.loop-place.invariant
 
 pub loop-place-preserved : goal.loop-place-preserved
-loop-place-preserved c = row_other c.args.object c.loop-place.place c.args.rows.now c.index-rows-place.result c.loop-place-test.true c.if-rows-place.false c.loop-place.invariant
+loop-place-preserved c = row_other c.args.object c.loop-place.place c.args.rows.now c.index-rows-place.result c.loop-place-test.true c.if-rows-place.false
+      c.loop-place.invariant
 
 pub returns-clause-row : goal.returns-clause-row
 returns-clause-row c = sym (c.loop-place.invariant ∙ row_end c.args.object c.loop-place.place c.args.rows.now (omega (arith, c.loop-place-test.false)))

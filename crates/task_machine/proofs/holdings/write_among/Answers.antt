@@ -7,7 +7,8 @@ use Rattle.task_machine.proofs.holdings.write_among.Goals as goal
 
 pub returns-in-None-clause-written : goal.returns-in-None-clause-written
 returns-in-None-clause-written c =
-    unwritten (contents_of c.args.rows.now) c.args.object c.args.cell c.args.number (row_missing c.args.object c.args.rows.now (sym c.in-None.is ∙ c.place_of.ensures.row))
+    unwritten (contents_of c.args.rows.now) c.args.object c.args.cell c.args.number (row_missing c.args.object c.args.rows.now (sym c.in-None.is
+          ∙ c.place_of.ensures.row))
 
 pub returns-in-Some-clause-written : goal.returns-in-Some-clause-written
 returns-in-Some-clause-written c =
@@ -16,7 +17,8 @@ returns-in-Some-clause-written c =
     written_row (writable (k c.args.object)) k _ c.args.object c.args.cell c.args.number c.write_at.result c.write_at.new.content
     (row.set _ (row.object c.index-rows-place.result))
     (subst (λ w. WrittenIn w c.args.cell c.args.number c.write_at.result c.write_at.new.content) (sym (row.content c.index-rows-place.result))
-    (subst (λ z. WrittenIn (slice_index_or c.args.rows.now c.in-Some.place c.index-rows-place.result).content c.args.cell z c.write_at.result c.write_at.new.content)
+    (subst (λ z. WrittenIn (slice_index_or c.args.rows.now c.in-Some.place c.index-rows-place.result).content c.args.cell z c.write_at.result
+          c.write_at.new.content)
     (to_z-of_z w64 c.args.number c.ranges.number) c.write_at.ensures))
 
 pub returns-in-Some-clause-ascend : goal.returns-in-Some-clause-ascend

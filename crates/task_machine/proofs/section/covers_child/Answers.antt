@@ -6,7 +6,8 @@ use Rattle.task_machine.proofs.section.covers_child.Goals as goal
 pub returns-in-None : goal.returns-in-None
 returns-in-None c =
     let w = c.args.own.now in
-    sym (covers_all w.objects w.spec w.child (c.spread_agrees.ensures w.objects w.spec.entries w.child.entries) (subst (λ p. IsCovered p w.child) c.spec.ensures c.in-None.ensures.none))
+    sym (covers_all w.objects w.spec w.child (c.spread_agrees.ensures w.objects w.spec.entries w.child.entries)
+          (subst (λ p. IsCovered p w.child) c.spec.ensures c.in-None.ensures.none))
 
 pub returns-in-Some : goal.returns-in-Some
 returns-in-Some c =

@@ -16,7 +16,8 @@ call-preserved c =
       filled = λ zs long given.
           let at : t ≡ length zs + (length c.args.call.now - c.call.left) = omega (arith, long, c.call.invariant.within, c.call-test.true) in
           ap (λ z. slots_of (slice_set c.call.slots.items t z)) (to_z-of_z w64 c.worth.result fits ∙ c.worth.ensures)
-          ∙ one_passed c.call.slots.items zs c.args.call.now _ (slots_of c.args.frame.now.slots.items) (c.call.left - 1) c.call.left t next lt at room (c.call.invariant.filled zs long given);
+          ∙ one_passed c.call.slots.items zs c.args.call.now _ (slots_of c.args.frame.now.slots.items) (c.call.left - 1) c.call.left t next lt at room
+                (c.call.invariant.filled zs long given);
       long = length-set c.call.slots.items t _ ∙ c.call.invariant.long;
       within = omega (arith, c.call.invariant.within);
     }

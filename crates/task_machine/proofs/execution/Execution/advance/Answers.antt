@@ -10,19 +10,25 @@ use Rattle.task_machine.proofs.execution.Execution.advance.Goals as goal
 pub advance-requires : goal.advance-requires
 advance-requires c =
     let e = c.self.inside in
-    record { runs = runs_on e.code.now e.body (record { fine_at = c.instructions-code.ensures.valid.fine_at }) c.self.invariant.there c.instructions-code.result.now (length e.frame.slots.items) e.own.objects c.instructions-code.ensures.code c.self.invariant.slots c.self.invariant.objects }
+    record { runs = runs_on e.code.now e.body (record { fine_at =
+          c.instructions-code.ensures.valid.fine_at }) c.self.invariant.there c.instructions-code.result.now (length e.frame.slots.items) e.own.objects
+          c.instructions-code.ensures.code c.self.invariant.slots c.self.invariant.objects }
 
 pub returns : goal.returns
 returns c =
     let e = c.self.inside in
     let a = c.advance.ensures in
     let code = c.instructions-code.ensures.code in
-    subst (λ old. Advanced old c.advance.result (shown e.code.now e.numbers.now e.limit e.body c.advance.new.own c.advance.new.frame c.advance.new.held)) c.self.view_is (record {
+    subst (λ old. Advanced old c.advance.result (shown e.code.now e.numbers.now e.limit e.body c.advance.new.own c.advance.new.frame c.advance.new.held))
+          c.self.view_is (record {
       plays = λ child n.
           ap (λ is. played (ahead child (stage is e.own e.frame.left e.frame.place e.frame.slots.items)) (contents_of e.held) n e.frame.events) (sym code)
           ∙ a.plays child n
-          ∙ ap (λ is. played (ahead child (stage is c.advance.new.own c.advance.new.frame.left c.advance.new.frame.place c.advance.new.frame.slots.items)) (contents_of c.advance.new.held) (n + (e.frame.left - c.advance.new.frame.left)) c.advance.new.frame.events) code;
+          ∙ ap (λ is. played (ahead child (stage is c.advance.new.own c.advance.new.frame.left c.advance.new.frame.place c.advance.new.frame.slots.items))
+                (contents_of c.advance.new.held) (n + (e.frame.left - c.advance.new.frame.left)) c.advance.new.frame.events) code;
       fewer = a.fewer;
-      tells = λ child. subst (λ is. Tells c.advance.result child (stage is c.advance.new.own c.advance.new.frame.left c.advance.new.frame.place c.advance.new.frame.slots.items) (contents_of c.advance.new.held)) code (a.tells child);
+      tells = λ child. subst (λ is. Tells c.advance.result child
+            (stage is c.advance.new.own c.advance.new.frame.left c.advance.new.frame.place c.advance.new.frame.slots.items) (contents_of c.advance.new.held))
+            code (a.tells child);
       task = record { program = refl; numbers = refl; limit = refl; body = refl; objects = a.sized.kept.objects; rights = a.sized.kept.rights };
     })

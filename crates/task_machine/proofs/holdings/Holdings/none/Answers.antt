@@ -10,4 +10,5 @@ rows-preserved c =
 
 pub invariant_of-result : goal.invariant_of-result
 invariant_of-result c =
-    rows_whole c.args.spec.now.entries c.rows.place c.rows.rows.items (omega (arith, c.rows-test.false, c.len-place-end.ensures.count)) c.len-place-end.ensures.ascending c.rows.invariant
+    rows_whole c.args.spec.now.entries c.rows.place c.rows.rows.items (omega (arith, c.rows-test.false,
+          c.len-place-end.ensures.count)) c.len-place-end.ensures.ascending c.rows.invariant
