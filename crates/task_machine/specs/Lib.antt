@@ -1,0 +1,3 @@
+pub mod Playing
+-- What only serves the contracts of private functions.
+pub mod steps

@@ -1,0 +1,5 @@
+pub mod Numbers
+pub mod Holding
+pub mod Owning
+pub mod Acting
+pub mod Running

@@ -1,0 +1,121 @@
+//! The contents that a task holds.
+
+ghost use Rattle.std.specs.Prelude.{◌≡◌, ◌<◌, length, IfSome};
+ghost use Rattle.task_machine.specs.Playing.{cell_of};
+ghost use Rattle.task_machine.specs.steps.Holding.{RowsAscend, contents_of, row_from, cell_in, Written, WrittenIn};
+
+use jade_base::{Content, Mode, ObjectId};
+use std::marker::Model;
+
+/// An object, with its content where that is held.
+#[derive(Debug, Drop)]
+pub(crate) struct Row {
+    object: ObjectId,
+    content: Option<Content>,
+}
+
+/// The contents that a task holds, by ascending number of the object.
+#[derive(Debug, Drop)]
+pub(crate) struct Holdings {
+    rows: Vec<Row>,
+}
+
+impl Model for Holdings {
+    ghost use Rattle.std.specs.Prelude.{List};
+    ghost use Rattle.task_machine.specs.declared.holdings.Row.{Row as RowOf};
+    ghost use Rattle.task_machine.specs.steps.Holding.{RowsAscend};
+
+    ghost Value = { List RowOf };
+
+    ghost view = { λ h. h.rows.items };
+
+    ghost invariant = { λ h. RowsAscend h.rows.items };
+}
+
+impl Holdings {
+    /// The number in a cell of an object, where the object is held; a cell that is not there has 0.
+    pub(crate) fn cell(&self, object: usize, cell: usize) -> Option<i64>
+        ensures { result ≡ cell_in (contents_of self.now object) cell }
+    {
+        cell_among(self.rows.as_slice(), object, cell)
+    }
+
+    /// Writes a number into a cell of an object; whether the object is held for more than reading.
+    pub(crate) fn write(&mut self, object: usize, cell: usize, number: i64) -> bool
+        ensures { Written (contents_of self.old) object cell number result (contents_of self.new) }
+    {
+        write_among(self.rows.as_mut_slice(), object, cell, number)
+    }
+}
+
+// The place of an object's row. Where all objects of a program are there, it is the object's number.
+fn place_of(rows: &[Row], object: usize) -> Option<usize>
+    requires { RowsAscend rows.now }
+    ensures row { result ≡ row_from object 0 rows.now }
+    ensures within { IfSome result (λ place. place < length rows.now) }
+{
+    if object < rows.len() && rows[object].object.0 as usize == object {
+        return Some(object);
+    }
+    for place in 0..rows.len() {
+        if rows[place].object.0 as usize == object {
+            return Some(place);
+        }
+    }
+    None
+}
+
+// The number in a cell; one that is not there has 0.
+fn at_cell(content: &Content, cell: usize) -> i64
+    ensures { result ≡ cell_of content.now cell }
+{
+    if cell < content.len() {
+        content.get(cell)
+    } else {
+        0
+    }
+}
+
+// The number in a cell of an object, where the object is held.
+fn cell_among(rows: &[Row], object: usize, cell: usize) -> Option<i64>
+    requires { RowsAscend rows.now }
+    ensures { result ≡ cell_in (contents_of rows.now object) cell }
+{
+    match place_of(rows, object) {
+        None => None,
+        Some(place) => match &rows[place].content {
+            None => None,
+            Some(content) => Some(at_cell(content, cell)),
+        },
+    }
+}
+
+// Writes a number into a cell of an object; whether the object is held for more than reading.
+fn write_among(rows: &mut [Row], object: usize, cell: usize, number: i64) -> bool
+    requires { RowsAscend rows.old }
+    ensures written { Written (contents_of rows.old) object cell number result (contents_of rows.new) }
+    ensures ascend { RowsAscend rows.new }
+{
+    match place_of(rows, object) {
+        None => false,
+        Some(place) => write_at(&mut rows[place].content, cell, number),
+    }
+}
+
+// Writes a number into a cell of a content; whether it is held for more than reading.
+fn write_at(content: &mut Option<Content>, cell: usize, number: i64) -> bool
+    ensures { WrittenIn content.old cell number result content.new }
+{
+    match content {
+        None => false,
+        Some(content) => {
+            if matches!(content.mode(), Mode::Reading) {
+                return false;
+            }
+            if cell < content.len() {
+                content.set(cell, number);
+            }
+            true
+        }
+    }
+}
