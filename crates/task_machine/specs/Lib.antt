@@ -1,3 +1,4 @@
 pub mod Playing
+pub mod Stages
 -- What only serves the contracts of private functions.
 pub mod steps

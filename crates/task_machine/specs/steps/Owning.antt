@@ -11,26 +11,13 @@ use Rattle.jade_meaning.specs.Spread.{spread}
 use Rattle.jade_meaning.specs.Changes.{declared, amended}
 use Rattle.jade_meaning.specs.Course.{Draft, NoDraft, Building, Amending}
 use Rattle.task_machine.specs.declared.section.Own.{Own}
+pub use Rattle.task_machine.specs.Stages.{id, copy_spread, drafted_as}
 use Rattle.task_machine.specs.declared.section.Section.{Section}
 use Rattle.task_machine.specs.declared.section.Section.TheVariants as section
-
--- an object by its number
-abbrev pub id : ℕ → ObjectId
-id o = record { 0 = o }
-
--- the rights on each of the first n objects in a working copy
-abbrev pub copy_spread : ℕ → Sparse → Specification
-copy_spread n s = map (λ o. copied s (id o)) (numbers 0 n)
 
 -- the task's specification, object by object
 abbrev pub rights_of : Own → Specification
 rights_of w = spread w.objects w.spec.entries
-
--- what a section of this kind has made
-abbrev pub drafted_as : Section → ℕ → (child own : Sparse) → Draft
-drafted_as section.Absent n child own = NoDraft
-drafted_as section.Building n child own = Building (spread n child.entries)
-drafted_as section.Amending n child own = Amending (copy_spread n own)
 
 -- what the section has made so far
 abbrev pub draft_of : Own → Draft
