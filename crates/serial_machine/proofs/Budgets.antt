@@ -31,7 +31,7 @@ then_slot next t ss spec d v = next (with_slot t (whole v) ss) spec d
 
 module _ {A : Type 0} (pause : A → A) where
   -- what follows a task is asked with no more steps than it had
-  ok_alike : (c : Course) (k left : ℕ) (s : Contents) (bad : Path → Blame → A) (ok go : ℕ → Contents → A)
+  pub ok_alike : (c : Course) (k left : ℕ) (s : Contents) (bad : Path → Blame → A) (ok go : ℕ → Contents → A)
         → ((less : ℕ) (t : Contents) → less ≤ left → ok less t ≡ go less t) → settles pause c k left s bad ok ≡ settles pause c k left s bad go
   ok_alike (Reads o c on) k left s bad ok go h = ok_alike (on _) k left s bad ok go h
   ok_alike (Writes o c v on) k left s bad ok go h = ok_alike on k left _ bad ok go h

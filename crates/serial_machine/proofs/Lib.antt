@@ -1,2 +1,5 @@
 mod Settling
 mod Budgets
+mod Stacking
+mod Filling
+mod Owned

@@ -1,5 +1,5 @@
 -- What each task comes to.
-use Rattle.std.proofs.Common.{◌≡◌, ℕ, zero, suc, ◌+◌, ◌-◌, ◌≤◌, ◌⊎◌, inl, inr, List, [], ◌∷◌, ◌++◌, map, Option, Some, None, refl, sym, ap, ◌∙◌, arith}
+use Rattle.std.proofs.Common.{◌≡◌, ℕ, zero, suc, ◌+◌, ◌-◌, ◌<◌, ◌≤◌, ◌⊎◌, inl, inr, List, [], ◌∷◌, ◌++◌, map, Option, Some, None, refl, sym, ap, ◌∙◌, subst, arith}
 use Rattle.std.specs.Prelude.{ℤ, pos, slice_get, slice_index_or, slice_set, if◌then◌else◌}
 use Rattle.std.proofs.lemmas.Bool.{cases_eq, eq-eqb, ne_eqb}
 use Rattle.std.proofs.Math.Path.{fun_ext}
@@ -14,7 +14,8 @@ use Rattle.jade_meaning.specs.Serial as serial
 use Rattle.jade_meaning.specs.Serial.{Path, Store, Mark, DidRead, DidWrite, own, under, done_to, after, cell, zeros}
 use Rattle.jade_meaning.specs.Answer.{Run, Stopped, Through, noted, noted_all, then_on, stopping, stopping_run}
 use Rattle.task_machine.specs.Playing.{Contents, Played, put_in, with_cell, cell_of, where_held, writable, counted, played}
-use Rattle.serial_machine.specs.steps.Settles.{number_in, held_of, settles, all_held, resolved, SettlesAs, Ending, Fault, Whole, ending, at_once, AnswersAs, PlaysOn}
+use Rattle.serial_machine.specs.steps.Settles.{number_in, settles, resolved, SettlesAs, Ending, Fault, Whole, ending, at_once, AnswersAs, PlaysOn, RunsOut}
+use Rattle.task_machine.specs.Whole.{held_of, all_held}
 
 -- ---- stores
 
@@ -132,6 +133,11 @@ module _ {A : Type 0} (pause : A → A) where
     held_on None x f t n d left h g e = h e
     held_on (Some held) x f t n d left h g e = g held refl e
 
+    held_out : (w : Option Held) (x y : A) (f : Held → Played) (t : Played) (n d : ℕ) → (t.steps ≡ n + d → x ≡ y)
+          → ((h : Held) → (f h).steps ≡ n + d → w ≡ Some h → x ≡ y) → (where_held w f t).steps ≡ n + d → x ≡ y
+    held_out None x y f t n d h g e = h e
+    held_out (Some held) x y f t n d h g e = g held e refl
+
   pub plays_on : (c : Course) (s : Contents) → PlaysOn pause c s
   plays_on (Reads o c on) s k n e d left bad ok q le =
       held_on k bad ok (s o) (settles pause (Reads o c on) k left s bad ok) (λ h. played (on (cell_of h c)) s n (counted e))
@@ -156,3 +162,59 @@ module _ {A : Type 0} (pause : A → A) where
   plays_on (Creates spec body on) s k n e d left bad ok q le = stays k bad ok (Creates spec body on) s n d left q
   plays_on (Changes spec on) s k n e d left bad ok q le = stays k bad ok (Changes spec on) s n d left q
   plays_on (Ends b) s k n e d left bad ok q le = stays k bad ok (Ends b) s n d left q
+
+  pub runs_out : (c : Course) (s : Contents) → RunsOut pause c s
+  runs_out (Reads o c on) s k n e d left bad ok q lt =
+      held_out k bad ok (s o) (settles pause (Reads o c on) k left s bad ok) (bad [] limit_blame) (λ h. played (on (cell_of h c)) s n (counted e))
+      (record { course = Reads o c on; contents = s; steps = n; events = e }) n d
+      (λ f. absurd (omega (arith, f, lt)))
+      (λ h f some.
+        ap (λ w. settles pause (on (number_in w c)) k left s bad ok) some ∙ runs_out (on (cell_of h c)) s k n (counted e) d left bad ok f lt)
+      q
+  runs_out (Writes o c v on) s k n e d left bad ok q lt =
+      held_out k bad ok (writable (s o)) (settles pause (Writes o c v on) k left s bad ok) (bad [] limit_blame)
+      (λ h. played on (with_cell o c v s) n (counted e)) (record { course = Writes o c v on; contents = s; steps = n; events = e }) n d
+      (λ f. absurd (omega (arith, f, lt)))
+      (λ h f some. runs_out on (with_cell o c v s) k n (counted e) d left bad ok f lt)
+      q
+  runs_out (Steps on) s k n e d zero bad ok q lt = refl
+  runs_out (Steps on) s k n e d (suc left) bad ok q lt =
+      let more = steps_least on s (suc n) e in
+      let f : (played on s (suc n) e).steps ≡ suc n + (d - 1) = omega (arith, q, more) in
+      runs_out on s k (suc n) e (d - 1) left bad ok f (omega (arith, lt))
+  runs_out (Creates spec body on) s k n e d left bad ok q lt = absurd (omega (arith, q, lt))
+  runs_out (Changes spec on) s k n e d left bad ok q lt = absurd (omega (arith, q, lt))
+  runs_out (Ends b) s k n e d left bad ok q lt = absurd (omega (arith, q, lt))
+
+  -- where as much is still to be played, and as many steps more were begun as there are less, two tasks come to the same
+  pub plays_same : (c : Course) (s : Contents) (e : ℕ) (b : Course) (t : Contents) (d f k left : ℕ) (bad : Path → Blame → A) (ok : ℕ → Contents → A)
+        → played c s 0 e ≡ played b t d f → d ≤ left → settles pause c k left s bad ok ≡ settles pause b k (left - d) t bad ok
+  plays_same c s e b t d f k left bad ok same le = by (le_or_lt (played c s 0 e).steps left)
+    where
+      le_or_lt : (i m : ℕ) → (i ≤ m) ⊎ (m < i)
+      le_or_lt zero m = inl (omega arith)
+      le_or_lt (suc i) zero = inr (omega arith)
+      le_or_lt (suc i) (suc m) = next (le_or_lt i m)
+        where
+          next : (i ≤ m) ⊎ (m < i) → (suc i ≤ suc m) ⊎ (suc m < suc i)
+          next (inl h) = inl (omega (arith, h))
+          next (inr h) = inr (omega (arith, h))
+      least : d ≤ (played b t d f).steps
+      least = steps_least b t d f
+      all : ℕ
+      all = (played c s 0 e).steps
+      steps : (played b t d f).steps ≡ all
+      steps = ap (λ p. p.steps) (sym same)
+      by : (all ≤ left) ⊎ (left < all) → settles pause c k left s bad ok ≡ settles pause b k (left - d) t bad ok
+      by (inl h) =
+          let z : all ≡ 0 + all = omega arith in
+          let y : (played b t d f).steps ≡ d + (all - d) = omega (arith, steps, least) in
+          let x : left - all ≡ left - d - (all - d) = omega (arith, steps, least, h) in
+          plays_on c s k 0 e all left bad ok z h
+          ∙ ap (λ p. settles pause p.course k (left - all) p.contents bad ok) same
+          ∙ ap (λ l. settles pause (played b t d f).course k l (played b t d f).contents bad ok) x
+          ∙ sym (plays_on b t k d f (all - d) (left - d) bad ok y (omega (arith, h, steps, least)))
+      by (inr h) =
+          let z : all ≡ 0 + all = omega arith in
+          let y : (played b t d f).steps ≡ d + (all - d) = omega (arith, steps, least) in
+          runs_out c s k 0 e all left bad ok z h ∙ sym (runs_out b t k d f (all - d) (left - d) bad ok y (omega (arith, h, steps, least, le)))

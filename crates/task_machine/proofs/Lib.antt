@@ -3,5 +3,6 @@ mod Sparse
 mod Sections
 mod Meanings
 mod Fitting
+mod Naming
 mod Acting
 mod Running

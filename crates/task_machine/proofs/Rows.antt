@@ -1,16 +1,18 @@
 -- Rows of what is held.
-use Rattle.std.proofs.Common.{◌≡◌, ℕ, zero, suc, ◌+◌, ◌<◌, ◌≤◌, ◌⊎◌, inl, inr, List, [], ◌∷◌, length, Bool, true, false, eqb, cond, Option, Some, None, refl, sym, ap, ◌∙◌, subst, arith}
+use Rattle.std.proofs.Common.{◌≡◌, ℕ, zero, suc, ◌+◌, ◌<◌, ◌≤◌, ◌⊎◌, inl, inr, List, [], ◌∷◌, ◌++◌, take, length, Bool, true, false, eqb, cond, Option, Some, None, refl, sym, ap, ◌∙◌, subst, arith}
 use Rattle.std.specs.Prelude.{ℤ, slice_get, slice_index_or, slice_set, nat_eq, if◌then◌else◌}
 use Rattle.std.proofs.lemmas.Bool.{cases_eq, eq-eqb, ne_eqb}
 use Rattle.std.proofs.lemmas.Option.{none-some, same_Some}
 use Rattle.std.proofs.Math.Path.{fun_ext}
 use Rattle.std.proofs.Math.Seq.{drop-cons}
-use Rattle.std.proofs.lemmas.List.{drop_all}
+use Rattle.std.proofs.lemmas.List.{drop_all, take_all}
 use Rattle.std.proofs.Common.{drop}
+use Rattle.jade_meaning.specs.Serial.{zeros}
+use Rattle.task_machine.specs.Whole.{all_held, without}
 use Rattle.jade_base.specs.Held.{Held}
 use Rattle.task_machine.specs.declared.holdings.Row.{Row}
 use Rattle.task_machine.specs.Playing.{Contents, cell_of, writable, put_in, with_cell}
-use Rattle.task_machine.specs.steps.Holding.{RowsAbove, RowsAscend, contents_of, row_from, cell_in, written, Written, written_in, WrittenIn}
+use Rattle.task_machine.specs.steps.Holding.{RowsAbove, RowsAscend, contents_of, row_from, cell_in, written, Written, written_in, WrittenIn, whole_row, whole_rows}
 
 above_at : (n : ℕ) (rs : List Row) (k : ℕ) (d : Row) → RowsAbove n rs → k < length rs → n < (slice_index_or rs k d).object.0
 above_at n [] k d h lt = absurd (omega (arith, lt))
@@ -140,3 +142,54 @@ row_same o k rs d lt e h = sym (h ∙ row_turn o k rs d lt ∙ ap (λ b. cond b 
 
 pub row_other : (o k : ℕ) (rs : List Row) (d : Row) → k < length rs → ((slice_index_or rs k d).object.0 ≡ o → ⊥) → row_from o 0 rs ≡ row_from o k (drop k rs) → row_from o 0 rs ≡ row_from o (k + 1) (drop (k + 1) rs)
 row_other o k rs d lt e h = h ∙ row_turn o k rs d lt ∙ ap (λ b. cond b (Some k) (row_from o (k + 1) (drop (k + 1) rs))) (ne_eqb (slice_index_or rs k d).object.0 o e)
+
+-- ---- all objects of a program
+
+row_next : (n : ℕ) (sizes : List ℕ) (i s : ℕ) → slice_get sizes i ≡ Some s → whole_rows n (take (suc i) sizes) ≡ whole_rows n (take i sizes) ++ whole_row (n + i) s ∷ []
+row_next n [] i s h = absurd (none-some s h)
+row_next n (x ∷ sizes) zero s h =
+    let z : n ≡ n + 0 = omega arith in
+    ap (λ y. whole_row n y ∷ []) (same_Some x s h) ∙ ap (λ m. whole_row m s ∷ []) z
+row_next n (x ∷ sizes) (suc i) s h =
+    let z : suc n + i ≡ n + suc i = omega arith in
+    ap (λ l. whole_row n x ∷ l) (row_next (suc n) sizes i s h ∙ ap (λ m. whole_rows (suc n) (take i sizes) ++ whole_row m s ∷ []) z)
+
+-- one object more
+pub whole_next : (rs : List Row) (sizes : List ℕ) (i s : ℕ) → slice_get sizes i ≡ Some s → rs ≡ whole_rows 0 (take i sizes)
+      → rs ++ whole_row i s ∷ [] ≡ whole_rows 0 (take (i + 1) sizes)
+whole_next rs sizes i s h e =
+    let z : 0 + i ≡ i = omega arith in
+    let y : suc i ≡ i + 1 = omega arith in
+    ap (λ l. l ++ whole_row i s ∷ []) e ∙ ap (λ m. whole_rows 0 (take i sizes) ++ whole_row m s ∷ []) (sym z) ∙ sym (row_next 0 sizes i s h) ∙ ap (λ j. whole_rows 0 (take j sizes)) y
+
+pub whole_all : (rs : List Row) (sizes : List ℕ) (i : ℕ) → length sizes ≤ i → rs ≡ whole_rows 0 (take i sizes) → rs ≡ whole_rows 0 sizes
+whole_all rs sizes i le e = e ∙ ap (whole_rows 0) (take_all i sizes le)
+
+whole_above : (m n : ℕ) (sizes : List ℕ) → m < n → RowsAbove m (whole_rows n sizes)
+whole_above m n [] lt = tt
+whole_above m n (s ∷ sizes) lt = (lt, whole_above m (suc n) sizes (omega (arith, lt)))
+
+pub whole_ascend : (n : ℕ) (sizes : List ℕ) → RowsAscend (whole_rows n sizes)
+whole_ascend n [] = tt
+whole_ascend n (s ∷ sizes) = (whole_above n (suc n) sizes (omega arith), whole_ascend (suc n) sizes)
+
+whole_at : (n : ℕ) (sizes : List ℕ) (k : ℕ) → contents_of (whole_rows n sizes) (n + k) ≡ all_held (zeros sizes) k
+whole_at n [] k = refl
+whole_at n (s ∷ sizes) zero = let z : n ≡ n + 0 = omega arith in rw (eq-eqb n (n + 0) z) refl
+whole_at n (s ∷ sizes) (suc k) =
+    let z : n + suc k ≡ suc n + k = omega arith in
+    rw (ne_eqb n (n + suc k) (λ q. omega (arith, q))) (ap (contents_of (whole_rows (suc n) sizes)) z ∙ whole_at (suc n) sizes k)
+
+pub whole_held : (rs : List Row) (sizes : List ℕ) → rs ≡ whole_rows 0 sizes → contents_of rs ≡ all_held (zeros sizes)
+whole_held rs sizes e = ap contents_of e ∙ fun_ext (λ k. let z : k ≡ 0 + k = omega arith in ap (contents_of (whole_rows 0 sizes)) z ∙ whole_at 0 sizes k)
+
+-- a content that is taken out
+pub taken_row : (k l : Contents) (o : ℕ) → ((p : ℕ) → l p ≡ cond (eqb p o) None (k p)) → l ≡ without o k
+taken_row k l o h = fun_ext h
+
+pub none_taken : (k : Contents) (o : ℕ) → k o ≡ None → k ≡ without o k
+none_taken k o e = fun_ext (λ p. each p (cases_eq p o))
+  where
+    each : (p : ℕ) → (p ≡ o) ⊎ (p ≡ o → ⊥) → k p ≡ cond (eqb p o) None (k p)
+    each p (inl q) = rw (eq-eqb p o q) (ap k q ∙ e)
+    each p (inr ne) = rw (ne_eqb p o ne) refl

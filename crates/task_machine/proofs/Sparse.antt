@@ -1,7 +1,7 @@
 -- A specification by its objects, and the same object by object.
-use Rattle.std.proofs.Common.{◌≡◌, ℕ, zero, suc, ◌+◌, ◌<◌, ◌≤◌, ◌⊎◌, inl, inr, List, [], ◌∷◌, map, length, Bool, true, false, eqb, cond, Option, Some, None, refl, sym, ap, ◌∙◌, subst, arith}
+use Rattle.std.proofs.Common.{◌≡◌, ℕ, zero, suc, ◌+◌, ◌<◌, ◌≤◌, ◌⊎◌, inl, inr, List, [], ◌∷◌, map, length, Bool, true, false, eqb, cond, Option, Some, None, refl, sym, ap, ◌∙◌, subst, arith, ⊎_elim}
 use Rattle.std.specs.Prelude.{slice_get, slice_index_or, slice_set, replicate}
-use Rattle.std.proofs.lemmas.Bool.{cases_eq, eq-eqb, ne_eqb}
+use Rattle.std.proofs.lemmas.Bool.{cases_eq, eq-eqb, ne_eqb, true≢false}
 use Rattle.std.proofs.lemmas.Option.{none-some, same_Some}
 use Rattle.jade_base.specs.declared.place.ObjectId.{ObjectId}
 use Rattle.jade_base.specs.declared.rights.Rights.{Rights}
@@ -50,6 +50,15 @@ pub set_past : (xs : Specification) (o : ℕ) (x : Rights) → length xs ≤ o �
 set_past [] o x le = refl
 set_past (y ∷ xs) zero x le = absurd (omega (arith, le))
 set_past (y ∷ xs) (suc o) x le = ap (λ l. y ∷ l) (set_past xs o x (omega (arith, le)))
+
+-- there are rights only on the objects
+pub within_objects : (f : Rights → Bool) → f no_rights ≡ false → (n : ℕ) (es : List (ObjectId × Rights)) (o : ℕ) → f (rights_on (spread n es) o) ≡ true → o < n
+within_objects f none n es o h = ⊎_elim (λ lt. lt) (λ le. absurd (true≢false (sym h ∙ ap f (tab_past (λ i. rights_in es (id i)) 0 n o le) ∙ none))) (lt_or_le o n)
+  where
+    lt_or_le : (i m : ℕ) → (i < m) ⊎ (m ≤ i)
+    lt_or_le i zero = inr (omega arith)
+    lt_or_le zero (suc m) = inl (omega arith)
+    lt_or_le (suc i) (suc m) = ⊎_elim (λ lt. inl (omega (arith, lt))) (λ le. inr (omega (arith, le))) (lt_or_le i m)
 
 pub none_spread : (i n : ℕ) → map (λ o. no_rights) (numbers i n) ≡ replicate n no_rights
 none_spread i zero = refl

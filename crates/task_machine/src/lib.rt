@@ -1,8 +1,8 @@
 //! Runs the code of a task, up to the next thing that the task asks for.
 #![tactic(auto)]
 
-mod frame;
-mod holdings;
+pub mod frame;
+pub mod holdings;
 mod numbers;
-mod play;
-mod section;
+pub mod play;
+pub mod section;

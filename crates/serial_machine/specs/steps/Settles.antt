@@ -1,7 +1,6 @@
 -- A serial run as what each task comes to, with what follows it.
-use Rattle.std.specs.Prelude.{◌≡◌, ℕ, zero, suc, ◌+◌, ◌-◌, ◌≤◌, List, [], ◌∷◌, Option, Some, None, ℤ, pos, slice_get}
+use Rattle.std.specs.Prelude.{◌≡◌, ℕ, zero, suc, ◌+◌, ◌-◌, ◌<◌, ◌≤◌, List, [], ◌∷◌, Option, Some, None, ℤ, pos}
 use Rattle.jade_base.specs.declared.report.Blame.{Blame}
-use Rattle.jade_base.specs.declared.rights.Mode.TheVariants.{Writing}
 use Rattle.jade_base.specs.Held.{Held}
 use Rattle.jade_syntax.specs.Abstract.{AbstractProgram}
 use Rattle.jade_syntax.specs.Objects.{sizes}
@@ -9,6 +8,7 @@ use Rattle.jade_meaning.specs.Course.{Course, Reads, Writes, Steps, Creates, Cha
 use Rattle.jade_meaning.specs.Serial.{Path, Store, after, zeros}
 use Rattle.jade_meaning.specs.Answer.{Run, Stopped, Through, stopping, stopping_run}
 use Rattle.task_machine.specs.Playing.{Contents, with_cell, cell_of, played}
+use Rattle.task_machine.specs.Whole.{all_held}
 
 -- the number in a cell of an object that is held
 abbrev pub number_in : Option Held → ℕ → ℤ
@@ -36,6 +36,12 @@ module _ {A : Type 0} (pause : A → A) where
       (k n e d left : ℕ) (bad : Path → Blame → A) (ok : ℕ → Contents → A) → (played c s n e).steps ≡ n + d → d ≤ left
       → settles c k left s bad ok ≡ settles (played c s n e).course k (left - d) (played c s n e).contents bad ok
 
+  -- where the task begins more steps on the way than there are left, it has ended with the fault `limit`
+  abbrev pub RunsOut : Course → Contents → Type 0
+  RunsOut c s =
+      (k n e d left : ℕ) (bad : Path → Blame → A) (ok : ℕ → Contents → A) → (played c s n e).steps ≡ n + d → left < d
+      → settles c k left s bad ok ≡ bad [] limit_blame
+
   -- with no more steps left than so many, two courses come to the same
   pub record Alike (most : ℕ) (c d : Course) : Type 0 where
     pub same : (k left : ℕ) (s : Contents) (bad : Path → Blame → A) (ok : ℕ → Contents → A) → left ≤ most
@@ -45,15 +51,6 @@ module _ {A : Type 0} (pause : A → A) where
 pub data Ending : Type 0 where
   Fault : Path → Blame → Ending
   Whole : Contents → Ending
-
--- the cells of an object as they are held
-abbrev pub held_of : Option (List ℤ) → Option Held
-held_of None = None
-held_of (Some cells) = Some (record { mode = Writing; cells = cells })
-
--- a store as what is held of it
-abbrev pub all_held : Store → Contents
-all_held store o = held_of (slice_get store o)
 
 -- what a run that stops comes to, with what follows it
 abbrev pub resolved : {A : Type 0} → Run → Store → (Path → Blame → A) → (ℕ → Contents → A) → A
