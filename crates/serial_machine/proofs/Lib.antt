@@ -3,3 +3,4 @@ mod Budgets
 mod Stacking
 mod Filling
 mod Owned
+mod Pausing

@@ -11,7 +11,11 @@ use Rattle.jade_base.specs.Specification.{AllAbove, IsAscending, rights_in, kept
 use Rattle.access_spec.specs.Copies.{copied, copied_in}
 use Rattle.jade_meaning.specs.Specification.{Specification, numbers, rights_on, fitted}
 use Rattle.jade_meaning.specs.Spread.{spread}
-use Rattle.task_machine.specs.Stages.{id, copy_spread}
+use Rattle.jade_meaning.specs.Course.{drafted}
+use Rattle.task_machine.specs.declared.section.Own.{Own}
+use Rattle.task_machine.specs.declared.section.Section.TheVariants as section
+use Rattle.task_machine.specs.Stages.{id, copy_spread, drafted_as}
+use Rattle.task_machine.specs.steps.Owning.{rights_of, draft_of}
 
 -- all rights on each of the first objects, and none on the others
 pub record AllBelow (i : ℕ) (es : List (ObjectId × Rights)) : Type 0 where
@@ -135,3 +139,37 @@ spread_fits n es = none_fits (spread n es) n (tab_long (λ o. rights_in es (id o
 
 pub tab_fits : (f g : ℕ → Rights) (n : ℕ) → fitted (map f (numbers 0 n)) (map g (numbers 0 n)) ≡ map g (numbers 0 n)
 tab_fits f g n = fits_already (map f (numbers 0 n)) (map g (numbers 0 n)) (tab_long g 0 n ∙ sym (tab_long f 0 n))
+
+-- ---- a section of a child, by the section that there is
+
+none_spread : (i n : ℕ) → map (λ o. no_rights) (numbers i n) ≡ replicate n no_rights
+none_spread i zero = refl
+none_spread i (suc n) = ap (λ l. no_rights ∷ l) (none_spread (suc i) n)
+
+pub made_absent : (w : Own) → w.section ≡ section.Absent → spread w.objects [] ≡ fitted (rights_of w) (drafted (draft_of w))
+made_absent w e =
+    none_spread 0 w.objects ∙ sym (spread_fits w.objects w.spec.entries)
+    ∙ ap (λ s. fitted (rights_of w) (drafted (drafted_as s w.objects w.child w.spec))) (sym e)
+
+pub made_building : (w : Own) → w.section ≡ section.Building → spread w.objects w.child.entries ≡ fitted (rights_of w) (drafted (draft_of w))
+made_building w e =
+    sym (tab_fits (λ o. rights_in w.spec.entries (id o)) (λ o. rights_in w.child.entries (id o)) w.objects)
+    ∙ ap (λ s. fitted (rights_of w) (drafted (drafted_as s w.objects w.child w.spec))) (sym e)
+
+pub made_amending : (w : Own) → w.section ≡ section.Amending → IsAscending w.spec.entries
+      → spread w.objects (kept w.spec.entries w.spec.draft) ≡ fitted (rights_of w) (drafted (draft_of w))
+made_amending w e h =
+    spread_kept w.objects w.spec h
+    ∙ sym (tab_fits (λ o. rights_in w.spec.entries (id o)) (λ o. copied w.spec (id o)) w.objects)
+    ∙ ap (λ s. fitted (rights_of w) (drafted (drafted_as s w.objects w.child w.spec))) (sym e)
+
+pub same_fits : (n : ℕ) (es : List (ObjectId × Rights)) → fitted (spread n es) (spread n es) ≡ spread n es
+same_fits n es = tab_fits (λ o. rights_in es (id o)) (λ o. rights_in es (id o)) n
+
+settled_is : (es : List (ObjectId × Rights)) (o : ObjectId) → copied_in es (map (λ e. e.1) es) o ≡ rights_in es o
+settled_is [] o = refl
+settled_is (e ∷ es) o = ap (cond (eqb e.0.0 o.0) e.1) (settled_is es o)
+
+-- a copy that was not changed
+pub settled_copy : (n : ℕ) (es : List (ObjectId × Rights)) → copy_spread n (settled es) ≡ spread n es
+settled_copy n es = tab_same (λ o. copied (settled es) (id o)) (λ o. rights_in es (id o)) 0 n (λ k. settled_is es (id k))

@@ -1,9 +1,10 @@
 //! A task, from one stop to the next.
 
-ghost use Rattle.std.specs.Prelude.{◌≡◌, length, IfOk};
+ghost use Rattle.std.specs.Prelude.{◌≡◌, ◌<◌, length, slice_get, IfOk};
+ghost use Rattle.task_machine.specs.Stages.{InSection};
 ghost use Rattle.task_machine.specs.steps.Holding.{contents_of};
 ghost use Rattle.task_machine.specs.steps.Running.{RunsOn};
-ghost use Rattle.serial_machine.specs.steps.Pausing.{AllHeld, Stops};
+ghost use Rattle.serial_machine.specs.steps.Pausing.{AllHeld, Outside, Stops};
 
 use crate::ownership::{begin_child, declare};
 use code_meaning::code::Instruction;
@@ -24,9 +25,13 @@ pub(crate) enum Stop {
     Change,
 }
 
-// Where a child is created, or a change is made, outside of a section for it.
-fn outside(instruction: Instruction, own: &mut Own) -> Result<Stop, Memory> {
-    match instruction {
+// A child is created, or a change is made, outside of a section for it.
+fn outside(code: &[Instruction], own: &mut Own, frame: &Frame) -> Result<Stop, Memory>
+    requires place { frame.now.place < length code.now }
+    requires section { InSection (slice_get code.now frame.now.place) own.old.section → ⊥ }
+    ensures { IfOk result (λ stop. Outside code.now own.old frame.now stop own.new) }
+{
+    match code[frame.place] {
         Instruction::Create(number, pos) => {
             begin_child(own)?;
             if covers_child(own) {
@@ -67,7 +72,7 @@ pub(crate) fn go_on(
             Pause::Create(number) => return Ok(Stop::Create(number)),
             Pause::Change => return Ok(Stop::Change),
             Pause::Take(_) => unreachable!(),
-            Pause::Other => return outside(code[frame.place], own),
+            Pause::Other => return outside(code, own, frame),
         }
     }
 }

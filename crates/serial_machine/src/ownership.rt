@@ -7,13 +7,15 @@ ghost use Rattle.jade_meaning.specs.Spread.{spread};
 ghost use Rattle.jade_meaning.specs.Course.{NoDraft, Building, drafted};
 ghost use Rattle.task_machine.specs.Stages.{copy_spread};
 ghost use Rattle.task_machine.specs.steps.Owning.{rights_of, draft_of};
+ghost use Rattle.task_machine.specs.steps.Acting.{KeepsRights};
+ghost use Rattle.task_machine.specs.declared.section.Section.{Section as SectionOf};
 ghost use Rattle.serial_machine.specs.steps.Owns.{Owns};
 
 use access_spec::WorkingCopy;
 use jade_base::{Memory, ObjectId, Right, Rights, Spec};
 use std::alloc::Global;
 use std::mem;
-use task_machine::section::{Own, Section, open};
+use task_machine::section::{Own, Section};
 
 const BOTH: Rights = Rights {
     reads: Right::Immediate,
@@ -59,6 +61,7 @@ pub(crate) fn create(own: &mut Own) -> Own
 pub(crate) fn change(own: &mut Own)
     ensures { Owns own.new own.old.objects (copy_spread own.old.objects own.old.spec) NoDraft }
 {
+    let _objects = own.spec.spec().len();
     let empty = WorkingCopy::begin(Spec::empty(own.alloc));
     let spec = mem::replace(&mut own.spec, empty).commit();
     own.spec = WorkingCopy::begin(spec);
@@ -80,14 +83,19 @@ pub(crate) fn declare(own: &mut Own, object: ObjectId, rights: Rights) -> Result
 /// A section of a child, whatever section there is: none has made no rights, and that of the task
 /// itself what it has made. The error is want of memory.
 pub(crate) fn begin_child(own: &mut Own) -> Result<(), Memory>
-    ensures { OnOk result (Owns own.new own.old.objects (rights_of own.old)
-        (Building (fitted (rights_of own.old) (drafted (draft_of own.old))))) }
+    ensures kept { OnOk result (KeepsRights own.old own.new) }
+    ensures made { OnOk result (spread own.old.objects own.new.child.entries ≡ fitted (rights_of own.old) (drafted (draft_of own.old))) }
+    ensures section { OnOk result (own.new.section ≡ SectionOf.Building) }
 {
     match own.section {
         Section::Building => {}
-        Section::Absent => open(own),
+        Section::Absent => {
+            own.child = Spec::empty(own.alloc);
+            own.section = Section::Building;
+        }
         Section::Amending => {
             let mut child = own.spec.spec().copy(own.alloc)?;
+            let _objects = child.len();
             child.keep_draft();
             own.child = child;
             own.section = Section::Building;

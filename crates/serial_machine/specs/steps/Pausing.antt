@@ -56,3 +56,9 @@ pub record GoesOn (code : List Instruction) (w : Own) (f : Frame) (k : Contents)
 pub record Stops (code : List Instruction) (w : Own) (f : Frame) (k : Contents) (p : Stop) (u : Own) (g : Frame) (l : Contents) : Type 0 where
   pub on : GoesOn code w f k u g l
   pub tells : (child : Children) → StopTells p child code u g
+
+-- a task is at a stop where it stands, and goes on to do the same
+pub record Outside (code : List Instruction) (w : Own) (f : Frame) (p : Stop) (u : Own) : Type 0 where
+  pub same : (child : Children) → going child code w f ≡ going child code u f
+  pub objects : u.objects ≡ w.objects
+  pub tells : (child : Children) → StopTells p child code u f
