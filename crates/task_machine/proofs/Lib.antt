@@ -3,6 +3,7 @@ mod Sparse
 mod Sections
 mod Meanings
 mod Fitting
+mod Naming
 mod Acting
 mod Running
 mod Executing

@@ -1,11 +1,15 @@
 //! The contents that a task holds.
 
 ghost use Rattle.std.specs.Prelude.{◌≡◌, ◌<◌, length, map, IfOk, IfSome};
+ghost use Rattle.jade_syntax.specs.Objects.{sizes};
+ghost use Rattle.jade_meaning.specs.Serial.{zeros};
+ghost use Rattle.task_machine.specs.Whole.{all_held, without};
 ghost use Rattle.task_machine.specs.Playing.{cell_of};
 ghost use Rattle.task_machine.specs.Executions.{with_content, without_content};
-ghost use Rattle.task_machine.specs.steps.Holding.{RowsAscend, contents_of, row_from, cell_in, Written, WrittenIn};
+ghost use Rattle.task_machine.specs.steps.Holding.{RowsAscend, contents_of, row_from, cell_in, Written, WrittenIn, whole_rows};
 
-use jade_base::{Content, Memory, Mode, ObjectId, Spec};
+use jade_base::{Content, Memory, Mode, Numbers, ObjectId, Spec};
+use jade_syntax::Checked;
 use std::alloc::Global;
 use std::marker::Model;
 use std::mem;
@@ -19,7 +23,7 @@ pub struct Row {
 
 /// The contents that a task holds, by ascending number of the object.
 #[derive(Debug, Drop)]
-pub(crate) struct Holdings {
+pub struct Holdings {
     rows: Vec<Row>,
 }
 
@@ -51,15 +55,32 @@ impl Holdings {
         Ok(Holdings { rows })
     }
 
+    /// Every object of a program, held for writing, with zero in each cell. The error is want of
+    /// memory.
+    pub fn whole(alloc: Global, checked: &Checked) -> Result<Holdings, Memory>
+        ensures { IfOk result (λ held. contents_of held ≡ all_held (zeros (sizes checked.now.program.items))) }
+    {
+        let rows = rows_of(alloc, checked)?;
+        Ok(Holdings { rows })
+    }
+
+    /// Takes the content of an object out, where it is held. It takes no memory.
+    pub fn take(&mut self, object: usize) -> Option<Content>
+        ensures taken { result ≡ contents_of self.old object }
+        ensures left { contents_of self.new ≡ without object (contents_of self.old) }
+    {
+        take_among(self.rows.as_mut_slice(), object)
+    }
+
     /// The number in a cell of an object, where the object is held; a cell that is not there has 0.
-    pub(crate) fn cell(&self, object: usize, cell: usize) -> Option<i64>
+    pub fn cell(&self, object: usize, cell: usize) -> Option<i64>
         ensures { result ≡ cell_in (contents_of self.now object) cell }
     {
         cell_among(self.rows.as_slice(), object, cell)
     }
 
     /// Writes a number into a cell of an object; whether the object is held for more than reading.
-    pub(crate) fn write(&mut self, object: usize, cell: usize, number: i64) -> bool
+    pub fn write(&mut self, object: usize, cell: usize, number: i64) -> bool
         ensures { Written (contents_of self.old) object cell number result (contents_of self.new) }
     {
         write_among(self.rows.as_mut_slice(), object, cell, number)
@@ -71,6 +92,33 @@ impl Holdings {
         ensures rows { self.new ≡ with_content object.0 content self.old }
     {
         put_among(self.rows.as_mut_slice(), object.0 as usize, content)
+    }
+}
+
+// A row for each object of a program, held for writing, with zero in each cell.
+fn rows_of(alloc: Global, checked: &Checked) -> Result<Vec<Row>, Memory>
+    ensures { IfOk result (λ rows. rows.items ≡ whole_rows 0 (sizes checked.now.program.items)) }
+{
+    let mut rows = Vec::new(alloc);
+    for object in 0..checked.objects() {
+        let object = ObjectId(object);
+        let cells = Vec::from_elem(alloc, 0, checked.size(object) as usize)?;
+        let content = Some(Content::of(Mode::Writing, Numbers::from_vec(cells)));
+        rows.push(Row { object, content })?;
+    }
+    Ok(rows)
+}
+
+// Takes the content of an object out, where it is held.
+fn take_among(rows: &mut [Row], object: usize) -> Option<Content>
+    requires { RowsAscend rows.old }
+    ensures taken { result ≡ contents_of rows.old object }
+    ensures left { contents_of rows.new ≡ without object (contents_of rows.old) }
+    ensures ascend { RowsAscend rows.new }
+{
+    match place_of(rows, object) {
+        None => None,
+        Some(place) => rows[place].content.take(),
     }
 }
 

@@ -2,11 +2,11 @@
 #![tactic(auto)]
 
 mod execution;
-mod frame;
-mod holdings;
+pub mod frame;
+pub mod holdings;
 mod numbers;
-mod play;
-mod section;
+pub mod play;
+pub mod section;
 mod slots;
 
 pub use execution::Execution;

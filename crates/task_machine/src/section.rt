@@ -30,17 +30,17 @@ pub enum Section {
 /// The number of objects of the program, the specification of the task with the copy that a section
 /// changes, and the specification that a section makes for a child.
 #[derive(Drop)]
-pub(crate) struct Own {
-    pub(crate) objects: u32,
-    pub(crate) spec: WorkingCopy,
-    pub(crate) child: Spec,
-    pub(crate) section: Section,
-    pub(crate) alloc: Global,
+pub struct Own {
+    pub objects: u32,
+    pub spec: WorkingCopy,
+    pub child: Spec,
+    pub section: Section,
+    pub alloc: Global,
 }
 
 /// What comes of a word of a section.
 #[derive(Clone, Copy, Debug, PartialEq, Eq)]
-pub(crate) enum Said {
+pub enum Said {
     Done,
     /// These rights on the object are to be declared.
     Asks(ObjectId, Rights),
@@ -114,21 +114,21 @@ fn rights_on(own: &Own, object: usize) -> Rights
 }
 
 /// Whether the task has an immediate right to read an object.
-pub(crate) fn may_read(own: &Own, object: usize) -> bool
+pub fn may_read(own: &Own, object: usize) -> bool
     ensures { result ≡ is_immediate (rights_on (rights_of own.now) object).reads }
 {
     matches!(rights_on(own, object).reads, Right::Immediate)
 }
 
 /// Whether the task has an immediate right to write an object.
-pub(crate) fn may_write(own: &Own, object: usize) -> bool
+pub fn may_write(own: &Own, object: usize) -> bool
     ensures { result ≡ is_immediate (rights_on (rights_of own.now) object).writes }
 {
     matches!(rights_on(own, object).writes, Right::Immediate)
 }
 
 /// A section of a child begins.
-pub(crate) fn open(own: &mut Own)
+pub fn open(own: &mut Own)
     ensures kept { KeepsRights own.old own.new }
     ensures draft { draft_of own.new ≡ Building (replicate own.old.objects no_rights) }
 {
@@ -137,7 +137,7 @@ pub(crate) fn open(own: &mut Own)
 }
 
 /// A section of the task itself begins.
-pub(crate) fn amend(own: &mut Own)
+pub fn amend(own: &mut Own)
     ensures kept { KeepsRights own.old own.new }
     ensures draft { draft_of own.new ≡ Amending (rights_of own.old) }
 {
@@ -166,7 +166,7 @@ fn change(own: &mut Own, change: Change, object: usize) -> Said
 }
 
 /// A word of a section on an object.
-pub(crate) fn say(own: &mut Own, word: DeclareWord, object: usize) -> Said
+pub fn say(own: &mut Own, word: DeclareWord, object: usize) -> Said
     ensures { SaidBy result own.old word object own.new }
 {
     match own.section {
@@ -186,7 +186,7 @@ pub(crate) fn say(own: &mut Own, word: DeclareWord, object: usize) -> Said
 }
 
 /// Whether the task's rights cover those that the section has made for a child.
-pub(crate) fn covers_child(own: &Own) -> bool
+pub fn covers_child(own: &Own) -> bool
     ensures { result ≡ covers (rights_of own.now) (spread own.now.objects own.now.child.entries) }
 {
     spread_agrees();

@@ -1,5 +1,6 @@
 -- The rows of a table of what is held.
-use Rattle.std.specs.Prelude.{◌≡◌, ℕ, suc, ◌<◌, ◌==◌, Bool, true, false, List, [], ◌∷◌, map, Option, Some, None, ℤ, if◌then◌else◌}
+use Rattle.std.specs.Prelude.{◌≡◌, ℕ, suc, ◌<◌, ◌==◌, Bool, true, false, List, [], ◌∷◌, map, Option, Some, None, ℤ, pos, replicate, if◌then◌else◌}
+use Rattle.jade_base.specs.declared.rights.Mode.TheVariants.{Writing}
 use Rattle.jade_base.specs.Held.{Held}
 use Rattle.task_machine.specs.declared.holdings.Row.{Row}
 pub use Rattle.task_machine.specs.Playing.{contents_of}
@@ -40,3 +41,12 @@ written_in (Some h) old c v r new = (r ≡ true) × (new ≡ put_in c v old)
 
 abbrev pub WrittenIn : (old : Option Held) → (c : ℕ) → ℤ → Bool → (new : Option Held) → Type 0
 WrittenIn old c v r new = written_in (writable old) old c v r new
+
+-- the object of this number, with so many cells, which are zero
+abbrev pub whole_row : (number size : ℕ) → Row
+whole_row n size = record { object = record { 0 = n }; content = Some (record { mode = Writing; cells = replicate size (pos 0) }) }
+
+-- objects of these sizes, numbered from n on
+abbrev pub whole_rows : ℕ → List ℕ → List Row
+whole_rows n [] = []
+whole_rows n (size ∷ sizes) = whole_row n size ∷ whole_rows (suc n) sizes
