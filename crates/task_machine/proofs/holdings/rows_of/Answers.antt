@@ -8,4 +8,5 @@ use Rattle.task_machine.proofs.holdings.rows_of.Goals as goal
 pub loop-object-preserved : goal.loop-object-preserved
 loop-object-preserved c =
     let pushed : c.push.new.self.items ≡ c.loop-object.rows.items ++ whole_row c.loop-object.object c.size.result ∷ [] = search rules in
-    pushed ∙ whole_next c.loop-object.rows.items (sizes c.args.checked.now.program.items) c.loop-object.object c.size.result c.size.ensures c.loop-object.invariant
+    pushed ∙ whole_next c.loop-object.rows.items (sizes c.args.checked.now.program.items) c.loop-object.object c.size.result c.size.ensures
+          c.loop-object.invariant

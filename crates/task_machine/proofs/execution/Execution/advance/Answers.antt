@@ -1,4 +1,4 @@
-use Rattle.std.proofs.Common.{◌≡◌, ◌+◌, ◌-◌, length, refl, sym, ap, subst, ◌∙◌}
+use Rattle.std.proofs.Common.{◌≡◌, ◌+◌, ◌-◌, ◌<◌, length, refl, sym, ap, subst, ◌∙◌}
 use Rattle.task_machine.specs.Playing.{contents_of, played}
 use Rattle.task_machine.specs.Stages.{ahead, Tells}
 use Rattle.task_machine.specs.Executions.{Advanced}
@@ -30,5 +30,6 @@ returns c =
       tells = λ child. subst (λ is. Tells c.advance.result child
             (stage is c.advance.new.own c.advance.new.frame.left c.advance.new.frame.place c.advance.new.frame.slots.items) (contents_of c.advance.new.held))
             code (a.tells child);
+      there = λ ne. subst (λ is. c.advance.new.frame.place < length is) code (a.there ne);
       task = record { program = refl; numbers = refl; limit = refl; body = refl; objects = a.sized.kept.objects; rights = a.sized.kept.rights };
     })
