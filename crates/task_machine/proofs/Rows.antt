@@ -1,7 +1,7 @@
 -- Rows of what is held.
-use Rattle.std.proofs.Common.{◌≡◌, ℕ, zero, suc, ◌+◌, ◌<◌, ◌≤◌, ◌⊎◌, inl, inr, List, [], ◌∷◌, ◌++◌, take, length, Bool, true, false, eqb, cond, Option, Some}
+use Rattle.std.proofs.Common.{◌≡◌, ℕ, zero, suc, ◌+◌, ◌<◌, ◌≤◌, ◌⊎◌, inl, inr, List, [], ◌∷◌, ◌++◌, take, length, Bool, false, eqb, cond, Option, Some}
 use Rattle.std.proofs.Common.{None, refl, sym, ap, ◌∙◌, subst, arith}
-use Rattle.std.specs.Prelude.{ℤ, slice_get, slice_index_or, slice_set, nat_eq, if◌then◌else◌}
+use Rattle.std.specs.Prelude.{ℤ, slice_get, slice_index_or, slice_set}
 use Rattle.std.proofs.lemmas.Bool.{cases_eq, eq-eqb, ne_eqb}
 use Rattle.std.proofs.lemmas.Option.{none-some, same_Some}
 use Rattle.std.proofs.Math.Path.{fun_ext}
@@ -12,13 +12,13 @@ use Rattle.jade_meaning.specs.Serial.{zeros}
 use Rattle.task_machine.specs.Whole.{all_held, without}
 use Rattle.jade_base.specs.Held.{Held}
 use Rattle.task_machine.specs.declared.holdings.Row.{Row}
-use Rattle.task_machine.specs.Playing.{Contents, cell_of, writable, put_in, with_cell}
+use Rattle.task_machine.specs.Playing.{Contents, writable, put_in}
 use Rattle.std.proofs.Common.{map}
 use Rattle.jade_base.specs.declared.place.ObjectId.{ObjectId}
 use Rattle.jade_base.specs.declared.rights.Rights.{Rights}
 use Rattle.jade_base.specs.Specification.{AllAbove, IsAscending}
 use Rattle.task_machine.specs.Executions.{with_content, without_content}
-use Rattle.task_machine.specs.steps.Holding.{RowsAbove, RowsAscend, contents_of, row_from, cell_in, written, Written, written_in, WrittenIn, whole_row}
+use Rattle.task_machine.specs.steps.Holding.{RowsAbove, RowsAscend, contents_of, row_from, written, Written, written_in, whole_row}
 use Rattle.task_machine.specs.steps.Holding.{whole_rows}
 
 above_at : (n : ℕ) (rs : List Row) (k : ℕ) (d : Row) → RowsAbove n rs → k < length rs → n < (slice_index_or rs k d).object.0
@@ -28,7 +28,7 @@ above_at n (r ∷ rs) (suc k) d h lt = above_at n rs k d h.1 (omega (arith, lt))
 
 -- the row at this place is the object's, and the first
 pub row_here : (o n : ℕ) (rs : List Row) (k : ℕ) (d : Row) → RowsAscend rs → k < length rs → (slice_index_or rs k d).object.0 ≡ o → row_from o n rs
-      ≡ Some (n + k)
+    ≡ Some (n + k)
 row_here o n [] k d h lt e = absurd (omega (arith, lt))
 row_here o n (r ∷ rs) zero d h lt e = rw (eq-eqb r.object.0 o e) (let z : n ≡ n + 0 = omega arith in ap Some z)
 row_here o n (r ∷ rs) (suc k) d h lt e =
@@ -54,7 +54,7 @@ first_row r rs o e = record {
 }
   where
     each : (x : Row) → x.object.0 ≡ o → (p : ℕ) → (p ≡ o) ⊎ (p ≡ o → ⊥) → cond (eqb x.object.0 p) x.content (contents_of rs p)
-          ≡ cond (eqb p o) x.content (cond (eqb r.object.0 p) r.content (contents_of rs p))
+        ≡ cond (eqb p o) x.content (cond (eqb r.object.0 p) r.content (contents_of rs p))
     each x q p (inl s) = rw (eq-eqb x.object.0 p (q ∙ sym s), eq-eqb p o s) refl
     each x q p (inr s) = rw (ne_eqb x.object.0 p (λ t. s (sym t ∙ q)), ne_eqb p o s, ne_eqb r.object.0 p (λ t. s (sym t ∙ e))) refl
 
@@ -70,7 +70,7 @@ later_row r rs o j ne h = record {
 }
   where
     each : (x : Row) → x.object.0 ≡ o → (p : ℕ) → (r.object.0 ≡ p) ⊎ (r.object.0 ≡ p → ⊥) → cond (eqb r.object.0 p) r.content (contents_of (slice_set rs j x) p)
-          ≡ cond (eqb p o) x.content (cond (eqb r.object.0 p) r.content (contents_of rs p))
+        ≡ cond (eqb p o) x.content (cond (eqb r.object.0 p) r.content (contents_of rs p))
     each x q p (inl s) = rw (eq-eqb r.object.0 p s, ne_eqb p o (λ t. ne (s ∙ t))) refl
     each x q p (inr s) = rw (ne_eqb r.object.0 p s) (h.set x q p)
 
@@ -123,7 +123,7 @@ above_set n (r ∷ rs) (suc k) x h lt = (h.0, above_set n rs k x h.1 lt)
 
 -- a row of the same object in the place of another
 pub ascend_set : (rs : List Row) (k : ℕ) (x d : Row) → k < length rs → RowsAscend rs → x.object.0 ≡ (slice_index_or rs k d).object.0
-      → RowsAscend (slice_set rs k x)
+    → RowsAscend (slice_set rs k x)
 ascend_set [] k x d lt h e = tt
 ascend_set (r ∷ rs) zero x d lt h e = (subst (λ n. RowsAbove n rs) (sym e) h.0, h.1)
 ascend_set (r ∷ rs) (suc k) x d lt h e =
@@ -132,7 +132,7 @@ ascend_set (r ∷ rs) (suc k) x d lt h e =
 
 -- a content that is written where it stands
 pub written_row : (w : Option Held) (k l : Contents) (o c : ℕ) (v : ℤ) (r : Bool) (new : Option Held) → ((p : ℕ) → l p ≡ cond (eqb p o) new (k p))
-      → written_in w (k o) c v r new → written w k o c v r l
+    → written_in w (k o) c v r new → written w k o c v r l
 written_row None k l o c v r new same h = (h.0, fun_ext (λ p. same p ∙ each p (cases_eq p o)))
   where
     each : (p : ℕ) → (p ≡ o) ⊎ (p ≡ o → ⊥) → cond (eqb p o) new (k p) ≡ k p
@@ -149,22 +149,22 @@ unwritten k o c v e = subst (λ w. written (writable w) k o c v false k) (sym e)
 
 -- the rows from a place on
 pub row_turn : (o k : ℕ) (rs : List Row) (d : Row) → k < length rs → row_from o k (drop k rs)
-      ≡ cond (eqb (slice_index_or rs k d).object.0 o) (Some k) (row_from o (k + 1) (drop (k + 1) rs))
+    ≡ cond (eqb (slice_index_or rs k d).object.0 o) (Some k) (row_from o (k + 1) (drop (k + 1) rs))
 row_turn o k rs d lt = let z : suc k ≡ k + 1 = omega arith in ap (row_from o k) (drop-cons rs k d lt)
-      ∙ ap (λ n. cond (eqb (slice_index_or rs k d).object.0 o) (Some k) (row_from o n (drop n rs))) z
+    ∙ ap (λ n. cond (eqb (slice_index_or rs k d).object.0 o) (Some k) (row_from o n (drop n rs))) z
 
 pub row_end : (o k : ℕ) (rs : List Row) → length rs ≤ k → row_from o k (drop k rs) ≡ None
 row_end o k rs le = ap (row_from o k) (drop_all k rs le)
 
 pub row_same : (o k : ℕ) (rs : List Row) (d : Row) → k < length rs → (slice_index_or rs k d).object.0 ≡ o → row_from o 0 rs ≡ row_from o k (drop k rs) → Some k
-      ≡ row_from o 0 rs
+    ≡ row_from o 0 rs
 row_same o k rs d lt e h = sym (h ∙ row_turn o k rs d lt ∙ ap (λ b. cond b (Some k) (row_from o (k + 1) (drop (k + 1) rs)))
-      (eq-eqb (slice_index_or rs k d).object.0 o e))
+    (eq-eqb (slice_index_or rs k d).object.0 o e))
 
 pub row_other : (o k : ℕ) (rs : List Row) (d : Row) → k < length rs → ((slice_index_or rs k d).object.0 ≡ o → ⊥) → row_from o 0 rs ≡ row_from o k (drop k rs)
-      → row_from o 0 rs ≡ row_from o (k + 1) (drop (k + 1) rs)
+    → row_from o 0 rs ≡ row_from o (k + 1) (drop (k + 1) rs)
 row_other o k rs d lt e h = h ∙ row_turn o k rs d lt ∙ ap (λ b. cond b (Some k) (row_from o (k + 1) (drop (k + 1) rs)))
-      (ne_eqb (slice_index_or rs k d).object.0 o e)
+    (ne_eqb (slice_index_or rs k d).object.0 o e)
 
 missing_content : (o n : ℕ) (h : Option Held) (rs : List Row) → row_from o n rs ≡ None → rs ≡ with_content o h rs
 missing_content o n h [] e = refl
@@ -190,15 +190,14 @@ pub rows_ascend : (es : List (ObjectId × Rights)) → IsAscending es → RowsAs
 rows_ascend [] h = tt
 rows_ascend (e ∷ es) h = (rows_above e.0.0 es h.1, rows_ascend es h.2)
 
-
 rows_next : (es : List (ObjectId × Rights)) (i : ℕ) (x : ObjectId × Rights) → slice_get es i ≡ Some x → map without_content (take (suc i) es)
-      ≡ map without_content (take i es) ++ without_content x ∷ []
+    ≡ map without_content (take i es) ++ without_content x ∷ []
 rows_next [] i x h = absurd (none-some x h)
 rows_next (y ∷ es) zero x h = ap (λ z. without_content z ∷ []) (same_Some y x h)
 rows_next (y ∷ es) (suc i) x h = ap (λ l. without_content y ∷ l) (rows_next es i x h)
 
 pub rows_more : (es : List (ObjectId × Rights)) (i : ℕ) (x : ObjectId × Rights) → slice_get es i ≡ Some x
-      → map without_content (take i es) ++ without_content x ∷ [] ≡ map without_content (take (i + 1) es)
+    → map without_content (take i es) ++ without_content x ∷ [] ≡ map without_content (take (i + 1) es)
 rows_more es i x h = let z : suc i ≡ i + 1 = omega arith in sym (rows_next es i x h) ∙ ap (λ n. map without_content (take n es)) z
 
 pub rows_whole : (es : List (ObjectId × Rights)) (i : ℕ) (rs : List Row) → length es ≤ i → IsAscending es → rs ≡ map without_content (take i es) → RowsAscend rs
@@ -207,7 +206,7 @@ rows_whole es i rs le h e = subst RowsAscend (sym (e ∙ ap (map without_content
 -- ---- all objects of a program
 
 row_next : (n : ℕ) (sizes : List ℕ) (i s : ℕ) → slice_get sizes i ≡ Some s → whole_rows n (take (suc i) sizes)
-      ≡ whole_rows n (take i sizes) ++ whole_row (n + i) s ∷ []
+    ≡ whole_rows n (take i sizes) ++ whole_row (n + i) s ∷ []
 row_next n [] i s h = absurd (none-some s h)
 row_next n (x ∷ sizes) zero s h =
     let z : n ≡ n + 0 = omega arith in
@@ -218,12 +217,12 @@ row_next n (x ∷ sizes) (suc i) s h =
 
 -- one object more
 pub whole_next : (rs : List Row) (sizes : List ℕ) (i s : ℕ) → slice_get sizes i ≡ Some s → rs ≡ whole_rows 0 (take i sizes)
-      → rs ++ whole_row i s ∷ [] ≡ whole_rows 0 (take (i + 1) sizes)
+    → rs ++ whole_row i s ∷ [] ≡ whole_rows 0 (take (i + 1) sizes)
 whole_next rs sizes i s h e =
     let z : 0 + i ≡ i = omega arith in
     let y : suc i ≡ i + 1 = omega arith in
     ap (λ l. l ++ whole_row i s ∷ []) e ∙ ap (λ m. whole_rows 0 (take i sizes) ++ whole_row m s ∷ []) (sym z) ∙ sym (row_next 0 sizes i s h)
-          ∙ ap (λ j. whole_rows 0 (take j sizes)) y
+    ∙ ap (λ j. whole_rows 0 (take j sizes)) y
 
 pub whole_all : (rs : List Row) (sizes : List ℕ) (i : ℕ) → length sizes ≤ i → rs ≡ whole_rows 0 (take i sizes) → rs ≡ whole_rows 0 sizes
 whole_all rs sizes i le e = e ∙ ap (whole_rows 0) (take_all i sizes le)

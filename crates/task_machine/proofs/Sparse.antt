@@ -1,7 +1,7 @@
 -- A specification by its objects, and the same object by object.
-use Rattle.std.proofs.Common.{◌≡◌, ℕ, zero, suc, ◌+◌, ◌<◌, ◌≤◌, ◌⊎◌, inl, inr, List, [], ◌∷◌, map, length, Bool, true, false, eqb, cond, Option, Some, None}
+use Rattle.std.proofs.Common.{◌≡◌, ℕ, zero, suc, ◌+◌, ◌<◌, ◌≤◌, ◌⊎◌, inl, inr, List, [], ◌∷◌, map, length, Bool, true, false, eqb, cond, Some}
 use Rattle.std.proofs.Common.{refl, sym, ap, ◌∙◌, subst, arith, ⊎_elim}
-use Rattle.std.specs.Prelude.{slice_get, slice_index_or, slice_set, replicate}
+use Rattle.std.specs.Prelude.{slice_get, slice_set, replicate}
 use Rattle.std.proofs.lemmas.Bool.{cases_eq, eq-eqb, ne_eqb, true≢false}
 use Rattle.std.proofs.lemmas.Option.{none-some, same_Some}
 use Rattle.jade_base.specs.declared.place.ObjectId.{ObjectId}
@@ -12,7 +12,7 @@ use Rattle.jade_base.specs.declared.rights.Right.{Right}
 use Rattle.jade_base.specs.declared.rights.Right.TheVariants.{Absent, Deferred, Immediate}
 use Rattle.jade_base.specs.Rights.{both_rights, no_rights, is_there, has_rights, join}
 use Rattle.jade_base.specs.Specification.{AllAbove, IsAscending, rights_in, settled, kept, Specification as Sparse}
-use Rattle.access_spec.specs.Copies.{copied, copied_in, with_copied, rewritten}
+use Rattle.access_spec.specs.Copies.{copied, copied_in}
 use Rattle.jade_meaning.specs.Specification.{Specification, numbers, rights_on}
 use Rattle.jade_meaning.specs.Spread.{spread}
 use Rattle.task_machine.specs.steps.Owning.{id, copy_spread, RightsBelow}
@@ -38,7 +38,7 @@ tab_same f g i (suc n) h = ap (λ x. x ∷ map f (numbers (suc i) n)) (h i) ∙ 
 
 -- other rights on one object
 pub tab_set : (f g : ℕ → Rights) (i n o : ℕ) (x : Rights) → g (i + o) ≡ x → ((k : ℕ) → (k ≡ i + o → ⊥) → f k ≡ g k) → slice_set (map f (numbers i n)) o x
-      ≡ map g (numbers i n)
+    ≡ map g (numbers i n)
 tab_set f g i zero o x e h = refl
 tab_set f g i (suc n) zero x e h =
     let z : i ≡ i + 0 = omega arith in
@@ -60,7 +60,7 @@ set_past (y ∷ xs) (suc o) x le = ap (λ l. y ∷ l) (set_past xs o x (omega (a
 -- there are rights only on the objects
 pub within_objects : (f : Rights → Bool) → f no_rights ≡ false → (n : ℕ) (es : List (ObjectId × Rights)) (o : ℕ) → f (rights_on (spread n es) o) ≡ true → o < n
 within_objects f none n es o h = ⊎_elim (λ lt. lt) (λ le. absurd (true≢false (sym h ∙ ap f (tab_past (λ i. rights_in es (id i)) 0 n o le)
-      ∙ none))) (lt_or_le o n)
+    ∙ none))) (lt_or_le o n)
   where
     lt_or_le : (i m : ℕ) → (i < m) ⊎ (m ≤ i)
     lt_or_le i zero = inr (omega arith)
@@ -78,7 +78,7 @@ above-at n (x ∷ es) (suc k) e h g = above-at n es k e h.1 g
 
 -- the entry at this place is the object's, and the first
 pub rights_here : (es : List (ObjectId × Rights)) (k : ℕ) (e : ObjectId × Rights) (o : ObjectId) → IsAscending es → slice_get es k ≡ Some e → e.0.0 ≡ o.0 → e.1
-      ≡ rights_in es o
+    ≡ rights_in es o
 rights_here [] k e o h g q = absurd (none-some e g)
 rights_here (x ∷ es) zero e o h g q =
     let s = same_Some x e g in
@@ -129,7 +129,7 @@ copied_above : (es : List (ObjectId × Rights)) (ds : List Rights) (o : ObjectId
 copied_above [] ds o n le h = refl
 copied_above (e ∷ es) [] o n le h = refl
 copied_above (e ∷ es) (d ∷ ds) o n le h = ap (λ b. cond b d (copied_in es ds o)) (ne_eqb e.0.0 o.0 (λ q. omega (arith, h.0, q, le)))
-      ∙ copied_above es ds o n le h.1
+    ∙ copied_above es ds o n le h.1
 
 kept_is : (es : List (ObjectId × Rights)) (ds : List Rights) (o : ObjectId) → IsAscending es → rights_in (kept es ds) o ≡ copied_in es ds o
 kept_is [] ds o h = refl
@@ -138,10 +138,11 @@ kept_is (e ∷ es) (d ∷ ds) o h = go (has_rights d) refl (kept_is es ds o h.2)
   where
     same : (e.0.0 ≡ o.0) ⊎ (e.0.0 ≡ o.0 → ⊥) → has_rights d ≡ false → copied_in es ds o ≡ cond (eqb e.0.0 o.0) d (copied_in es ds o)
     same (inl q) none = copied_above es ds o e.0.0 (omega (arith, q)) h.1 ∙ sym (no_right_is d none)
-          ∙ sym (ap (λ b. cond b d (copied_in es ds o)) (eq-eqb e.0.0 o.0 q))
+        ∙ sym (ap (λ b. cond b d (copied_in es ds o)) (eq-eqb e.0.0 o.0 q))
     same (inr ne) none = sym (ap (λ b. cond b d (copied_in es ds o)) (ne_eqb e.0.0 o.0 ne))
+
     go : (t : Bool) → has_rights d ≡ t → rights_in (kept es ds) o ≡ copied_in es ds o → rights_in (cond t ((e.0, d) ∷ kept es ds) (kept es ds)) o
-          ≡ cond (eqb e.0.0 o.0) d (copied_in es ds o)
+        ≡ cond (eqb e.0.0 o.0) d (copied_in es ds o)
     go true q more = ap (cond (eqb e.0.0 o.0) d) more
     go false q more = more ∙ same (cases_eq e.0.0 o.0) q
 
@@ -152,7 +153,7 @@ kept_spread n s h = tab_same (λ o. rights_in (kept s.entries s.draft) (id o)) (
 all_both : (f : ℕ → Rights) (i n : ℕ) → ((k : ℕ) → k < i + n → f k ≡ both_rights) → map f (numbers i n) ≡ replicate n both_rights
 all_both f i zero h = refl
 all_both f i (suc n) h = ap (λ x. x ∷ map f (numbers (suc i) n)) (h i (omega arith))
-      ∙ ap (λ l. both_rights ∷ l) (all_both f (suc i) n (λ k lt. h k (omega (arith, lt))))
+    ∙ ap (λ l. both_rights ∷ l) (all_both f (suc i) n (λ k lt. h k (omega (arith, lt))))
 
 pub below_all : (n m : ℕ) (es : List (ObjectId × Rights)) → n ≤ m → RightsBelow m es → spread n es ≡ replicate n both_rights
 below_all n m es le h = all_both (λ o. rights_in es (id o)) 0 n (λ k lt. h.below (id k) (omega (arith, lt, le)))

@@ -13,8 +13,8 @@ use crate::holdings::Holdings;
 use crate::play;
 use crate::section::{Own, Section, all_rights, commit, declare_for_child};
 use crate::slots::{empty_slots, give_inputs};
-use code_meaning::code::Instruction;
 use access_spec::WorkingCopy;
+use code_meaning::code::Instruction;
 use jade_base::{Content, Memory, ObjectId, Rights, Spec};
 use std::alloc::Global;
 use std::marker::Model;
@@ -184,8 +184,9 @@ impl<'c> Execution<'c> {
         requires within { object.0 < self.old.stage.objects }
         requires place { self.old.stage.place < 2 ^ 63 }
         ensures declared { OnOk result (self.new ≡ record self.old {
-        stage = moved_on self.old.stage.section self.old.stage.spec
-            (settled (joined_in self.old.stage.child.entries object rights)) self.old.stage }) }
+          stage = moved_on self.old.stage.section self.old.stage.spec
+              (settled (joined_in self.old.stage.child.entries object rights)) self.old.stage;
+        }) }
         ensures refused { OnErr result (self.new ≡ self.old) }
     {
         declare_for_child(&mut self.own, alloc, object, rights)?;
@@ -198,7 +199,8 @@ impl<'c> Execution<'c> {
     pub fn change(&mut self)
         requires place { self.old.stage.place < 2 ^ 63 }
         ensures { self.new ≡ record self.old {
-        stage = moved_on Section.Absent (settled (kept self.old.stage.spec.entries self.old.stage.spec.draft)) self.old.stage.child self.old.stage } }
+          stage = moved_on Section.Absent (settled (kept self.old.stage.spec.entries self.old.stage.spec.draft)) self.old.stage.child self.old.stage;
+        } }
     {
         commit(&mut self.own);
         go_past(&mut self.frame);

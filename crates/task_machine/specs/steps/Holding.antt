@@ -1,5 +1,5 @@
 -- The rows of a table of what is held.
-use Rattle.std.specs.Prelude.{◌≡◌, ℕ, suc, ◌<◌, ◌==◌, Bool, true, false, List, [], ◌∷◌, map, Option, Some, None, ℤ, pos, replicate, if◌then◌else◌}
+use Rattle.std.specs.Prelude.{◌≡◌, ℕ, suc, ◌<◌, ◌==◌, Bool, true, false, List, [], ◌∷◌, Option, Some, None, ℤ, pos, replicate, if◌then◌else◌}
 use Rattle.jade_base.specs.declared.rights.Mode.TheVariants.{Writing}
 use Rattle.jade_base.specs.Held.{Held}
 use Rattle.task_machine.specs.declared.holdings.Row.{Row}

@@ -1,4 +1,3 @@
-use Rattle.std.proofs.Common.{◌≡◌}
 use Rattle.task_machine.proofs.Executing.{first_there, first_room}
 use Rattle.task_machine.proofs.execution.first_body.Goals as goal
 

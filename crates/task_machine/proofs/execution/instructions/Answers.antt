@@ -1,4 +1,4 @@
-use Rattle.std.proofs.Common.{◌≡◌, ◌<◌, length, refl, sym, ap, subst, ◌∙◌}
+use Rattle.std.proofs.Common.{◌<◌, length, sym, ap, subst, ◌∙◌}
 use Rattle.code_meaning.specs.Meaning.{Body}
 use Rattle.task_code.specs.Rules.{TaskCode}
 use Rattle.task_machine.proofs.Executing.{code_found}

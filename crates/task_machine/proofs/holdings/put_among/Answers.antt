@@ -1,4 +1,4 @@
-use Rattle.std.proofs.Common.{◌≡◌, refl, sym, ap, ◌∙◌, slice_set, slice_index_or}
+use Rattle.std.proofs.Common.{refl, sym, ap, ◌∙◌, slice_set, slice_index_or}
 use Rattle.task_machine.proofs.Rows.{row_missing, row_found, missing_same, ascend_set}
 use Rattle.task_machine.proofs.holdings.put_among.Goals as goal
 
@@ -17,8 +17,11 @@ pub returns-in-Some-clause-rows : goal.returns-in-Some-clause-rows
 returns-in-Some-clause-rows c =
     let row = row_found c.args.object c.args.rows.now c.in-Some.place (sym c.in-Some.is ∙ c.place_of.ensures.row) in
     let d = c.index-rows-place.result in
-    ap (λ h. slice_set c.args.rows.now c.in-Some.place (record { object = (slice_index_or c.args.rows.now c.in-Some.place d).object; content =
-          h })) c.replace.ensures.after
+    ap (λ h. slice_set c.args.rows.now c.in-Some.place (record {
+      object = (slice_index_or c.args.rows.now c.in-Some.place d).object;
+      content =
+          h;
+    })) c.replace.ensures.after
     ∙ row.filled d c.args.content
 
 pub returns-in-Some-clause-ascend : goal.returns-in-Some-clause-ascend

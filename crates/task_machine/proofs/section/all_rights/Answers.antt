@@ -1,4 +1,3 @@
-use Rattle.std.proofs.Common.{◌≡◌}
 use Rattle.task_machine.proofs.Sparse.{below_all}
 use Rattle.task_machine.proofs.section.all_rights.Goals as goal
 

@@ -1,4 +1,4 @@
-use Rattle.std.proofs.Common.{◌≡◌, false, refl, sym, ap, subst, ◌∙◌}
+use Rattle.std.proofs.Common.{◌≡◌, false, sym, subst}
 use Rattle.spec_cover.specs.Cover.{IsCovered, IsCoveredBelow, covered_on}
 use Rattle.task_machine.proofs.Sections.{covers_all, covers_some}
 use Rattle.task_machine.proofs.section.covers_child.Goals as goal
@@ -7,7 +7,7 @@ pub returns-in-None : goal.returns-in-None
 returns-in-None c =
     let w = c.args.own.now in
     sym (covers_all w.objects w.spec w.child (c.spread_agrees.ensures w.objects w.spec.entries w.child.entries)
-          (subst (λ p. IsCovered p w.child) c.spec.ensures c.in-None.ensures.none))
+    (subst (λ p. IsCovered p w.child) c.spec.ensures c.in-None.ensures.none))
 
 pub returns-in-Some : goal.returns-in-Some
 returns-in-Some c =

@@ -1,4 +1,4 @@
-use Rattle.std.proofs.Common.{◌≡◌, refl, sym, ap, ◌∙◌}
+use Rattle.std.proofs.Common.{ap, ◌∙◌}
 use Rattle.jade_meaning.specs.Course.{Building}
 use Rattle.jade_meaning.specs.Spread.{spread}
 use Rattle.task_machine.proofs.Sparse.{none_spread}

@@ -1,4 +1,3 @@
-use Rattle.std.proofs.Common.{◌≡◌, refl, sym, ap, ◌∙◌}
 use Rattle.task_machine.proofs.Sparse.{rights_here}
 use Rattle.task_machine.proofs.section.rights_among.Goals as goal
 

@@ -1,4 +1,4 @@
-use Rattle.std.proofs.Common.{◌≡◌, ℕ, ◌+◌, refl, sym, ap, ◌∙◌, arith}
+use Rattle.std.proofs.Common.{◌≡◌, ℕ, ◌+◌, sym, ap, ◌∙◌, arith}
 use Rattle.jade_base.specs.declared.rights.Rights.{Rights}
 use Rattle.jade_base.specs.Specification.{rights_in}
 use Rattle.task_machine.specs.steps.Owning.{id}
@@ -11,7 +11,7 @@ returns-then-object-own c =
     let f : ℕ → Rights = λ i. rights_in w.spec.entries (id i) in
     let z : 0 + c.args.object ≡ c.args.object = omega arith in
     c.rights_among.ensures ∙ ap (λ s. rights_in s.entries (id c.args.object)) c.spec.ensures
-          ∙ sym (tab_at f 0 w.objects c.args.object c.if-object-own.true ∙ ap f z)
+    ∙ sym (tab_at f 0 w.objects c.args.object c.if-object-own.true ∙ ap f z)
 
 pub returns-else-object-own : goal.returns-else-object-own
 returns-else-object-own c =

@@ -1,4 +1,4 @@
-use Rattle.std.proofs.Common.{◌≡◌, refl, sym, ap, ◌∙◌}
+use Rattle.std.proofs.Common.{sym, ◌∙◌}
 use Rattle.task_machine.proofs.Sections.{said_past}
 use Rattle.task_machine.proofs.section.say.Goals as goal
 

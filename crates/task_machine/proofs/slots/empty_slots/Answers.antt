@@ -1,4 +1,4 @@
-use Rattle.std.proofs.Common.{◌≡◌, ap, ◌∙◌}
+use Rattle.std.proofs.Common.{ap, ◌∙◌}
 use Rattle.task_machine.specs.Stages.{slots_of}
 use Rattle.task_machine.proofs.Filling.{zeros}
 use Rattle.task_machine.proofs.slots.empty_slots.Goals as goal

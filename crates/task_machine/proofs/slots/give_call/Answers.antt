@@ -1,4 +1,4 @@
-use Rattle.std.proofs.Common.{◌≡◌, ◌+◌, ◌-◌, ◌<◌, length, refl, ap, ◌∙◌, arith, rules, w64, slice_set, length-set}
+use Rattle.std.proofs.Common.{◌≡◌, ◌+◌, ◌-◌, ◌<◌, length, ap, ◌∙◌, arith, rules, w64, slice_set, length-set}
 use mir.Val.{SFits}
 use Rattle.std.proofs.lemmas.Int.{to_z-of_z}
 use Rattle.task_machine.specs.Stages.{slots_of}
@@ -17,7 +17,7 @@ call-preserved c =
           let at : t ≡ length zs + (length c.args.call.now - c.call.left) = omega (arith, long, c.call.invariant.within, c.call-test.true) in
           ap (λ z. slots_of (slice_set c.call.slots.items t z)) (to_z-of_z w64 c.worth.result fits ∙ c.worth.ensures)
           ∙ one_passed c.call.slots.items zs c.args.call.now _ (slots_of c.args.frame.now.slots.items) (c.call.left - 1) c.call.left t next lt at room
-                (c.call.invariant.filled zs long given);
+          (c.call.invariant.filled zs long given);
       long = length-set c.call.slots.items t _ ∙ c.call.invariant.long;
       within = omega (arith, c.call.invariant.within);
     }

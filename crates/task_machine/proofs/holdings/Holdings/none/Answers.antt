@@ -1,4 +1,4 @@
-use Rattle.std.proofs.Common.{◌≡◌, ◌++◌, [], ◌∷◌, ap, ◌∙◌, arith}
+use Rattle.std.proofs.Common.{◌++◌, [], ◌∷◌, ap, ◌∙◌, arith}
 use Rattle.task_machine.specs.Executions.{without_content}
 use Rattle.task_machine.proofs.Rows.{rows_more, rows_whole}
 use Rattle.task_machine.proofs.holdings.Holdings.none.Goals as goal
@@ -10,5 +10,8 @@ rows-preserved c =
 
 pub invariant_of-result : goal.invariant_of-result
 invariant_of-result c =
-    rows_whole c.args.spec.now.entries c.rows.place c.rows.rows.items (omega (arith, c.rows-test.false,
-          c.len-place-end.ensures.count)) c.len-place-end.ensures.ascending c.rows.invariant
+    rows_whole c.args.spec.now.entries c.rows.place c.rows.rows.items (omega (
+      arith,
+      c.rows-test.false,
+      c.len-place-end.ensures.count,
+    )) c.len-place-end.ensures.ascending c.rows.invariant

@@ -1,4 +1,4 @@
-use Rattle.std.proofs.Common.{◌≡◌, sym, subst}
+use Rattle.std.proofs.Common.{sym, subst}
 use Rattle.jade_syntax.specs.Objects.{sizes}
 use Rattle.task_machine.specs.steps.Holding.{RowsAscend}
 use Rattle.task_machine.proofs.Rows.{whole_ascend, whole_held}
