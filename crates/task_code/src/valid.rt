@@ -290,6 +290,13 @@ impl Code {
         Code { raw }
     }
 
+    /// That it keeps the rules. It does nothing.
+    pub fn keeps_rules(&self)
+        ensures { Valid self.now }
+    {
+        let _raw = &self.raw;
+    }
+
     /// What is in it. It takes no memory.
     pub fn raw(&self) -> &Raw
         ensures { result.now ≡ self.now }

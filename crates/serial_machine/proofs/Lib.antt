@@ -1,0 +1,6 @@
+mod Settling
+mod Budgets
+mod Stacking
+mod Filling
+mod Owned
+mod Pausing

@@ -1,0 +1,10 @@
+mod Rows
+mod Sparse
+mod Sections
+mod Meanings
+mod Fitting
+mod Naming
+mod Acting
+mod Running
+mod Executing
+mod Filling

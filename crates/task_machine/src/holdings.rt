@@ -1,0 +1,208 @@
+//! The contents that a task holds.
+
+ghost use Rattle.std.specs.Prelude.{◌≡◌, ◌<◌, length, map, IfOk, IfSome};
+ghost use Rattle.jade_syntax.specs.Objects.{sizes};
+ghost use Rattle.jade_meaning.specs.Serial.{zeros};
+ghost use Rattle.task_machine.specs.Whole.{all_held, without};
+ghost use Rattle.task_machine.specs.Playing.{cell_of};
+ghost use Rattle.task_machine.specs.Executions.{with_content, without_content};
+ghost use Rattle.task_machine.specs.steps.Holding.{RowsAscend, contents_of, row_from, cell_in, Written, WrittenIn, whole_rows};
+
+use jade_base::{Content, Memory, Mode, Numbers, ObjectId, Spec};
+use jade_syntax::Checked;
+use std::alloc::Global;
+use std::marker::Model;
+use std::mem;
+
+/// An object, with its content where that is held.
+#[derive(Debug, Drop)]
+pub struct Row {
+    object: ObjectId,
+    content: Option<Content>,
+}
+
+/// The contents that a task holds, by ascending number of the object.
+#[derive(Debug, Drop)]
+pub struct Holdings {
+    rows: Vec<Row>,
+}
+
+impl Model for Holdings {
+    ghost use Rattle.std.specs.Prelude.{List};
+    ghost use Rattle.task_machine.specs.declared.holdings.Row.{Row as RowOf};
+    ghost use Rattle.task_machine.specs.steps.Holding.{RowsAscend};
+
+    ghost Value = { List RowOf };
+
+    ghost view = { λ h. h.rows.items };
+
+    ghost invariant = { λ h. RowsAscend h.rows.items };
+}
+
+impl Holdings {
+    /// No content of any object of a specification. The error is want of memory.
+    pub(crate) fn none(alloc: Global, spec: &Spec) -> Result<Holdings, Memory>
+        ensures { IfOk result (λ held. held ≡ map without_content spec.now.entries) }
+    {
+        let mut rows = Vec::new(alloc);
+        'rows: for place in 0..spec.len() {
+            let (object, _) = spec.entry(place);
+            rows.push(Row {
+                object,
+                content: None,
+            })?;
+        }
+        Ok(Holdings { rows })
+    }
+
+    /// Every object of a program, held for writing, with zero in each cell. The error is want of
+    /// memory.
+    pub fn whole(alloc: Global, checked: &Checked) -> Result<Holdings, Memory>
+        ensures { IfOk result (λ held. contents_of held ≡ all_held (zeros (sizes checked.now.program.items))) }
+    {
+        let rows = rows_of(alloc, checked)?;
+        Ok(Holdings { rows })
+    }
+
+    /// Takes the content of an object out, where it is held. It takes no memory.
+    pub fn take(&mut self, object: usize) -> Option<Content>
+        ensures taken { result ≡ contents_of self.old object }
+        ensures left { contents_of self.new ≡ without object (contents_of self.old) }
+    {
+        take_among(self.rows.as_mut_slice(), object)
+    }
+
+    /// The number in a cell of an object, where the object is held; a cell that is not there has 0.
+    pub fn cell(&self, object: usize, cell: usize) -> Option<i64>
+        ensures { result ≡ cell_in (contents_of self.now object) cell }
+    {
+        cell_among(self.rows.as_slice(), object, cell)
+    }
+
+    /// Writes a number into a cell of an object; whether the object is held for more than reading.
+    pub fn write(&mut self, object: usize, cell: usize, number: i64) -> bool
+        ensures { Written (contents_of self.old) object cell number result (contents_of self.new) }
+    {
+        write_among(self.rows.as_mut_slice(), object, cell, number)
+    }
+
+    /// Another content of an object, or none, in place of the one that it has, which is the result.
+    pub(crate) fn put(&mut self, object: ObjectId, content: Option<Content>) -> Option<Content>
+        ensures content { result ≡ contents_of self.old object.0 }
+        ensures rows { self.new ≡ with_content object.0 content self.old }
+    {
+        put_among(self.rows.as_mut_slice(), object.0 as usize, content)
+    }
+}
+
+// A row for each object of a program, held for writing, with zero in each cell.
+fn rows_of(alloc: Global, checked: &Checked) -> Result<Vec<Row>, Memory>
+    ensures { IfOk result (λ rows. rows.items ≡ whole_rows 0 (sizes checked.now.program.items)) }
+{
+    let mut rows = Vec::new(alloc);
+    for object in 0..checked.objects() {
+        let object = ObjectId(object);
+        let cells = Vec::from_elem(alloc, 0, checked.size(object) as usize)?;
+        let content = Some(Content::of(Mode::Writing, Numbers::from_vec(cells)));
+        rows.push(Row { object, content })?;
+    }
+    Ok(rows)
+}
+
+// Takes the content of an object out, where it is held.
+fn take_among(rows: &mut [Row], object: usize) -> Option<Content>
+    requires { RowsAscend rows.old }
+    ensures taken { result ≡ contents_of rows.old object }
+    ensures left { contents_of rows.new ≡ without object (contents_of rows.old) }
+    ensures ascend { RowsAscend rows.new }
+{
+    match place_of(rows, object) {
+        None => None,
+        Some(place) => rows[place].content.take(),
+    }
+}
+
+// The place of an object's row. Where all objects of a program are there, it is the object's number.
+fn place_of(rows: &[Row], object: usize) -> Option<usize>
+    requires { RowsAscend rows.now }
+    ensures row { result ≡ row_from object 0 rows.now }
+    ensures within { IfSome result (λ place. place < length rows.now) }
+{
+    if object < rows.len() && rows[object].object.0 as usize == object {
+        return Some(object);
+    }
+    for place in 0..rows.len() {
+        if rows[place].object.0 as usize == object {
+            return Some(place);
+        }
+    }
+    None
+}
+
+// The number in a cell; one that is not there has 0.
+fn at_cell(content: &Content, cell: usize) -> i64
+    ensures { result ≡ cell_of content.now cell }
+{
+    if cell < content.len() {
+        content.get(cell)
+    } else {
+        0
+    }
+}
+
+// The number in a cell of an object, where the object is held.
+fn cell_among(rows: &[Row], object: usize, cell: usize) -> Option<i64>
+    requires { RowsAscend rows.now }
+    ensures { result ≡ cell_in (contents_of rows.now object) cell }
+{
+    match place_of(rows, object) {
+        None => None,
+        Some(place) => match &rows[place].content {
+            None => None,
+            Some(content) => Some(at_cell(content, cell)),
+        },
+    }
+}
+
+// Writes a number into a cell of an object; whether the object is held for more than reading.
+fn write_among(rows: &mut [Row], object: usize, cell: usize, number: i64) -> bool
+    requires { RowsAscend rows.old }
+    ensures written { Written (contents_of rows.old) object cell number result (contents_of rows.new) }
+    ensures ascend { RowsAscend rows.new }
+{
+    match place_of(rows, object) {
+        None => false,
+        Some(place) => write_at(&mut rows[place].content, cell, number),
+    }
+}
+
+// Another content of an object, or none, in place of the one that it has.
+fn put_among(rows: &mut [Row], object: usize, content: Option<Content>) -> Option<Content>
+    requires { RowsAscend rows.old }
+    ensures content { result ≡ contents_of rows.old object }
+    ensures rows { rows.new ≡ with_content object content rows.old }
+    ensures ascend { RowsAscend rows.new }
+{
+    match place_of(rows, object) {
+        None => None,
+        Some(place) => mem::replace(&mut rows[place].content, content),
+    }
+}
+
+// Writes a number into a cell of a content; whether it is held for more than reading.
+fn write_at(content: &mut Option<Content>, cell: usize, number: i64) -> bool
+    ensures { WrittenIn content.old cell number result content.new }
+{
+    match content {
+        None => false,
+        Some(content) => {
+            if matches!(content.mode(), Mode::Reading) {
+                return false;
+            }
+            if cell < content.len() {
+                content.set(cell, number);
+            }
+            true
+        }
+    }
+}

@@ -1,0 +1,245 @@
+//! The specification of a task, and what its sections make.
+
+ghost use Rattle.std.specs.Prelude.{◌≡◌, ◌<◌, true, false, None, Some, replicate, slice_set, IfOk, OnOk, OnErr};
+ghost use Rattle.jade_base.specs.Rights.{both_rights, is_immediate, join, no_rights};
+ghost use Rattle.jade_base.specs.Specification.{joined_in, kept, rights_in, settled};
+ghost use Rattle.jade_meaning.specs.Specification.{rights_on, covers};
+ghost use Rattle.jade_meaning.specs.Spread.{spread};
+ghost use Rattle.jade_meaning.specs.Changes.{change_of, declared};
+ghost use Rattle.jade_meaning.specs.Course.{Building, Amending};
+ghost use Rattle.jade_syntax.specs.declared.tree.DeclareWord.{DeclareWord as WordOf};
+ghost use Rattle.task_machine.specs.steps.Owning.{copy_spread, rights_of, draft_of};
+ghost use Rattle.task_machine.specs.steps.Acting.{KeepsRights, SaidBy};
+
+use access_spec::{Change, WorkingCopy};
+use jade_base::{Memory, ObjectId, Right, Rights, Spec};
+use jade_meaning::laws::spread_agrees;
+use jade_syntax::tree::DeclareWord;
+use spec_cover::uncovered;
+use std::alloc::Global;
+use std::mem;
+
+/// Whether there is a section, and whose specification it makes.
+#[derive(Clone, Copy, Debug, PartialEq, Eq)]
+pub enum Section {
+    Absent,
+    Building,
+    Amending,
+}
+
+/// The number of objects of the program, the specification of the task with the copy that a section
+/// changes, and the specification that a section makes for a child.
+#[derive(Drop)]
+pub struct Own {
+    pub objects: u32,
+    pub spec: WorkingCopy,
+    pub child: Spec,
+    pub section: Section,
+    pub alloc: Global,
+}
+
+/// What comes of a word of a section.
+#[derive(Clone, Copy, Debug, PartialEq, Eq)]
+pub enum Said {
+    Done,
+    /// These rights on the object are to be declared.
+    Asks(ObjectId, Rights),
+    /// The word asks for a right that is not there.
+    Refused,
+}
+
+fn rights(reads: Right, writes: Right) -> Rights
+    ensures { result ≡ record { reads = reads; writes = writes; commutes = Right.Absent } }
+{
+    Rights {
+        reads,
+        writes,
+        commutes: Right::Absent,
+    }
+}
+
+// The rights that a word gives a child.
+fn declared(word: DeclareWord) -> Rights
+    ensures { result ≡ declared word }
+{
+    match word {
+        DeclareWord::Rd => rights(Right::Immediate, Right::Absent),
+        DeclareWord::Wr => rights(Right::Absent, Right::Immediate),
+        DeclareWord::RdWr => rights(Right::Immediate, Right::Immediate),
+        DeclareWord::DfRd => rights(Right::Deferred, Right::Absent),
+        DeclareWord::DfWr => rights(Right::Absent, Right::Deferred),
+        DeclareWord::DfRdWr => rights(Right::Deferred, Right::Deferred),
+        DeclareWord::NoRd | DeclareWord::NoWr | DeclareWord::NoRdWr => Rights::NONE,
+    }
+}
+
+// The change that a word of a `with` asks for, if it asks for one.
+fn change_of(word: DeclareWord) -> Option<Change>
+    ensures { result ≡ change_of word }
+{
+    match word {
+        DeclareWord::Rd => Some(Change::Reads),
+        DeclareWord::Wr => Some(Change::Writes),
+        DeclareWord::RdWr => Some(Change::Both),
+        DeclareWord::NoRd => Some(Change::NoReads),
+        DeclareWord::NoWr => Some(Change::NoWrites),
+        DeclareWord::NoRdWr => Some(Change::Neither),
+        DeclareWord::DfRd | DeclareWord::DfWr | DeclareWord::DfRdWr => None,
+    }
+}
+
+// The rights on an object. Where a task has rights on all objects, they are found at once.
+fn rights_among(spec: &Spec, object: ObjectId) -> Rights
+    ensures { result ≡ rights_in spec.now.entries object }
+{
+    let place = object.0 as usize;
+    if place < spec.len() {
+        let (found, rights) = spec.entry(place);
+        if found.0 == object.0 {
+            return rights;
+        }
+    }
+    spec.rights(object)
+}
+
+// The rights of the task on an object.
+fn rights_on(own: &Own, object: usize) -> Rights
+    ensures { result ≡ rights_on (rights_of own.now) object }
+{
+    if object < own.objects as usize {
+        rights_among(own.spec.spec(), ObjectId(object as u32))
+    } else {
+        Rights::NONE
+    }
+}
+
+/// Whether the task has an immediate right to read an object.
+pub fn may_read(own: &Own, object: usize) -> bool
+    ensures { result ≡ is_immediate (rights_on (rights_of own.now) object).reads }
+{
+    matches!(rights_on(own, object).reads, Right::Immediate)
+}
+
+/// Whether the task has an immediate right to write an object.
+pub fn may_write(own: &Own, object: usize) -> bool
+    ensures { result ≡ is_immediate (rights_on (rights_of own.now) object).writes }
+{
+    matches!(rights_on(own, object).writes, Right::Immediate)
+}
+
+/// A section of a child begins.
+pub fn open(own: &mut Own)
+    ensures kept { KeepsRights own.old own.new }
+    ensures draft { draft_of own.new ≡ Building (replicate own.old.objects no_rights) }
+{
+    own.child = Spec::empty(own.alloc);
+    own.section = Section::Building;
+}
+
+/// A section of the task itself begins.
+pub fn amend(own: &mut Own)
+    ensures kept { KeepsRights own.old own.new }
+    ensures draft { draft_of own.new ≡ Amending (rights_of own.old) }
+{
+    let empty = WorkingCopy::begin(Spec::empty(own.alloc));
+    let spec = mem::replace(&mut own.spec, empty).abandon();
+    own.spec = WorkingCopy::begin(spec);
+    own.section = Section::Amending;
+}
+
+// A change of the task's own rights on an object.
+fn change(own: &mut Own, change: Change, object: usize) -> Said
+    requires { own.old.section ≡ Section.Amending }
+    ensures { (how : WordOf) → change_of how ≡ Some change → SaidBy result own.old how object own.new }
+{
+    if object < own.objects as usize {
+        match own.spec.change(ObjectId(object as u32), change) {
+            Ok(()) => Said::Done,
+            Err(_) => Said::Refused,
+        }
+    } else {
+        match change.amend(Rights::NONE) {
+            Ok(_) => Said::Done,
+            Err(_) => Said::Refused,
+        }
+    }
+}
+
+/// A word of a section on an object.
+pub fn say(own: &mut Own, word: DeclareWord, object: usize) -> Said
+    ensures { SaidBy result own.old word object own.new }
+{
+    match own.section {
+        Section::Absent => Said::Done,
+        Section::Building => {
+            if object < own.objects as usize {
+                Said::Asks(ObjectId(object as u32), declared(word))
+            } else {
+                Said::Done
+            }
+        }
+        Section::Amending => match change_of(word) {
+            None => Said::Done,
+            Some(change_asked) => change(own, change_asked, object),
+        },
+    }
+}
+
+/// Whether the task's rights cover those that the section has made for a child.
+pub fn covers_child(own: &Own) -> bool
+    ensures { result ≡ covers (rights_of own.now) (spread own.now.objects own.now.child.entries) }
+{
+    spread_agrees();
+    match uncovered(own.spec.spec(), &own.child) {
+        None => true,
+        Some(object) => object.0 >= own.objects,
+    }
+}
+
+/// Declares rights on an object for a child, in its section. The error is want of memory, and
+/// changes nothing.
+pub(crate) fn declare_for_child(
+    own: &mut Own,
+    alloc: Global,
+    object: ObjectId,
+    rights: Rights,
+) -> Result<(), Memory>
+    requires { object.0 < own.old.objects }
+    ensures declared { OnOk result (own.new ≡ record own.old { child = settled (joined_in own.old.child.entries object rights) }) }
+    ensures spread { OnOk result (spread own.new.objects own.new.child.entries ≡ slice_set
+        (spread own.old.objects own.old.child.entries) object.0 (join (rights_on (spread own.old.objects own.old.child.entries) object.0) rights)) }
+    ensures refused { OnErr result (own.new ≡ own.old) }
+{
+    own.child.declare(alloc, object, rights)?;
+    Ok(())
+}
+
+/// The copy that a section of the task itself has changed is its specification from here on.
+pub(crate) fn commit(own: &mut Own)
+    ensures changed { own.new ≡ record own.old { spec = settled (kept own.old.spec.entries own.old.spec.draft); section = Section.Absent } }
+    ensures rights { rights_of own.new ≡ copy_spread own.old.objects own.old.spec }
+{
+    let _count = own.spec.spec().len();
+    let empty = WorkingCopy::begin(Spec::empty(own.alloc));
+    let spec = mem::replace(&mut own.spec, empty).commit();
+    own.spec = WorkingCopy::begin(spec);
+    own.section = Section::Absent;
+}
+
+// Immediate rights to read and to write.
+fn both_rights() -> Rights
+    ensures { result ≡ both_rights }
+{
+    rights(Right::Immediate, Right::Immediate)
+}
+
+/// Immediate reading and writing of so many objects. The error is want of memory.
+pub(crate) fn all_rights(alloc: Global, objects: u32) -> Result<Spec, Memory>
+    ensures { IfOk result (λ spec. spread objects spec.entries ≡ replicate objects both_rights) }
+{
+    let mut spec = Spec::empty(alloc);
+    'objects: for object in 0..objects {
+        spec.declare(alloc, ObjectId(object), both_rights())?;
+    }
+    Ok(spec)
+}
