@@ -1,6 +1,0 @@
-mod Settling
-mod Budgets
-mod Stacking
-mod Filling
-mod Owned
-mod Pausing

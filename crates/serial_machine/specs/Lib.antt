@@ -1,2 +1,0 @@
--- What only serves the contracts of private functions.
-pub mod steps
