@@ -1,0 +1,10 @@
+//! The live tasks in serial order, and what the parts of tasks leave.
+#![tactic(auto)]
+
+pub mod note;
+pub mod order;
+pub mod roll;
+
+pub use note::PartNote;
+pub use order::OnPath;
+pub use roll::Roll;
