@@ -4,7 +4,7 @@ use Rattle.std.specs.Prelude.{ℤ, slice_get, is_some, is_none, if◌then◌else
 use Rattle.jade_base.specs.declared.rights.Rights.{Rights}
 use Rattle.jade_base.specs.declared.rights.Mode.{Mode}
 use Rattle.jade_base.specs.declared.rights.Mode.TheVariants.{Reading, Writing, Commuting}
-use Rattle.jade_base.specs.Rights.{is_there}
+use Rattle.jade_base.specs.Rights.{is_there, has_rights, no_rights}
 use Rattle.jade_syntax.specs.Image.{program}
 use Rattle.jade_syntax.specs.Objects.{sizes}
 use Rattle.jade_meaning.specs.Specification.{rights_on}
@@ -27,8 +27,8 @@ use Rattle.schedule_core.specs.Mirror.{CoreShows, Mirror}
 use Rattle.schedule_core.proofs.Showing.{path_same}
 use Rattle.schedule_core.proofs.Bare.{trim}
 use Rattle.schedule_core.proofs.Mirrors.{find_away, find_own, split_at}
-use Rattle.schedule_core.specs.Tells.{Holding, MayTake, CoreTells}
-use Rattle.object_shelf.specs.Shelves.{keeper_in}
+use Rattle.schedule_core.specs.Tells.{Holding, MayTake, MayGive, MayEnter, MayShift, MayLeave, CoreTells, EntriesAreThere}
+use Rattle.object_shelf.specs.Shelves.{keeper_in, at, released}
 use Rattle.object_shelf.specs.Whole.{is_out}
 use Rattle.object_shelf.proofs.Order.{same-is as same_is}
 use Rattle.jade_meaning.specs.Talk.{Event, Enter, Enroll, Take, TouchRead, TouchWrite, Wants, Give, Leave, Shift, Resign}
@@ -37,11 +37,13 @@ use Rattle.jade_syntax.specs.declared.tree.Program.{Program}
 use Rattle.schedule_core.specs.Core.{all_allow, allows}
 use Rattle.schedule_core.specs.Shown.{from_deed, to_come, Sits}
 use Rattle.schedule_core.specs.Sound.{Orderly, Ready}
-use Rattle.schedule_core.proofs.Showing.{Away, born_away, before_away, line_away, line_both, free_is, keeper_none}
+use Rattle.schedule_core.proofs.Showing.{Away, Elsewhere, born_away, slot_away, slots_away, before_away, line_away, line_both, at_away, free_is, keeper_none}
 use Rattle.schedule_core.proofs.Moves.{ahead_is}
-use Rattle.schedule_core.proofs.Lines.{every_with, every_front, every_back, pairs_front, pairs_back}
+use Rattle.schedule_core.proofs.Lines.{every_append, every_with, every_front, every_back, pairs_front, pairs_back}
 use Rattle.schedule_core.proofs.Changing.{touches_is, mode_may, no_commuting}
 use Rattle.schedule_core.proofs.Deeds.{may_some}
+use Rattle.schedule_core.proofs.Acts.{touch_less}
+use Rattle.std.proofs.lemmas.Bool.{eq-eqb}
 
 not_same : (p q : Path) → (p ≡ q → ⊥) → same_path p q ≡ false
 not_same p q n = go (same_path p q) refl
@@ -409,6 +411,139 @@ may_read o c b l t far fits first =
       hold = held;
     }
 
+-- an event that is no deed stands among those that are pending
+abbrev no_deed : Event → Bool
+no_deed (Enter o a) = true
+no_deed (Enroll t n) = false
+no_deed (Take o m) = true
+no_deed (TouchRead o c v) = false
+no_deed (TouchWrite o c v) = false
+no_deed (Wants o c) = false
+no_deed (Give o) = true
+no_deed (Leave o) = true
+no_deed (Shift o a) = true
+no_deed (Resign b n) = false
+
+heads : (t : Live) (e : Event) → no_deed e ≡ true → First (to_come t.doing []) (λ x. x ≡ e) → Heads t e
+heads t e quiet h = go t.doing.pending refl h
+  where
+    never : (x : Event) → no_deed x ≡ false → x ≡ e → Heads t e
+    never x n q = absurd (let z : false ≡ true = sym n ∙ ap no_deed q ∙ quiet in cc)
+
+    deed : (c : Course) → First (from_deed c t.doing.spec t.doing.plan t.doing.steps []) (λ x. x ≡ e) → Heads t e
+    deed (Reads q c on) h = never (Wants q c) refl h
+    deed (Writes q c v on) h = never (TouchWrite q c v) refl h
+    deed (Creates child body on) h = never _ refl h
+    deed (Ends b) h = never (Resign b t.doing.steps) refl h
+    deed (Steps on) h = absurd h
+    deed (Changes new on) h = absurd h
+
+    go : (es : List Event) → t.doing.pending ≡ es → First (es ++ from_deed t.doing.course t.doing.spec t.doing.plan t.doing.steps []) (λ x. x ≡ e) → Heads t e
+    go [] q h = deed t.doing.course h
+    go (x ∷ es) q h = record { rest = es; is = q ∙ ap (λ y. y ∷ es) h }
+
+-- once its holder has given it up, an object's content is at home
+after_give : (o : ℕ) (b l : List Live) (t : Live) → Pairs Apart (b ++ (t ∷ l)) → Pairs (Lone o) (b ++ (t ∷ l)) → touches (t.rights o) ≡ true → is_writing (t.held o) ≡ true
+    → is_out (at t.path released (line o (b ++ (t ∷ l)))) ≡ false
+after_give o b l t far lone x w =
+    let born = born_slots t.doing.course o t in
+    let mine = slot t.path (t.rights o) (t.held o) (t.versions o) in
+    let own : Entry = record { path = t.path; rights = t.rights o; hold = t.held o; version = t.versions o } in
+    let list : Bool → List Entry = λ b. if b then own ∷ [] else [] in
+    let front = line_away t.path o b (every_with (λ z. Apart z t) (λ z. Away t.path (slots o z)) (λ z g. before_away o t z g) b (pairs_front Apart b t l far)) in
+    let split : line o (b ++ (t ∷ l)) ≡ line o b ++ (born ++ (mine ++ line o l)) = line_both o b (t ∷ l) ∙ ap (λ es. line o b ++ es) (append_assoc born mine (line o l)) in
+    let last : at t.path released (mine ++ line o l) ≡ released own ∷ line o l = ap (λ b. at t.path released (list b ++ line o l)) x ∙ ap (λ b. if b then released own ∷ line o l else own ∷ at t.path released (line o l)) (path_same t.path) in
+    let whole : at t.path released (line o (b ++ (t ∷ l))) ≡ line o b ++ (born ++ (released own ∷ line o l)) = ap (at t.path released) split ∙ at_away t.path released (line o b) (born ++ (mine ++ line o l)) front ∙ ap (λ es. line o b ++ es) (at_away t.path released born (mine ++ line o l) (born_away t.path t.doing.course o t (longer t.path t.part)) ∙ ap (λ es. born ++ es) last) in
+    let before = line_home o b (every_with (λ u. Lone o u t) (λ (u : Live). is_writing (u.held o) ≡ false) (λ u g. is_not (is_writing (u.held o)) (λ y. g.not_both y w)) b (pairs_front (Lone o) b t l lone)) in
+    let behind = line_home o l (every_with (Lone o t) (λ (u : Live). is_writing (u.held o) ≡ false) (λ u g. is_not (is_writing (u.held o)) (λ y. g.not_both w y)) l (pairs_back (Lone o) b t l lone)) in
+    ap is_out whole ∙ out_both (line o b) (born ++ (released own ∷ line o l)) before (out_both born (released own ∷ line o l) (born_home t.doing.course o t) behind)
+
+may_give : (o : ℕ) (b l : List Live) (t : Live) → Pairs Apart (b ++ (t ∷ l)) → Pairs (Lone o) (b ++ (t ∷ l)) → Every Fit (b ++ (t ∷ l)) → First (to_come t.doing []) (λ x. x ≡ Give o) → MayGive t.path (line o (b ++ (t ∷ l)))
+may_give o b l t far lone fits first =
+    let fit = (every_back Fit b (t ∷ l) fits).0 in
+    let head = heads t (Give o) refl first in
+    let order = subst (λ es. Orderly t.doing.spec t.doing.plan t.doing.course es t.rights t.held) head.is fit.orderly in
+    let x = may_some (t.held o) (t.rights o) order.0 (fit.holds o) in
+    record {
+      entry = record { path = t.path; rights = t.rights o; hold = t.held o; version = t.versions o };
+      there = own_found o b l t far x;
+      held = order.0;
+      home = λ w. after_give o b l t far lone x (takes_writing (t.held o) w);
+    }
+
+-- no entry of the next child
+find_none : (p : Path) (es : List Entry) → Away p es → find p es ≡ None
+find_none p [] h = refl
+find_none p (e ∷ es) h = ap (λ b. if b then Some e else find p es) h.0.there ∙ find_none p es h.1
+
+kid_before : (o : ℕ) (t s : Live) → Apart s t → Away (t.path ++ t.part ∷ []) (slots o s)
+kid_before o t s far =
+    let kid = t.path ++ t.part ∷ [] in
+    let mine : Within t.path t.part kid = record { rest = t.part ∷ []; is = refl; from = omega arith } in
+    slots_away kid o s (λ e. far kid (record { rest = []; is = e ∙ sym (append-nil s.path); from = tt }) mine) (λ e. far kid (record { rest = s.part ∷ []; is = e; from = omega arith }) mine)
+
+kid_after : (o : ℕ) (t u : Live) → Apart t u → Away (t.path ++ t.part ∷ []) (slots o u)
+kid_after o t u far =
+    let kid = t.path ++ t.part ∷ [] in
+    let mine : Within t.path t.part kid = record { rest = t.part ∷ []; is = refl; from = omega arith } in
+    slots_away kid o u (λ e. far kid mine (record { rest = []; is = e ∙ sym (append-nil u.path); from = tt })) (λ e. far kid mine (record { rest = u.part ∷ []; is = e; from = omega arith }))
+
+unborn : (p : Path) (c : Course) (o : ℕ) (t : Live) → enters_still o t.doing.pending ≡ true → Away p (born_slots c o t)
+unborn p (Creates child body on) o t e = subst (λ b. Away p (if b then [] else slot (t.path ++ t.part ∷ []) (rights_on child o) None (handed_on t o))) (sym e) tt
+unborn p (Reads q c on) o t e = tt
+unborn p (Writes q c v on) o t e = tt
+unborn p (Steps on) o t e = tt
+unborn p (Changes new on) o t e = tt
+unborn p (Ends b) o t e = tt
+
+kid_away : (o : ℕ) (b l : List Live) (t : Live) → Pairs Apart (b ++ (t ∷ l)) → enters_still o t.doing.pending ≡ true → Away (t.path ++ t.part ∷ []) (line o (b ++ (t ∷ l)))
+kid_away o b l t far e =
+    let kid = t.path ++ t.part ∷ [] in
+    let born = born_slots t.doing.course o t in
+    let mine = slot t.path (t.rights o) (t.held o) (t.versions o) in
+    let front = line_away kid o b (every_with (λ z. Apart z t) (λ z. Away kid (slots o z)) (λ z g. kid_before o t z g) b (pairs_front Apart b t l far)) in
+    let back = line_away kid o l (every_with (Apart t) (λ u. Away kid (slots o u)) (λ u g. kid_after o t u g) l (pairs_back Apart b t l far)) in
+    let own = every_append (Elsewhere kid) born mine (unborn kid t.doing.course o t e) (slot_away kid t.path (t.rights o) (t.held o) (t.versions o) (λ q. longer t.path t.part (sym q))) in
+    subst (Away kid) (sym (line_both o b (t ∷ l))) (every_append (Elsewhere kid) (line o b) (slots o t ++ line o l) front (every_append (Elsewhere kid) (slots o t) (line o l) own back))
+
+may_enter : (o : ℕ) (a : Rights) (b l : List Live) (t : Live) → Pairs Apart (b ++ (t ∷ l)) → Every Fit (b ++ (t ∷ l)) → First (to_come t.doing []) (λ x. x ≡ Enter o a) → MayEnter t.path (t.path ++ t.part ∷ []) a (line o (b ++ (t ∷ l)))
+may_enter o a b l t far fits first =
+    let fit = (every_back Fit b (t ∷ l) fits).0 in
+    let head = heads t (Enter o a) refl first in
+    let order = subst (λ es. Orderly t.doing.spec t.doing.plan t.doing.course es t.rights t.held) head.is fit.orderly in
+    let still : enters_still o t.doing.pending ≡ true = ap (enters_still o) head.is ∙ ap (λ b. b || enters_still o head.rest) (eq-eqb o o refl) in
+    record {
+      entry = record { path = t.path; rights = t.rights o; hold = t.held o; version = t.versions o };
+      there = own_found o b l t far (touch_less a (t.rights o) order.0 (touches_is a ∙ order.1));
+      absent = find_none (t.path ++ t.part ∷ []) (line o (b ++ (t ∷ l))) (kid_away o b l t far still);
+      some = order.1;
+      less = order.0;
+    }
+
+may_shift : (o : ℕ) (a : Rights) (b l : List Live) (t : Live) → Pairs Apart (b ++ (t ∷ l)) → Every Fit (b ++ (t ∷ l)) → First (to_come t.doing []) (λ x. x ≡ Shift o a) → MayShift t.path a (line o (b ++ (t ∷ l)))
+may_shift o a b l t far fits first =
+    let fit = (every_back Fit b (t ∷ l) fits).0 in
+    let head = heads t (Shift o a) refl first in
+    let order = subst (λ es. Orderly t.doing.spec t.doing.plan t.doing.course es t.rights t.held) head.is fit.orderly in
+    record {
+      entry = record { path = t.path; rights = t.rights o; hold = t.held o; version = t.versions o };
+      there = own_found o b l t far (touch_less a (t.rights o) order.0 (touches_is a ∙ order.3));
+      some = order.3;
+      less = order.0;
+      fits = order.1;
+    }
+
+may_leave : (o : ℕ) (b l : List Live) (t : Live) → Pairs Apart (b ++ (t ∷ l)) → Every Fit (b ++ (t ∷ l)) → First (to_come t.doing []) (λ x. x ≡ Leave o) → MayLeave t.path (line o (b ++ (t ∷ l)))
+may_leave o b l t far fits first =
+    let fit = (every_back Fit b (t ∷ l) fits).0 in
+    let head = heads t (Leave o) refl first in
+    let order = subst (λ es. Orderly t.doing.spec t.doing.plan t.doing.course es t.rights t.held) head.is fit.orderly in
+    record {
+      entry = record { path = t.path; rights = t.rights o; hold = t.held o; version = t.versions o };
+      there = own_found o b l t far (touches_is (t.rights o) ∙ order.2);
+      free = order.0;
+    }
+
 module _ (prog : Program) (ns : List ℤ) (limit : ℕ) (shows : CoreShows prog ns limit) where
   apart_of : (roll : List Seat) (ss : List ObjectView) → Mirror prog ns limit roll ss → AllUnlike roll
   apart_of roll ss m = all_unlike roll m.state.roll m.shown.seated (trim (serial_run (program prog) ns limit) (zeros (sizes prog.items)) m.state m.sound).apart
@@ -429,6 +564,7 @@ module _ (prog : Program) (ns : List ℤ) (limit : ℕ) (shows : CoreShows prog 
     sits : Sits s task
     apart : Pairs Apart (front ++ (task ∷ back))
     before : (o : ℕ) → Pairs (Before o) (front ++ (task ∷ back))
+    lone : (o : ℕ) → Pairs (Lone o) (front ++ (task ∷ back))
     fits : Every Fit (front ++ (task ∷ back))
     rows : (o : ℕ) → (shelf_at ss o).queue ≡ line o (front ++ (task ∷ back))
 
@@ -443,6 +579,7 @@ module _ (prog : Program) (ns : List ℤ) (limit : ℕ) (shows : CoreShows prog 
         sits = at.sits;
         apart = subst (Pairs Apart) at.is known.apart;
         before = λ o. subst (Pairs (Before o)) at.is (known.before o);
+        lone = λ o. subst (Pairs (Lone o)) at.is (lone_of roll ss m o);
         fits = subst (Every Fit) at.is known.fits;
         rows = λ o. ap (λ (x : ObjectView). x.queue) (m.shown.shelves o) ∙ ap (line o) at.is;
       }
@@ -475,4 +612,37 @@ module _ (prog : Program) (ns : List ℤ) (limit : ℕ) (shows : CoreShows prog 
     takes = λ k roll ss notes r. takes_of roll ss (shows.mirror k roll ss notes r);
     writes = λ k roll ss notes r. writes_of roll ss (shows.mirror k roll ss notes r);
     reads = λ k roll ss notes r. reads_of roll ss (shows.mirror k roll ss notes r);
+  }
+
+  gives_of : (roll : List Seat) (ss : List ObjectView) → Mirror prog ns limit roll ss → (i : ℕ) (s : Seat) → slice_get roll i ≡ Some s → (o : ℕ) → First (upcoming s.walker) (λ x. x ≡ Give o) → MayGive s.path (shelf_at ss o).queue
+  gives_of roll ss mirror i s e o first =
+      let x = placed_in roll ss mirror i s e in
+      let r = may_give o x.front x.back x.task x.apart (x.lone o) x.fits (ahead_is s x.task (λ y. y ≡ Give o) x.sits first) in
+      subst (λ p. MayGive p (shelf_at ss o).queue) x.sits.path (subst (λ es. MayGive x.task.path es) (sym (x.rows o)) r)
+
+  enters_of : (roll : List Seat) (ss : List ObjectView) → Mirror prog ns limit roll ss → (i : ℕ) (s : Seat) → slice_get roll i ≡ Some s → (o : ℕ) (a : Rights) → First (upcoming s.walker) (λ x. x ≡ Enter o a) → MayEnter s.path (s.path ++ s.children ∷ []) a (shelf_at ss o).queue
+  enters_of roll ss mirror i s e o a first =
+      let x = placed_in roll ss mirror i s e in
+      let r = may_enter o a x.front x.back x.task x.apart x.fits (ahead_is s x.task (λ y. y ≡ Enter o a) x.sits first) in
+      let here = subst (λ es. MayEnter x.task.path (x.task.path ++ x.task.part ∷ []) a es) (sym (x.rows o)) r in
+      subst (λ k. MayEnter s.path (s.path ++ k ∷ []) a (shelf_at ss o).queue) x.sits.part (subst (λ p. MayEnter p (p ++ x.task.part ∷ []) a (shelf_at ss o).queue) x.sits.path here)
+
+  shifts_of : (roll : List Seat) (ss : List ObjectView) → Mirror prog ns limit roll ss → (i : ℕ) (s : Seat) → slice_get roll i ≡ Some s → (o : ℕ) (a : Rights) → First (upcoming s.walker) (λ x. x ≡ Shift o a) → MayShift s.path a (shelf_at ss o).queue
+  shifts_of roll ss mirror i s e o a first =
+      let x = placed_in roll ss mirror i s e in
+      let r = may_shift o a x.front x.back x.task x.apart x.fits (ahead_is s x.task (λ y. y ≡ Shift o a) x.sits first) in
+      subst (λ p. MayShift p a (shelf_at ss o).queue) x.sits.path (subst (λ es. MayShift x.task.path a es) (sym (x.rows o)) r)
+
+  leaves_of : (roll : List Seat) (ss : List ObjectView) → Mirror prog ns limit roll ss → (i : ℕ) (s : Seat) → slice_get roll i ≡ Some s → (o : ℕ) → First (upcoming s.walker) (λ x. x ≡ Leave o) → MayLeave s.path (shelf_at ss o).queue
+  leaves_of roll ss mirror i s e o first =
+      let x = placed_in roll ss mirror i s e in
+      let r = may_leave o x.front x.back x.task x.apart x.fits (ahead_is s x.task (λ y. y ≡ Leave o) x.sits first) in
+      subst (λ p. MayLeave p (shelf_at ss o).queue) x.sits.path (subst (λ es. MayLeave x.task.path es) (sym (x.rows o)) r)
+
+  pub entries_are_there : EntriesAreThere prog ns limit
+  entries_are_there = record {
+    gives = λ k roll ss notes r. gives_of roll ss (shows.mirror k roll ss notes r);
+    enters = λ k roll ss notes r. enters_of roll ss (shows.mirror k roll ss notes r);
+    shifts = λ k roll ss notes r. shifts_of roll ss (shows.mirror k roll ss notes r);
+    leaves = λ k roll ss notes r. leaves_of roll ss (shows.mirror k roll ss notes r);
   }
