@@ -241,21 +241,22 @@ module _ (n : ℕ) (key : RunPlan) (s : table.State Slot View) (h : Shown n key 
     }
 
     -- what the pass is told of what it found
-    pub tells : n ≡ count_of key → Told v o y
-    tells sized =
+    pub tells : (slots : ℕ) → slots ≡ suc n → Told slots v o y
+    tells slots sized =
         let there = mine.sits.live alive in
         let roll : map h.seats h.owners ≡ map h.seats there.spot.front ++ (v.seat ∷ map h.seats there.spot.back) =
             ap (map h.seats) there.spot.is ∙ roll_split h.seats (pass_of id) there.spot.front there.spot.back ∙ ap (λ x. map h.seats there.spot.front ++ (x ∷ map h.seats there.spot.back)) there.is in
-        let same : key ≡ v.key = sym (mine.plan alive) in
         record {
+          objects = n;
+          sized = sized;
           count = h.count;
           front = map h.seats there.spot.front;
           back = map h.seats there.spot.back;
           shelves = h.shelves;
           notes = h.notes;
-          reached = subst (λ (k : RunPlan). Reached k.program k.numbers k.limit h.count (map h.seats there.spot.front ++ (v.seat ∷ map h.seats there.spot.back)) h.shelves h.notes) same (subst (λ r. Reached key.program key.numbers key.limit h.count r h.shelves h.notes) roll h.reached);
+          reached = subst (λ (k : RunPlan). Reached k.program k.numbers k.limit h.count (map h.seats there.spot.front ++ (v.seat ∷ map h.seats there.spot.back)) h.shelves h.notes) (sym (mine.plan alive)) (subst (λ r. Reached key.program key.numbers key.limit h.count r h.shelves h.notes) roll h.reached);
           agrees = mine.sits.held alive;
-          shows = is ∙ ap (λ r. part_of n o r h.shelves h.notes) roll ∙ ap (λ m. part_of m o (map h.seats there.spot.front ++ (v.seat ∷ map h.seats there.spot.back)) h.shelves h.notes) (sized ∙ ap count_of same);
+          shows = is ∙ ap (λ r. part_of n o r h.shelves h.notes) roll;
         }
 
   -- another has the turn
@@ -297,7 +298,7 @@ trying key slots id o me fits idle alive s h long at _ = go (h.places o room)
       takes o y,
       home,
       subst (λ z. Ruled key (stepped s o z id me.1 (in_turn o y me.0) (takes o y))) (sym (ap (λ b. either b 1 x) (eq-eqb x 0 w0))) (taking (count_of key) key s h id me.0 at o room idle alive y w0 is me.1),
-      ((λ e. (y, refl, λ l. tells (count_of key) key s h id me.0 at o room idle alive y w0 is me.1 refl)), λ ne. absurd (ne w0)),
+      ((λ e. (y, refl, λ l. tells (count_of key) key s h id me.0 at o room idle alive y w0 is me.1 slots (sym long ∙ h.deep))), λ ne. absurd (ne w0)),
     )
     go (taken v w1 e t l) = (
       tried_at o 1 me.0,

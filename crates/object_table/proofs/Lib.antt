@@ -4,3 +4,6 @@ pub mod Goes
 pub mod Quiet
 pub mod Touching
 pub mod Effects
+pub mod Finishing
+pub mod Calls
+pub mod Onces

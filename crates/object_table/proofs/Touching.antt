@@ -225,11 +225,11 @@ set_set (x ∷ l) (suc i) a b = ap (λ m. x ∷ m) (set_set l i a b)
 set_self : (l : List View) (i : ℕ) (a : View) → get_elem? l i ≡ some a → set l i a ≡ l
 set_self l i a e = set_again l i a e
 
-and_left : (a b : Bool) → a && b ≡ true → a ≡ true
+pub and_left : (a b : Bool) → a && b ≡ true → a ≡ true
 and_left true b e = refl
 and_left false b e = absurd (cc)
 
-and_right : (a b : Bool) → a && b ≡ true → b ≡ true
+pub and_right : (a b : Bool) → a && b ≡ true → b ≡ true
 and_right true b e = e
 and_right false b e = absurd (cc)
 

@@ -12,7 +12,7 @@ use Rattle.object_shelf.specs.Homes.{hand_in}
 use Rattle.schedule_core.specs.declared.steps.Seat.{Seat}
 use Rattle.schedule_core.specs.declared.notes.PartNote.{PartNote}
 use Rattle.schedule_core.specs.Plain.{Reached, seat_after}
-use Rattle.object_table.specs.Plans.{RunPlan, count_of}
+use Rattle.object_table.specs.Plans.{RunPlan}
 use Rattle.object_table.specs.Views.{View, part_of}
 use Rattle.object_table.specs.Touches.{put_held, is_touch, passed, all_touches}
 use Rattle.object_table.specs.Rule.{Agrees, first_view}
@@ -20,8 +20,10 @@ use Rattle.object_table.specs.declared.slot.Slot.{Slot}
 use Rattle.object_table.specs.declared.slot.Slot.TheVariants as slot
 
 -- seats, objects and notes that core events reach, among which the pass's seat stands and agrees with what the pass holds, and of which a slot
--- shows this
-pub record Told (v : View) (o : ℕ) (y : Slot) : Type 0 where
+-- of so many shows this
+pub record Told (slots : ℕ) (v : View) (o : ℕ) (y : Slot) : Type 0 where
+  pub objects : ℕ
+  pub sized : slots ≡ suc objects
   pub count : ℕ
   pub front : List Seat
   pub back : List Seat
@@ -29,7 +31,7 @@ pub record Told (v : View) (o : ℕ) (y : Slot) : Type 0 where
   pub notes : List PartNote
   pub reached : Reached v.key.program v.key.numbers v.key.limit count (front ++ (v.seat ∷ back)) shelves notes
   pub agrees : Agrees v.seat.path shelves v.held
-  pub shows : y ≡ part_of (count_of v.key) o (front ++ (v.seat ∷ back)) shelves notes
+  pub shows : y ≡ part_of objects o (front ++ (v.seat ∷ back)) shelves notes
 
 -- one try more, at a place where this word was read
 abbrev pub tried_at : (place word : ℕ) → View → View
@@ -42,7 +44,7 @@ in_turn o y v = record v { turn = true; tries = suc v.tries; place = o; word = 0
 -- a try: the pass gets the turn and the slot, or found that another has it
 abbrev pub tried : Step Slot → Me Slot View → ℕ → Me Slot View → Type 0
 tried st m r m' =
-    (r ≡ 0 → (y : Slot) × (m' ≡ (in_turn st.word y m.0, (st.word, y) ∷ m.1)) × (m.0.live ≡ true → Told m.0 st.word y))
+    (r ≡ 0 → (y : Slot) × (m' ≡ (in_turn st.word y m.0, (st.word, y) ∷ m.1)) × (m.0.live ≡ true → Told st.slots m.0 st.word y))
     × (r ≢ 0 → (r ≡ 1) × (m' ≡ (tried_at st.word 1 m.0, m.1)))
 
 -- the turn is left

@@ -6,6 +6,8 @@ mod plan;
 mod probe;
 mod roll;
 mod slot;
+mod task;
+mod turns;
 mod view;
 
 pub use answers::{Taken, Tried};

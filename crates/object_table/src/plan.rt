@@ -1,7 +1,6 @@
 //! The plan of a run.
 
 ghost use Rattle.std.specs.Prelude.{◌≡◌, ◌<◌, true, length, slice_get, Some};
-ghost use Rattle.jade_syntax.specs.Limits.{within_limits};
 ghost use Rattle.jade_syntax.specs.Objects.{sizes};
 
 use jade_base::ObjectId;
@@ -47,8 +46,7 @@ impl<'c> Plan<'c> {
 
     /// The number of objects, which have the numbers from 0 on. It takes no memory.
     pub fn objects(&self) -> u32
-        ensures count { result ≡ length (sizes self.now.program.items) }
-        ensures limits { within_limits self.now.program.items ≡ true }
+        ensures { result ≡ length (sizes self.now.program.items) }
     {
         self.checked.objects()
     }

@@ -1,5 +1,5 @@
 //! A probe.
 
 /// Probes.
-#[tactic(auto, using(crate::proofs::Goes::trying, crate::proofs::Touching::touch_on, crate::proofs::Effects::held_same))]
+#[tactic(auto, using(crate::proofs::Goes::trying, crate::proofs::Touching::touch_on, crate::proofs::Calls::passed_try))]
 pub fn probe() {}
