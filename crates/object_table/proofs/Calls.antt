@@ -90,6 +90,9 @@ module _ (t : Task) (r : Rests t) where
   pub path_is : t.path ≡ v.seat.path
   path_is = r.path ∙ sym same.path
 
+  pub over_is : t.over ≡ v.over
+  over_is = r.over ∙ sym same.over
+
   pub children_is : t.children ≡ v.seat.children
   children_is = r.children ∙ sym same.children
 

@@ -26,7 +26,7 @@ use Rattle.schedule_core.specs.Shown.{shelf_at}
 use Rattle.schedule_core.specs.Plain.{Reached, seat_after, on_shelf, blocked_at, Does}
 use Rattle.schedule_core.specs.Tells.{CoreTells, EntriesAreThere, MayTake, MayGive}
 use Rattle.object_table.specs.Plans.{RunPlan, count_of}
-use Rattle.object_table.specs.Views.{View, shelf_of}
+use Rattle.object_table.specs.Views.{View, core_notes, shelf_of}
 use Rattle.object_table.specs.Touches.{held_at, put_held, is_touch, touches_first, touch_next, touched, passed, all_touches}
 use Rattle.object_table.specs.Rule.{hold_of, HeldOk, Agrees, Shown, Ruled}
 use Rattle.object_table.specs.Plays.{held_in, handed_by, did, Ahead, left_done}
@@ -107,7 +107,7 @@ module _ (key : RunPlan) (tells : CoreTells key.program key.numbers key.limit) (
         let is : y ≡ shelf_of x = found_is y note in
         let clear : keeper_in v.seat.path m x.queue ≡ None = ap (λ (z : ShelfView). keeper_in v.seat.path m z.queue) (sym is) ∙ free in
         let next' : First (upcoming v.seat.walker) (λ z. z ≡ Take o m) = subst (λ i. First (upcoming v.seat.walker) (λ z. z ≡ Take i m)) same next in
-        let may : MayTake m v.seat.path x.queue = tells.takes h.count (map h.seats h.owners) h.shelves h.notes h.reached _ v.seat seat_here o m next' clear in
+        let may : MayTake m v.seat.path x.queue = tells.takes h.count (map h.seats h.owners) h.shelves (core_notes h.told) h.reached _ v.seat seat_here o m next' clear in
         let now : Option Held = held_in m (hand_in v.seat.path m (shelf_of x)) in
         let handed_is : held_in m (handed_by v.seat.path m v.note) ≡ now = ap (λ z. held_in m (handed_by v.seat.path m z)) note_is in
         subst (λ i. Ruled key (stepped s o 0 id carried (did (Take i m) v) gives)) (sym same)
@@ -120,7 +120,7 @@ module _ (key : RunPlan) (tells : CoreTells key.program key.numbers key.limit) (
     event_on (Give q) next (same, y, c, note, has_it, made) =
         let is : y ≡ shelf_of x = found_is y note in
         let next' : First (upcoming v.seat.walker) (λ z. z ≡ Give o) = subst (λ i. First (upcoming v.seat.walker) (λ z. z ≡ Give i)) same next in
-        let may : MayGive v.seat.path x.queue = entries.gives h.count (map h.seats h.owners) h.shelves h.notes h.reached _ v.seat seat_here o next' in
+        let may : MayGive v.seat.path x.queue = entries.gives h.count (map h.seats h.owners) h.shelves (core_notes h.told) h.reached _ v.seat seat_here o next' in
         let holds : HeldOk v.seat.path x (Some c) = subst (λ k. HeldOk v.seat.path x k) has_it (held.each o) in
         subst (λ i. Ruled key (stepped s o 0 id carried (did (Give i) v) gives)) (sym same)
         (on_object (Give o) (given v.seat.path) refl (put_held o None v.held) next' (refl, refl) (λ ns. refl)
@@ -139,7 +139,7 @@ module _ (key : RunPlan) (tells : CoreTells key.program key.numbers key.limit) (
     event_on (Shift q a) next (same, y, note, made) =
         let is : y ≡ shelf_of x = found_is y note in
         let next' : First (upcoming v.seat.walker) (λ z. z ≡ Shift o a) = subst (λ i. First (upcoming v.seat.walker) (λ z. z ≡ Shift i a)) same next in
-        let may = entries.shifts h.count (map h.seats h.owners) h.shelves h.notes h.reached _ v.seat seat_here o a next' in
+        let may = entries.shifts h.count (map h.seats h.owners) h.shelves (core_notes h.told) h.reached _ v.seat seat_here o a next' in
         on_object (Shift o a) (shifted v.seat.path a) refl v.held next' (refl, refl) (λ ns. refl)
         (λ r off kin k b. shift_others v.seat.path x a r off k b)
         (shift_mine v.seat.path x a may.entry may.there (held_at o v.held) (held.each o)) (λ i ne. refl)
@@ -147,10 +147,10 @@ module _ (key : RunPlan) (tells : CoreTells key.program key.numbers key.limit) (
     event_on (Leave q) next (same, y, note, made) =
         let is : y ≡ shelf_of x = found_is y note in
         let next' : First (upcoming v.seat.walker) (λ z. z ≡ Leave o) = subst (λ i. First (upcoming v.seat.walker) (λ z. z ≡ Leave i)) same next in
-        let may = entries.leaves h.count (map h.seats h.owners) h.shelves h.notes h.reached _ v.seat seat_here o next' in
+        let may = entries.leaves h.count (map h.seats h.owners) h.shelves (core_notes h.told) h.reached _ v.seat seat_here o next' in
         on_object (Leave o) (left v.seat.path) refl v.held next' (refl, refl) (λ ns. refl)
         (λ r off kin k b. leave_others v.seat.path x r off k b)
-        (leave_mine v.seat.path x may.entry may.there may.free (ap hold_of (once.each h.count (map h.seats h.owners) h.shelves h.notes h.reached o v.seat.path)) (held_at o v.held) (held.each o)) (λ i ne. refl)
+        (leave_mine v.seat.path x may.entry may.there may.free (ap hold_of (once.each h.count (map h.seats h.owners) h.shelves (core_notes h.told) h.reached o v.seat.path)) (held_at o v.held) (held.each o)) (λ i ne. refl)
         (made ∙ ap (λ z. slot.Object (on_queue (without v.seat.path) z)) is ∙ ap slot.Object (leave_shows v.seat.path x may.entry may.there may.free))
     event_on (Enroll t m) next made = absurd made
     event_on (Resign b m) next made = absurd made

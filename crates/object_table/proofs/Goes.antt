@@ -13,10 +13,10 @@ use Rattle.atomic_table.proofs.Lists.{at_set, set_here, set_else, set_again}
 use Rattle.jade_meaning.specs.Laws.{Every}
 use Rattle.object_shelf.specs.Views.{ObjectView}
 use Rattle.schedule_core.specs.declared.steps.Seat.{Seat}
-use Rattle.schedule_core.specs.declared.notes.PartNote.{PartNote}
+use Rattle.task_roll.specs.declared.note.PartNote.{PartNote}
 use Rattle.schedule_core.specs.Plain.{Reached}
 use Rattle.object_table.specs.Plans.{RunPlan, count_of}
-use Rattle.object_table.specs.Views.{View, part_of}
+use Rattle.object_table.specs.Views.{View, part_of, core_notes}
 use Rattle.object_table.specs.Rule.{pass_of, kid_of, OnRoll, Agrees, Owned, Sits, TurnOk, PlaceOk, free, taken, SeatOk, Shown, Ruled}
 use Rattle.object_table.specs.Plays.{Told, tried_at, in_turn, tried, turned_off, left_as_it_was}
 use Rattle.object_table.specs.declared.slot.Slot.{Slot}
@@ -30,7 +30,7 @@ pub record Still (v w : View) : Type 0 where
 
 module _ (n : ℕ) (key : RunPlan) (s : table.State Slot View) (h : Shown n key s) (id : ℕ) (v : View) (at_v : get_elem? s.views id ≡ some v) where
   abbrev pub parts0 : ℕ → Slot
-  parts0 o = part_of n o (map h.seats h.owners) h.shelves h.notes
+  parts0 o = part_of n o (map h.seats h.owners) h.shelves h.told
 
   -- seats, objects and notes that events reach, under a new view of this pass
   pub record Goes (w : View) : Type 0 where
@@ -38,8 +38,8 @@ module _ (n : ℕ) (key : RunPlan) (s : table.State Slot View) (h : Shown n key 
     pub owners : List ℕ
     pub seats : ℕ → Seat
     pub shelves : List ObjectView
-    pub notes : List PartNote
-    pub reached : Reached key.program key.numbers key.limit count (map seats owners) shelves notes
+    pub told : List PartNote
+    pub reached : Reached key.program key.numbers key.limit count (map seats owners) shelves (core_notes told)
     pub plan : w.live ≡ true → w.key ≡ key
     pub own : Sits owners seats shelves id w
     pub others : (j : ℕ) (z : View) → j ≢ id → get_elem? s.views j ≡ some z → Sits owners seats shelves j z
@@ -55,7 +55,7 @@ module _ (n : ℕ) (key : RunPlan) (s : table.State Slot View) (h : Shown n key 
     owners = h.owners;
     seats = h.seats;
     shelves = h.shelves;
-    notes = h.notes;
+    told = h.told;
     reached = h.reached;
     plan = plan;
     own = sits;
@@ -65,7 +65,7 @@ module _ (n : ℕ) (key : RunPlan) (s : table.State Slot View) (h : Shown n key 
 
   module _ (w : View) (g : Goes w) where
     abbrev pub parts1 : ℕ → Slot
-    parts1 o = part_of n o (map g.seats g.owners) g.shelves g.notes
+    parts1 o = part_of n o (map g.seats g.owners) g.shelves g.told
 
     module _ (same : (p : ℕ) → parts0 p ≡ parts1 p) (still : Still v w) (alive : v.live ≡ true → w.live ≡ true) where
       abbrev after : table.State Slot View
@@ -110,7 +110,7 @@ module _ (n : ℕ) (key : RunPlan) (s : table.State Slot View) (h : Shown n key 
         owners = g.owners;
         seats = g.seats;
         shelves = g.shelves;
-        notes = g.notes;
+        told = g.told;
         holder = h.holder;
         reached = g.reached;
         wide = h.wide;
@@ -172,7 +172,7 @@ module _ (n : ℕ) (key : RunPlan) (s : table.State Slot View) (h : Shown n key 
         owners = g.owners;
         seats = g.seats;
         shelves = g.shelves;
-        notes = g.notes;
+        told = g.told;
         holder = h.holder;
         reached = g.reached;
         wide = length-set s.words o 0 ∙ h.wide;
@@ -230,7 +230,7 @@ module _ (n : ℕ) (key : RunPlan) (s : table.State Slot View) (h : Shown n key 
       owners = h.owners;
       seats = h.seats;
       shelves = h.shelves;
-      notes = h.notes;
+      told = h.told;
       holder = put h.holder o id;
       reached = h.reached;
       wide = length-set s.words o 1 ∙ h.wide;
@@ -253,10 +253,10 @@ module _ (n : ℕ) (key : RunPlan) (s : table.State Slot View) (h : Shown n key 
           front = map h.seats there.spot.front;
           back = map h.seats there.spot.back;
           shelves = h.shelves;
-          notes = h.notes;
-          reached = subst (λ (k : RunPlan). Reached k.program k.numbers k.limit h.count (map h.seats there.spot.front ++ (v.seat ∷ map h.seats there.spot.back)) h.shelves h.notes) (sym (mine.plan alive)) (subst (λ r. Reached key.program key.numbers key.limit h.count r h.shelves h.notes) roll h.reached);
+          notes = h.told;
+          reached = subst (λ (k : RunPlan). Reached k.program k.numbers k.limit h.count (map h.seats there.spot.front ++ (v.seat ∷ map h.seats there.spot.back)) h.shelves (core_notes h.told)) (sym (mine.plan alive)) (subst (λ r. Reached key.program key.numbers key.limit h.count r h.shelves (core_notes h.told)) roll h.reached);
           agrees = mine.sits.held alive;
-          shows = is ∙ ap (λ r. part_of n o r h.shelves h.notes) roll;
+          shows = is ∙ ap (λ r. part_of n o r h.shelves h.told) roll;
         }
 
   -- another has the turn
@@ -292,7 +292,7 @@ trying key slots id o me fits idle alive s h long at _ = go (h.places o room)
     x : ℕ
     x = slice_index s.words o
 
-    go : PlaceOk (count_of key) s h.holder (λ p. part_of (count_of key) p (map h.seats h.owners) h.shelves h.notes) o → (w : View) × (a : table.Act Slot) × table.Valid s.homes me.1 a × Ruled key (stepped s o (either (eqb x 0) 1 x) id me.1 w a) × tried (step slots o 0 1 none) me x (w, table.carried_after me.1 a)
+    go : PlaceOk (count_of key) s h.holder (λ p. part_of (count_of key) p (map h.seats h.owners) h.shelves h.told) o → (w : View) × (a : table.Act Slot) × table.Valid s.homes me.1 a × Ruled key (stepped s o (either (eqb x 0) 1 x) id me.1 w a) × tried (step slots o 0 1 none) me x (w, table.carried_after me.1 a)
     go (free y w0 home is) = (
       in_turn o y me.0,
       takes o y,

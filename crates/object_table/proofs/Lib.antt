@@ -7,3 +7,5 @@ pub mod Effects
 pub mod Finishing
 pub mod Calls
 pub mod Onces
+pub mod Starts
+pub mod Passing

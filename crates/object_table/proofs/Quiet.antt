@@ -16,7 +16,7 @@ use Rattle.schedule_core.specs.Shown.{shelf_at}
 use Rattle.schedule_core.specs.Plain.{Reached, goes_on, Does}
 use Rattle.schedule_core.specs.Tells.{CoreTells}
 use Rattle.object_table.specs.Plans.{RunPlan}
-use Rattle.object_table.specs.Views.{View, shelf_of, paths_of, part_of}
+use Rattle.object_table.specs.Views.{View, shelf_of, paths_of, part_of, core_notes}
 use Rattle.object_table.specs.Rule.{pass_of, kid_of, OnRoll, Agrees, Owned, Sits, Shown}
 use Rattle.object_table.specs.declared.slot.Slot.{Slot}
 use Rattle.object_table.specs.declared.slot.Slot.TheVariants as slot
@@ -57,21 +57,21 @@ module _ (n : ℕ) (key : RunPlan) (s : table.State Slot View) (h : Shown n key 
   pub roll_is : map h.seats h.owners ≡ f ++ (v.seat ∷ b)
   roll_is = ap (map h.seats) on.spot.is ∙ roll_split h.seats (pass_of id) on.spot.front on.spot.back ∙ ap (λ x. f ++ (x ∷ b)) on.is
 
-  pub stands : Reached key.program key.numbers key.limit h.count (f ++ (v.seat ∷ b)) h.shelves h.notes
-  stands = subst (λ r. Reached key.program key.numbers key.limit h.count r h.shelves h.notes) roll_is h.reached
+  pub stands : Reached key.program key.numbers key.limit h.count (f ++ (v.seat ∷ b)) h.shelves (core_notes h.told)
+  stands = subst (λ r. Reached key.program key.numbers key.limit h.count r h.shelves (core_notes h.told)) roll_is h.reached
 
   pub seat_on : (x : ℕ) (t : Seat) (q : OnRoll h.owners h.seats x t) → slice_get (map h.seats h.owners) (length q.spot.front) ≡ Some t
   seat_on x t q = ap (λ l. slice_get (map h.seats l) (length q.spot.front)) q.spot.is ∙ get_owner h.seats q.spot.front x q.spot.back ∙ ap (λ a. Some a) q.is
 
   pub found : (o : ℕ) → o ≢ n → parts0 n key s h id v at_v o ≡ slot.Object (shelf_of (shelf_at h.shelves o))
-  found o ne = ap (λ z. if z then slot.Roll (record { live = paths_of (map h.seats h.owners); notes = h.notes }) else slot.Object (shelf_of (shelf_at h.shelves o))) (ne_eqb o n ne)
+  found o ne = ap (λ z. if z then slot.Roll (record { live = paths_of (map h.seats h.owners); notes = h.told }) else slot.Object (shelf_of (shelf_at h.shelves o))) (ne_eqb o n ne)
 
   module _ (tells : CoreTells key.program key.numbers key.limit) where
     pub far_off : (x : ℕ) (t : Seat) → x ≢ pass_of id → OnRoll h.owners h.seats x t → same_path t.path p ≡ false
-    far_off x t ne q = tells.apart h.count (map h.seats h.owners) h.shelves h.notes h.reached (length q.spot.front) (length on.spot.front) t v.seat (seat_on x t q) (seat_on (pass_of id) v.seat on) (apart_owners h.owners x (pass_of id) q.spot on.spot ne)
+    far_off x t ne q = tells.apart h.count (map h.seats h.owners) h.shelves (core_notes h.told) h.reached (length q.spot.front) (length on.spot.front) t v.seat (seat_on x t q) (seat_on (pass_of id) v.seat on) (apart_owners h.owners x (pass_of id) q.spot on.spot ne)
 
     pub no_kid : (x : ℕ) (t : Seat) → x ≢ pass_of id → OnRoll h.owners h.seats x t → same_path t.path kid ≡ false
-    no_kid x t ne q = tells.kids h.count (map h.seats h.owners) h.shelves h.notes h.reached (length q.spot.front) (length on.spot.front) t v.seat (seat_on x t q) (seat_on (pass_of id) v.seat on) (apart_owners h.owners x (pass_of id) q.spot on.spot ne)
+    no_kid x t ne q = tells.kids h.count (map h.seats h.owners) h.shelves (core_notes h.told) h.reached (length q.spot.front) (length on.spot.front) t v.seat (seat_on x t q) (seat_on (pass_of id) v.seat on) (apart_owners h.owners x (pass_of id) q.spot on.spot ne)
 
     module _ (e : Event) (u2 : Seat) (ss2 : List ObjectView) (w : View) (next : First (upcoming v.seat.walker) (λ x. x ≡ e)) (does : Does e v.seat h.shelves (u2 ∷ []) ss2) (silent : (ns : List PartNote) → noted e v.seat ns ≡ ns) (path : u2.path ≡ p) (is : w.seat ≡ u2) (live : w.live ≡ v.live) (unborn : w.unborn ≡ v.unborn) (plan : w.key ≡ v.key) (over : w.over ≡ v.over) (far : (q : List ℕ) → same_path q p ≡ false → same_path q kid ≡ false → (hs : List (Option Held)) → Agrees q h.shelves hs → Agrees q ss2 hs) (own : Agrees p ss2 w.held) where
       abbrev pub seats2 : ℕ → Seat
@@ -80,10 +80,10 @@ module _ (n : ℕ) (key : RunPlan) (s : table.State Slot View) (h : Shown n key 
       roll2 : map seats2 h.owners ≡ f ++ (u2 ∷ b)
       roll2 = roll_put h.seats (pass_of id) u2 h.owners on.spot
 
-      pub reached2 : Reached key.program key.numbers key.limit (suc h.count) (map seats2 h.owners) ss2 h.notes
+      pub reached2 : Reached key.program key.numbers key.limit (suc h.count) (map seats2 h.owners) ss2 (core_notes h.told)
       reached2 =
-          subst (λ r. Reached key.program key.numbers key.limit (suc h.count) r ss2 h.notes) (sym roll2)
-          (subst (λ ns. Reached key.program key.numbers key.limit (suc h.count) (f ++ (u2 ∷ b)) ss2 ns) (silent h.notes) (reach_on key h.count f v.seat b h.shelves ss2 h.notes e (u2 ∷ []) stands next does))
+          subst (λ r. Reached key.program key.numbers key.limit (suc h.count) r ss2 (core_notes h.told)) (sym roll2)
+          (subst (λ ns. Reached key.program key.numbers key.limit (suc h.count) (f ++ (u2 ∷ b)) ss2 ns) (silent (core_notes h.told)) (reach_on key h.count f v.seat b h.shelves ss2 (core_notes h.told) e (u2 ∷ []) stands next does))
 
       on_else : (x : ℕ) (t : Seat) → x ≢ pass_of id → OnRoll h.owners h.seats x t → OnRoll h.owners seats2 x t
       on_else x t ne r = record { spot = r.spot; is = seat_else h.seats (pass_of id) u2 x ne ∙ r.is }
@@ -117,7 +117,7 @@ module _ (n : ℕ) (key : RunPlan) (s : table.State Slot View) (h : Shown n key 
         owners = h.owners;
         seats = seats2;
         shelves = ss2;
-        notes = h.notes;
+        told = h.told;
         reached = reached2;
         plan = λ l. plan ∙ (h.passes id v at_v).plan alive;
         own = mine2;
@@ -131,8 +131,8 @@ module _ (n : ℕ) (key : RunPlan) (s : table.State Slot View) (h : Shown n key 
       -- where an object shows the same its part is the same
       pub part_else : (i : ℕ) → shelf_of (shelf_at h.shelves i) ≡ shelf_of (shelf_at ss2 i) → parts0 n key s h id v at_v i ≡ parts1 n key s h id v at_v w quiet i
       part_else i same =
-          ap (λ ps. if nat_eq i n then slot.Roll (record { live = ps; notes = h.notes }) else slot.Object (shelf_of (shelf_at h.shelves i))) paths2
-          ∙ ap (λ x. if nat_eq i n then slot.Roll (record { live = paths_of (map seats2 h.owners); notes = h.notes }) else slot.Object x) same
+          ap (λ ps. if nat_eq i n then slot.Roll (record { live = ps; notes = h.told }) else slot.Object (shelf_of (shelf_at h.shelves i))) paths2
+          ∙ ap (λ x. if nat_eq i n then slot.Roll (record { live = paths_of (map seats2 h.owners); notes = h.told }) else slot.Object x) same
 
       pub part_here : (o : ℕ) → o ≢ n → (new : Slot) → new ≡ slot.Object (shelf_of (shelf_at ss2 o)) → new ≡ parts1 n key s h id v at_v w quiet o
-      part_here o ne new e = e ∙ sym (ap (λ z. if z then slot.Roll (record { live = paths_of (map seats2 h.owners); notes = h.notes }) else slot.Object (shelf_of (shelf_at ss2 o))) (ne_eqb o n ne))
+      part_here o ne new e = e ∙ sym (ap (λ z. if z then slot.Roll (record { live = paths_of (map seats2 h.owners); notes = h.told }) else slot.Object (shelf_of (shelf_at ss2 o))) (ne_eqb o n ne))

@@ -19,7 +19,7 @@ use Rattle.schedule_core.specs.Shown.{shelf_at}
 use Rattle.schedule_core.specs.Plain.{seat_after, on_shelf, value_at}
 use Rattle.schedule_core.specs.Tells.{CoreTells, Holding}
 use Rattle.object_table.specs.Plans.{RunPlan, count_of}
-use Rattle.object_table.specs.Views.{View, shelf_of, home_if}
+use Rattle.object_table.specs.Views.{View, core_notes, shelf_of, home_if}
 use Rattle.object_table.specs.Touches.{held_at, put_held, cells_of, touches_first, touch_next, touched_first, touched, passed, all_touches}
 use Rattle.object_table.specs.Rule.{hold_of, HeldOk, nothing, owns, sees, Agrees, Shown}
 use Rattle.object_table.specs.declared.slot.Slot.{Slot}
@@ -63,7 +63,7 @@ module _ (n : ℕ) (key : RunPlan) (s : table.State Slot View) (h : Shown n key 
     w = record v { seat = u2 }
 
     holding : Holding (λ x. is_some x) v.seat.path (shelf_at h.shelves o).queue
-    holding = tells.reads h.count (map h.seats h.owners) h.shelves h.notes h.reached (length (on n key s h id v at_v alive).spot.front) v.seat (seat_on n key s h id v at_v alive _ v.seat (on n key s h id v at_v alive)) o c next
+    holding = tells.reads h.count (map h.seats h.owners) h.shelves (core_notes h.told) h.reached (length (on n key s h id v at_v alive).spot.front) v.seat (seat_on n key s h id v at_v alive _ v.seat (on n key s h id v at_v alive)) o c next
 
     value : value_at o c v.seat.path h.shelves ≡ value_in (cells_of (held_at o v.held)) c
     value = value_is o c v.seat.path h.shelves ∙ ap (λ xs. value_in xs c) (held_content v.seat.path (shelf_at h.shelves o) (held_at o v.held) holding.entry holding.there holding.hold (held.each o))
@@ -91,7 +91,7 @@ module _ (n : ℕ) (key : RunPlan) (s : table.State Slot View) (h : Shown n key 
     ss3 = on_shelf o (written c x) h.shelves
 
     out : Holding takes_out v.seat.path (shelf_at h.shelves o).queue
-    out = tells.writes h.count (map h.seats h.owners) h.shelves h.notes h.reached (length (on n key s h id v at_v alive).spot.front) v.seat (seat_on n key s h id v at_v alive _ v.seat (on n key s h id v at_v alive)) o c x next_write
+    out = tells.writes h.count (map h.seats h.owners) h.shelves (core_notes h.told) h.reached (length (on n key s h id v at_v alive).spot.front) v.seat (seat_on n key s h id v at_v alive _ v.seat (on n key s h id v at_v alive)) o c x next_write
 
     here : shelf_at ss3 o ≡ written c x (shelf_at h.shelves o)
     here = shelf_on o (written c x) h.shelves refl
@@ -117,7 +117,7 @@ module _ (n : ℕ) (key : RunPlan) (s : table.State Slot View) (h : Shown n key 
         other : (k : Option Held) → HeldOk r (shelf_at h.shelves o) k → HeldOk r (written c x (shelf_at h.shelves o)) k
         other k (nothing empty none_held) = nothing empty none_held
         other k (sees d e is g m t v) = sees d e is g m t v
-        other k (owns d e is g m t u z) = absurd (let y : false ≡ true = sym off ∙ tells.alone h.count (map h.seats h.owners) h.shelves h.notes h.reached o r v.seat.path e out.entry g t out.there out.hold in cc)
+        other k (owns d e is g m t u z) = absurd (let y : false ≡ true = sym off ∙ tells.alone h.count (map h.seats h.owners) h.shelves (core_notes h.told) h.reached o r v.seat.path e out.entry g t out.there out.hold in cc)
 
     shows : (i : ℕ) → shelf_of (shelf_at h.shelves i) ≡ shelf_of (shelf_at ss3 i)
     shows i = dite (ℕ_discrete i o)

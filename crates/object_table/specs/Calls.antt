@@ -1,5 +1,5 @@
 -- What a pass is between two calls, and what the calls answer.
-use Rattle.std.specs.Prelude.{◌≡◌, ◌%◌, ◌^◌, ℕ, suc, true, false, List, [], ◌∷◌, Option, Some, None, Result, Ok, Err, ℤ}
+use Rattle.std.specs.Prelude.{◌≡◌, ◌+◌, ℕ, suc, true, false, List, [], ◌∷◌, Option, Some, None, Result, Ok, Err, ℤ}
 use Rattle.atomic_table.specs.Seated.{TableId}
 use Rattle.jade_base.specs.Held.{Held}
 use Rattle.jade_base.specs.declared.failure.Memory.{Memory}
@@ -13,7 +13,7 @@ use Rattle.object_shelf.specs.Homes.{hand_in}
 use Rattle.schedule_core.specs.Plain.{seat_after}
 use Rattle.object_table.specs.Plans.{RunPlan}
 use Rattle.object_table.specs.Views.{View}
-use Rattle.object_table.specs.Touches.{put_held}
+use Rattle.object_table.specs.Touches.{put_held, all_touches}
 use Rattle.object_table.specs.declared.slot.Slot.TheVariants as slot
 use Rattle.object_table.specs.declared.answers.Taken.{Taken}
 use Rattle.object_table.specs.declared.answers.Taken.TheVariants as taken
@@ -85,3 +85,8 @@ pub record Did (o : ℕ) (held : List (Option Held)) (v w : View) : Type 0 where
 abbrev pub TriedAs : ℕ → View → Tried → View → Type 0
 TriedAs o v tried.Done w = Did o v.held v w
 TriedAs o v (tried.Busy n) w = IsBusy n o v w
+
+-- the next k events are touches, after which so many events are done
+pub record Comes (k events : ℕ) (v : View) : Type 0 where
+  pub count : events ≡ v.seat.walker.done + k
+  pub touches : all_touches k v ≡ true

@@ -10,6 +10,8 @@ use Rattle.jade_meaning.specs.Codes.{coded_walk}
 use Rattle.schedule_core.specs.declared.steps.Seat.{Seat}
 use Rattle.object_table.specs.Plans.{RunPlan}
 use Rattle.object_table.specs.Views.{View}
+use Rattle.object_table.specs.Calls.{Pass, Desk}
+use Rattle.atomic_table.specs.Seated.{TableId, table_id_coded}
 use Rattle.object_table.specs.declared.slot.Slot.{Slot}
 use Rattle.object_table.specs.contracts.slot.Slot as slot
 
@@ -63,3 +65,10 @@ abbrev pub coded_view : Coded View
 coded_view =
     code_by (Side × Tries) (coded× coded_side coded_tries)
     (λ v. ((v.key, (v.live, (v.unborn, (v.seat, (v.held, v.over))))), (v.turn, (v.tries, (v.place, (v.word, v.note)))))) view_of (λ _. refl)
+
+-- of a pass, and of a table
+abbrev pub coded_pass : Coded Pass
+coded_pass = code_by (TableId × View) (coded× table_id_coded coded_view) (λ p. (p.mark, p.shows)) (λ q. record { mark = q.0; shows = q.1 }) (λ _. refl)
+
+abbrev pub coded_desk : Coded Desk
+coded_desk = code_by (TableId × RunPlan) (coded× table_id_coded coded_plan) (λ d. (d.mark, d.plan)) (λ q. record { mark = q.0; plan = q.1 }) (λ _. refl)

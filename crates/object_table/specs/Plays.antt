@@ -10,10 +10,10 @@ use Rattle.jade_meaning.specs.Walk.{upcoming, First, moved, IsChildOf}
 use Rattle.object_shelf.specs.Views.{ObjectView}
 use Rattle.object_shelf.specs.Homes.{hand_in}
 use Rattle.schedule_core.specs.declared.steps.Seat.{Seat}
-use Rattle.schedule_core.specs.declared.notes.PartNote.{PartNote}
+use Rattle.task_roll.specs.declared.note.PartNote.{PartNote}
 use Rattle.schedule_core.specs.Plain.{Reached, seat_after}
 use Rattle.object_table.specs.Plans.{RunPlan}
-use Rattle.object_table.specs.Views.{View, part_of}
+use Rattle.object_table.specs.Views.{View, part_of, core_notes}
 use Rattle.object_table.specs.Touches.{put_held, is_touch, passed, all_touches}
 use Rattle.object_table.specs.Rule.{Agrees, first_view}
 use Rattle.object_table.specs.declared.slot.Slot.{Slot}
@@ -29,7 +29,7 @@ pub record Told (slots : ℕ) (v : View) (o : ℕ) (y : Slot) : Type 0 where
   pub back : List Seat
   pub shelves : List ObjectView
   pub notes : List PartNote
-  pub reached : Reached v.key.program v.key.numbers v.key.limit count (front ++ (v.seat ∷ back)) shelves notes
+  pub reached : Reached v.key.program v.key.numbers v.key.limit count (front ++ (v.seat ∷ back)) shelves (core_notes notes)
   pub agrees : Agrees v.seat.path shelves v.held
   pub shows : y ≡ part_of objects o (front ++ (v.seat ∷ back)) shelves notes
 

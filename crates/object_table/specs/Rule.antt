@@ -10,11 +10,11 @@ use Rattle.object_shelf.specs.declared.queue.Entry.{Entry}
 use Rattle.object_shelf.specs.Views.{ObjectView}
 use Rattle.object_shelf.specs.Shelves.{find, takes_out}
 use Rattle.schedule_core.specs.declared.steps.Seat.{Seat}
-use Rattle.schedule_core.specs.declared.notes.PartNote.{PartNote}
+use Rattle.task_roll.specs.declared.note.PartNote.{PartNote}
 use Rattle.schedule_core.specs.Shown.{shelf_at}
 use Rattle.schedule_core.specs.Plain.{Reached, root_seat}
 use Rattle.object_table.specs.Plans.{RunPlan, count_of}
-use Rattle.object_table.specs.Views.{View, part_of}
+use Rattle.object_table.specs.Views.{View, part_of, core_notes}
 use Rattle.object_table.specs.Touches.{held_at}
 use Rattle.object_table.specs.declared.slot.Slot.{Slot}
 use Rattle.object_table.specs.declared.slot.Slot.TheVariants as slot
@@ -93,14 +93,14 @@ module _ (n : ℕ) where
     pub owners : List ℕ
     pub seats : ℕ → Seat
     pub shelves : List ObjectView
-    pub notes : List PartNote
+    pub told : List PartNote
     pub holder : ℕ → ℕ
-    pub reached : Reached key.program key.numbers key.limit count (map seats owners) shelves notes
+    pub reached : Reached key.program key.numbers key.limit count (map seats owners) shelves (core_notes told)
     pub wide : length s.words ≡ suc n
     pub deep : length s.homes ≡ suc n
-    pub passes : (id : ℕ) (v : View) → get_elem? s.views id ≡ some v → SeatOk s.words owners seats holder shelves (λ o. part_of n o (map seats owners) shelves notes) key id v
+    pub passes : (id : ℕ) (v : View) → get_elem? s.views id ≡ some v → SeatOk s.words owners seats holder shelves (λ o. part_of n o (map seats owners) shelves told) key id v
     pub only : Every (Owned s.views) owners
-    pub places : (o : ℕ) → o < suc n → PlaceOk s holder (λ o. part_of n o (map seats owners) shelves notes) o
+    pub places : (o : ℕ) → o < suc n → PlaceOk s holder (λ o. part_of n o (map seats owners) shelves told) o
 
 -- the rule
 abbrev pub Ruled : RunPlan → table.State Slot View → Type 0

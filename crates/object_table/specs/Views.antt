@@ -1,10 +1,12 @@
 -- What a pass shows of its task, and what the slots show of the objects and of the roll.
-use Rattle.std.specs.Prelude.{ℕ, Bool, true, false, List, [], ◌∷◌, Option, Some, None, ℤ, if◌then◌else◌, nat_eq}
+use Rattle.std.specs.Prelude.{ℕ, Bool, true, false, List, [], ◌∷◌, map, Option, Some, None, ℤ, if◌then◌else◌, nat_eq}
 use Rattle.jade_base.specs.Held.{Held}
 use Rattle.object_shelf.specs.Views.{ObjectView, ShelfView}
 use Rattle.object_shelf.specs.Whole.{is_out}
 use Rattle.schedule_core.specs.declared.steps.Seat.{Seat}
-use Rattle.schedule_core.specs.declared.notes.PartNote.{PartNote}
+use Rattle.schedule_core.specs.declared.notes.PartNote.{PartNote as CoreNote}
+use Rattle.task_roll.specs.declared.note.PartNote.{PartNote}
+use Rattle.task_roll.specs.Rolls.{by_key}
 use Rattle.schedule_core.specs.Shown.{shelf_at}
 use Rattle.object_table.specs.Plans.{RunPlan}
 use Rattle.object_table.specs.declared.slot.Slot.{Slot}
@@ -38,6 +40,13 @@ shelf_of x = record { queue = x.queue; home = home_if (is_out x.queue) x.content
 abbrev pub paths_of : List Seat → List (List ℕ)
 paths_of [] = []
 paths_of (s ∷ ss) = s.path ∷ paths_of ss
+
+-- the notes of the core, by key, that notes in the order of the ends of their parts are
+abbrev pub core_note : PartNote → CoreNote
+core_note n = record { path = n.path; children = n.children; steps = n.steps; blame = n.blame }
+
+abbrev pub core_notes : List PartNote → List CoreNote
+core_notes ns = map core_note (by_key ns)
 
 -- what the slot of a number shows: that of an object the object, and the last one the roll
 abbrev pub part_of : (count number : ℕ) → List Seat → List ObjectView → List PartNote → Slot

@@ -2,13 +2,15 @@
 #![tactic(auto)]
 
 mod answers;
+mod pass;
 mod plan;
-mod probe;
-mod roll;
 mod slot;
+mod table;
 mod task;
 mod turns;
 mod view;
 
 pub use answers::{Taken, Tried};
+pub use pass::TaskPass;
 pub use plan::Plan;
+pub use table::ObjectTable;

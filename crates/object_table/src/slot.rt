@@ -1,7 +1,7 @@
 //! What the slots of a table hold.
 
-use crate::roll::Roll;
 use object_shelf::Shelf;
+use task_roll::Roll;
 
 /// The value of a slot: that of an object its shelf, that of the roll the roll, and of either
 /// nothing while a pass has its turn there.

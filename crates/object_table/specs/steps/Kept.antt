@@ -10,7 +10,9 @@ use Rattle.object_shelf.specs.declared.queue.Entry.{Entry}
 use Rattle.jade_meaning.specs.Talk.{Event, Enter, Enroll, Take, TouchRead, TouchWrite, Wants, Give, Leave, Shift, Resign}
 use Rattle.object_shelf.specs.Views.{ObjectView, ShelfView}
 use Rattle.object_shelf.specs.Shelves.{find, keeper_in, at, without, entered_in, with_rights}
-use Rattle.object_shelf.specs.Homes.{hand_in, handed, returned, on_queue}
+use Rattle.object_shelf.specs.Homes.{hand_in, handed, returned, on_queue, started}
+use Rattle.task_roll.specs.Rolls.{started as begun}
+use Rattle.jade_base.specs.Rights.{both_rights}
 use Rattle.schedule_core.specs.declared.steps.Seat.{Seat}
 use Rattle.schedule_core.specs.declared.notes.PartNote.{PartNote}
 use Rattle.schedule_core.specs.Shown.{shelf_at}
@@ -109,3 +111,11 @@ HandedAs y p m (Err e) z = z ≡ y
 abbrev pub EnteredAs : ShelfView → (parent child : List ℕ) → Rights → Result (Unit {0}) Memory → ShelfView → Type 0
 EnteredAs y p c a (Ok _) z = z ≡ on_queue (entered_in p c a) y
 EnteredAs y p c a (Err e) z = z ≡ y
+
+-- the slots at the start
+abbrev pub start_slots : List ℕ → List Slot
+start_slots [] = []
+start_slots (n ∷ ns) = slot.Object (started (0 ∷ []) both_rights n) ∷ start_slots ns
+
+pub record FirstSlots (ns : List ℕ) (xs : List Slot) : Type 0 where
+  pub is : xs ≡ start_slots ns ++ slot.Roll begun ∷ []

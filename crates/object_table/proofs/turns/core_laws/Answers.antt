@@ -6,9 +6,3 @@ pub returns : goal.returns
 returns c = λ (key : RunPlan).
     let there = c.entries_are_there.ensures key.program key.numbers key.limit in
     record { tells = c.core_tells.ensures key.program key.numbers key.limit; entries = there; once = once_of key there }
-
-pub core_tells-requires : goal.core_tells-requires
-core_tells-requires c = ?
-
-pub entries_are_there-requires : goal.entries_are_there-requires
-entries_are_there-requires c = ?
