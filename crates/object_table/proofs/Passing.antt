@@ -1,5 +1,6 @@
 -- A pass that goes past touches.
-use Rattle.std.proofs.Common.{◌≡◌, ℕ, zero, suc, ◌+◌, ◌%◌, ◌^◌, ◌<◌, Bool, true, false, ◌&&◌, List, [], ◌∷◌, refl, sym, ap, ◌∙◌, subst, arith, Option, Some, None}
+use Rattle.std.proofs.Common.{◌≡◌, ℕ, zero, suc, ◌+◌, ◌%◌, ◌^◌, ◌<◌, Bool, true, false, ◌&&◌, List, [], ◌∷◌, refl, sym, ap, ◌∙◌, subst, arith, Option, Some}
+use Rattle.std.proofs.Common.{None}
 use Rattle.jade_meaning.specs.Talk.{Event, Enter, Enroll, Take, TouchRead, TouchWrite, Wants, Give, Leave, Shift, Resign}
 use Rattle.jade_meaning.specs.Walk.{upcoming}
 use Rattle.object_table.specs.Views.{View}
@@ -29,7 +30,8 @@ all_more zero k v a b = ap (λ i. all_touches i v) (plus_zero k) ∙ a
     plus_zero x = omega arith
 all_more (suc j) k v a b =
     ap (λ i. all_touches i v) (plus_suc k j)
-    ∙ both (all_touches (k + j) v) (touch_next (passed (k + j) v)) (all_more j k v a (and_left (all_touches j (passed k v)) (touch_next (passed j (passed k v))) b))
+    ∙ both (all_touches (k + j) v) (touch_next (passed (k + j) v))
+          (all_more j k v a (and_left (all_touches j (passed k v)) (touch_next (passed j (passed k v))) b))
       (ap touch_next (sym (passed_more j k v)) ∙ and_right (all_touches j (passed k v)) (touch_next (passed j (passed k v))) b)
   where
     plus_suc : (x y : ℕ) → x + suc y ≡ suc (x + y)
@@ -84,7 +86,8 @@ module _ (t : Task) (r : Rests t) (events k : ℕ) (fits : events < 184467440737
     touches = all_more k t.touched t.seat.me.0 r.touches comes.touches;
     path = r.path;
     children = r.children;
-    events = small events fits ∙ ap (λ x. x % 2 ^ 64) (comes.count ∙ sym (passed_done k (shown t) comes.touches) ∙ ap (λ (z : View). z.seat.walker.done) (passed_more k t.touched t.seat.me.0));
+    events = small events fits ∙ ap (λ x. x % 2 ^ 64) (comes.count ∙ sym (passed_done k (shown t) comes.touches)
+          ∙ ap (λ (z : View). z.seat.walker.done) (passed_more k t.touched t.seat.me.0));
     over = r.over;
   }
     where

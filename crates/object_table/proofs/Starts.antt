@@ -1,5 +1,6 @@
 -- The table at the start keeps the rule.
-use Rattle.std.proofs.Common.{◌≡◌, ◌≢◌, ℕ, zero, suc, ◌+◌, ◌<◌, Bool, true, false, List, [], ◌∷◌, ◌++◌, map, length, take, refl, sym, ap, ◌∙◌, subst, arith, eq-eqb, ne_eqb, append-nil, Option, Some, None}
+use Rattle.std.proofs.Common.{◌≡◌, ◌≢◌, ℕ, zero, suc, ◌+◌, ◌<◌, Bool, true, false, List, [], ◌∷◌, ◌++◌, map, length, take, refl, sym, ap, ◌∙◌, subst, arith}
+use Rattle.std.proofs.Common.{eq-eqb, ne_eqb, append-nil, Option, Some, None}
 use Rattle.std.specs.Prelude.{ℤ, slice_get, slice_index, replicate, if◌then◌else◌}
 use mathlib.Core.Logic.{dite}
 use mathlib.Core.Option.{some, some-injective, some-ne-none}
@@ -23,7 +24,8 @@ use Rattle.object_table.specs.steps.Kept.{start_slots, FirstSlots}
 use Rattle.object_table.specs.declared.slot.Slot.{Slot}
 use Rattle.object_table.specs.declared.slot.Slot.TheVariants as slot
 
-pub slots_more : (ns : List ℕ) (o n : ℕ) → slice_get ns o ≡ Some n → start_slots (take (suc o) ns) ≡ start_slots (take o ns) ++ slot.Object (started (0 ∷ []) both_rights n) ∷ []
+pub slots_more : (ns : List ℕ) (o n : ℕ) → slice_get ns o ≡ Some n → start_slots (take (suc o) ns)
+      ≡ start_slots (take o ns) ++ slot.Object (started (0 ∷ []) both_rights n) ∷ []
 slots_more [] o n e = absurd (cc)
 slots_more (m ∷ ns) zero n e = ap (λ x. slot.Object (started (0 ∷ []) both_rights x) ∷ []) (some_is m n e)
   where
@@ -35,7 +37,8 @@ pub slots_length : (ns : List ℕ) (y : Slot) → length (start_slots ns ++ y �
 slots_length [] y = refl
 slots_length (n ∷ ns) y = ap suc (slots_length ns y)
 
-object_at : (ns : List ℕ) (ys : List Slot) (o : ℕ) → o < length ns → get_elem? (start_slots ns ++ ys) o ≡ some (slot.Object (shelf_of (shelf_at (root_shelves ns) o)))
+object_at : (ns : List ℕ) (ys : List Slot) (o : ℕ) → o < length ns → get_elem? (start_slots ns ++ ys) o
+      ≡ some (slot.Object (shelf_of (shelf_at (root_shelves ns) o)))
 object_at [] ys o lt = absurd (omega arith)
 object_at (n ∷ ns) ys zero lt = refl
 object_at (n ∷ ns) ys (suc o) lt = object_at ns ys o (omega arith)
@@ -78,7 +81,8 @@ module _ (key : RunPlan) where
   part_at : (o : ℕ) → o < suc n → get_elem? (start_slots ns ++ slot.Roll begun ∷ []) o ≡ some (parts o)
   part_at o lt = dite (ℕ_discrete o n)
       (λ same. subst (λ i. get_elem? (start_slots ns ++ slot.Roll begun ∷ []) i ≡ some (parts i)) (sym same)
-        (last_at ns (slot.Roll begun) ∙ ap some (sym (ap (λ b. if b then slot.Roll begun else slot.Object (shelf_of (shelf_at (root_shelves ns) n))) (eq-eqb n n refl)))))
+        (last_at ns (slot.Roll begun) ∙ ap some (sym (ap (λ b. if b then slot.Roll begun else slot.Object (shelf_of (shelf_at (root_shelves ns) n)))
+              (eq-eqb n n refl)))))
       (λ ne. object_at ns (slot.Roll begun ∷ []) o (omega (arith, ne, lt))
         ∙ ap some (sym (ap (λ b. if b then slot.Roll begun else slot.Object (shelf_of (shelf_at (root_shelves ns) o))) (ne_eqb o n ne))))
 
@@ -112,6 +116,8 @@ module _ (key : RunPlan) where
     places = λ o lt. free (parts o) (all_zeros (suc n) o) (at_map some xs o (parts o) (ap (λ l. get_elem? l o) f.is ∙ part_at o lt)) refl;
   })
     where
-      seat : (id : ℕ) (v : View) → get_elem? (first_view key ∷ []) id ≡ some v → SeatOk n (replicate (suc n) 0) (pass_of 0 ∷ []) (λ x. root) (λ o. 0) (root_shelves ns) parts key id v
-      seat zero v e = subst (λ (z : View). SeatOk n (replicate (suc n) 0) (pass_of 0 ∷ []) (λ x. root) (λ o. 0) (root_shelves ns) parts key 0 z) (some-injective (first_view key) v e) first
+      seat : (id : ℕ) (v : View) → get_elem? (first_view key ∷ []) id ≡ some v
+            → SeatOk n (replicate (suc n) 0) (pass_of 0 ∷ []) (λ x. root) (λ o. 0) (root_shelves ns) parts key id v
+      seat zero v e = subst (λ (z : View). SeatOk n (replicate (suc n) 0) (pass_of 0 ∷ []) (λ x. root) (λ o. 0) (root_shelves ns) parts key 0 z)
+            (some-injective (first_view key) v e) first
       seat (suc id) v e = absurd (some-ne-none v (sym e))

@@ -79,7 +79,9 @@ returns-in-Ok-entered-clause-rests c =
     let new = slot.Object c.enter_in-entered.new.shelf in
     let t3 = c.settle.new.task in
     let w = did (Enter o c.args.rights) (on_try true (suc t.seat.me.0.tries) o 0 y (shown t)) in
-    let me : t3.seat.me ≡ (w, []) = ap (λ s. s.me) c.settle.ensures.seat ∙ finished t r key (c.core_laws.ensures key) slots seat1 o y new turn (Enter o c.args.rights) refl c.requires.next c.leave_turn.new.seat.me c.leave_turn.ensures.done in
+    let me : t3.seat.me ≡ (w, []) = ap (λ s. s.me) c.settle.ensures.seat
+          ∙ finished t r key (c.core_laws.ensures key) slots seat1 o y new turn (Enter o c.args.rights) refl c.requires.next c.leave_turn.new.seat.me
+          c.leave_turn.ensures.done in
     done_rests t r t3 w me c.settle.ensures.path c.settle.ensures.events refl refl refl refl refl
 
 pub returns-in-Ok-entered-clause-answer :
@@ -101,7 +103,9 @@ returns-in-Ok-entered-clause-answer c =
     let new = slot.Object c.enter_in-entered.new.shelf in
     let t3 = c.settle.new.task in
     let w = did (Enter o c.args.rights) (on_try true (suc t.seat.me.0.tries) o 0 y (shown t)) in
-    let me : t3.seat.me ≡ (w, []) = ap (λ s. s.me) c.settle.ensures.seat ∙ finished t r key (c.core_laws.ensures key) slots seat1 o y new turn (Enter o c.args.rights) refl c.requires.next c.leave_turn.new.seat.me c.leave_turn.ensures.done in
+    let me : t3.seat.me ≡ (w, []) = ap (λ s. s.me) c.settle.ensures.seat
+          ∙ finished t r key (c.core_laws.ensures key) slots seat1 o y new turn (Enter o c.args.rights) refl c.requires.next c.leave_turn.new.seat.me
+          c.leave_turn.ensures.done in
     record { object = z; after = done_shown t r t3 w me c.settle.ensures.events.0 ∙ did_shown t r o z y (shown t).held is }
 
 pub leave_turn-requires-in-Err-entered-clause-allowed :
@@ -141,7 +145,8 @@ returns-clause-rests c =
     let kid = c.in_ok-child.child in
     let is_kid : kid ≡ t.path ++ t.children ∷ [] = search rules in
     let new = slot.Object c.enter_in-entered.new.shelf in
-    tried_rests t r c.leave_turn-in-Err-entered.new.seat (suc t.seat.me.0.tries) o 0 y (off_is t r seat1 c.leave_turn-in-Err-entered.new.seat slots o y new turn c.leave_turn-in-Err-entered.ensures.done)
+    tried_rests t r c.leave_turn-in-Err-entered.new.seat (suc t.seat.me.0.tries) o 0 y
+          (off_is t r seat1 c.leave_turn-in-Err-entered.new.seat slots o y new turn c.leave_turn-in-Err-entered.ensures.done)
 
 pub returns-clause-unchanged :
     goal.returns-clause-unchanged
