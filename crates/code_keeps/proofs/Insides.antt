@@ -1,6 +1,7 @@
 -- Instructions that go only to places among them, or directly behind them.
-use Rattle.std.proofs.Common.{◌≡◌, ℕ, zero, suc, ◌+◌, ◌-◌, ◌<◌, ◌≤◌, ◌⊎◌, inl, inr, List, [], ◌∷◌, ◌++◌, length, Bool, true, ◌&&◌, Option, Some, None, refl, sym, ap, ap₂, ◌∙◌, subst, arith, length-append}
-use Rattle.std.specs.Prelude.{slice_get, nat_lt, nat_eq}
+use Rattle.std.proofs.Common.{◌≡◌, ℕ, zero, suc, ◌+◌, ◌-◌, ◌<◌, ◌≤◌, ◌⊎◌, inl, inr, List, [], ◌∷◌, ◌++◌, length, true, ◌&&◌, Some, refl}
+use Rattle.std.proofs.Common.{sym, ap, ap₂, ◌∙◌, subst, arith, length-append}
+use Rattle.std.specs.Prelude.{slice_get, nat_lt}
 use Rattle.std.proofs.lemmas.Bool.{lt-ltb, eq-eqb, cases_lt}
 use Rattle.std.proofs.lemmas.Option.{none-some, same_Some, slice_get_within}
 use Rattle.code_meaning.specs.declared.code.Instruction.{Instruction}
@@ -130,22 +131,26 @@ alone_inside x s = before_inside x [] s none_inside
 pub loop_inside : (n : ℕ) (body : List Instruction) → Inside body → Inside (i.Turn n (length body + 1) ∷ (body ++ (i.Next n (length body) ∷ [])))
 loop_inside n body f = record { each = λ p x h. by_case p x h }
   where
-    later : (k : ℕ) (x : Instruction) → slice_get (body ++ (i.Next n (length body) ∷ [])) k ≡ Some x → (k < length body) ⊎ (length body ≤ k) → Stays (i.Turn n (length body + 1) ∷ (body ++ (i.Next n (length body) ∷ []))) (suc k) x
+    later : (k : ℕ) (x : Instruction) → slice_get (body ++ (i.Next n (length body) ∷ [])) k ≡ Some x → (k < length body) ⊎ (length body ≤ k)
+        → Stays (i.Turn n (length body + 1) ∷ (body ++ (i.Next n (length body) ∷ []))) (suc k) x
     later k x h (inl lt) =
         stays_behind (i.Turn n (length body + 1)) (body ++ (i.Next n (length body) ∷ [])) k x
         (stays_left body (i.Next n (length body) ∷ []) k x lt (f.each k x (sym (at_left body (i.Next n (length body) ∷ []) k lt) ∙ h)))
     later k x h (inr le) =
         let within = slice_get_within (body ++ (i.Next n (length body) ∷ [])) k x h in
         let e : length body + 0 ≡ k = omega (arith, le, within, length-append body (i.Next n (length body) ∷ [])) in
-        let is : i.Next n (length body) ≡ x = same_Some (i.Next n (length body)) x (sym (at_right body (i.Next n (length body) ∷ []) 0) ∙ ap (slice_get (body ++ (i.Next n (length body) ∷ []))) e ∙ h) in
+        let is : i.Next n (length body) ≡ x = same_Some (i.Next n (length body)) x (sym (at_right body (i.Next n (length body) ∷ []) 0)
+        ∙ ap (slice_get (body ++ (i.Next n (length body) ∷ []))) e ∙ h) in
         let z : suc k - length body - 1 ≡ 0 = omega (arith, e) in
-        let turn : is_turn n (length body + 1) (slice_get (i.Turn n (length body + 1) ∷ (body ++ (i.Next n (length body) ∷ []))) (suc k - length body - 1)) ≡ true =
+        let turn : is_turn n (length body + 1) (slice_get (i.Turn n (length body + 1) ∷ (body ++ (i.Next n (length body) ∷ []))) (suc k - length body - 1))
+        ≡ true =
         ap (λ j. is_turn n (length body + 1) (slice_get (i.Turn n (length body + 1) ∷ (body ++ (i.Next n (length body) ∷ []))) j)) z
         ∙ ap₂ (λ a b. a && b) (eq-eqb n n refl) (eq-eqb (length body + 1) (length body + 1) refl) in
         let P : Instruction → Type 0 = Stays (i.Turn n (length body + 1) ∷ (body ++ (i.Next n (length body) ∷ []))) (suc k) in
         subst P is (omega (arith, e), turn)
 
-    by_case : (p : ℕ) (x : Instruction) → slice_get (i.Turn n (length body + 1) ∷ (body ++ (i.Next n (length body) ∷ []))) p ≡ Some x → Stays (i.Turn n (length body + 1) ∷ (body ++ (i.Next n (length body) ∷ []))) p x
+    by_case : (p : ℕ) (x : Instruction) → slice_get (i.Turn n (length body + 1) ∷ (body ++ (i.Next n (length body) ∷ []))) p ≡ Some x
+        → Stays (i.Turn n (length body + 1) ∷ (body ++ (i.Next n (length body) ∷ []))) p x
     by_case zero x h =
         let long = length-append body (i.Next n (length body) ∷ []) in
         let P : Instruction → Type 0 = Stays (i.Turn n (length body + 1) ∷ (body ++ (i.Next n (length body) ∷ []))) 0 in
@@ -188,7 +193,8 @@ finished a p (i.Declare how o at) lt h = next_there a p lt
 finished a p (i.Create b at) lt h = next_there a p lt
 finished a p i.Commit lt h = next_there a p lt
 
-pub ends_well : (a : List Instruction) → Inside a → (p : ℕ) (x : Instruction) → slice_get (a ++ (i.Finish ∷ [])) p ≡ Some x → places_are_there (a ++ (i.Finish ∷ [])) p x ≡ true
+pub ends_well : (a : List Instruction) → Inside a → (p : ℕ) (x : Instruction) → slice_get (a ++ (i.Finish ∷ [])) p ≡ Some x
+    → places_are_there (a ++ (i.Finish ∷ [])) p x ≡ true
 ends_well a f p x h = by_case (cases_lt p (length a))
   where
     by_case : (p < length a) ⊎ (length a ≤ p) → places_are_there (a ++ (i.Finish ∷ [])) p x ≡ true

@@ -1,5 +1,6 @@
 -- The slots that instructions name.
-use Rattle.std.proofs.Common.{◌≡◌, ℕ, zero, suc, ◌+◌, ◌<◌, ◌≤◌, max, List, [], ◌∷◌, map, length, Bool, true, ◌&&◌, Option, Some, None, refl, sym, ap, ap₂, ◌∙◌, subst, arith}
+use Rattle.std.proofs.Common.{◌≡◌, ℕ, zero, suc, ◌+◌, ◌≤◌, max, List, [], ◌∷◌, map, length, Bool, true, ◌&&◌, Some, refl, ap₂}
+use Rattle.std.proofs.Common.{subst, arith}
 use Rattle.std.specs.Prelude.{slice_get, nat_lt}
 use Rattle.std.proofs.Math.Nat.{le-max_left, le-max_right}
 use Rattle.std.proofs.lemmas.Bool.{lt-ltb}
@@ -21,7 +22,8 @@ from_map f [] k y h = absurd (none-some y h)
 from_map f (x ∷ xs) zero y h = (x, refl, same_Some (f x) y h)
 from_map f (x ∷ xs) (suc k) y h = from_map f xs k y h
 
-room_covers : (calls : Calls) (least : ℕ) (code : List Instruction) (place : ℕ) (x : Instruction) → slice_get code place ≡ Some x → needs calls x ≤ room calls least code
+pub room_covers : (calls : Calls) (least : ℕ) (code : List Instruction) (place : ℕ) (x : Instruction) → slice_get code place ≡ Some x
+    → needs calls x ≤ room calls least code
 room_covers calls least [] place x h = absurd (none-some x h)
 room_covers calls least (y ∷ code) zero x h =
     subst (λ z. needs calls z ≤ max (needs calls y) (room calls least code)) (same_Some y x h) (le-max_left (needs calls y) (room calls least code))
@@ -46,7 +48,7 @@ second a b n h = let l = le-max_right a b in omega (arith, l, h)
 pub and_true : (a b : Bool) → a ≡ true → b ≡ true → (a && b) ≡ true
 and_true a b h g = ap₂ (λ x y. x && y) h g
 
-there : (n : ℕ) (o : Operand) → reach o ≤ n → is_there n o ≡ true
+pub there : (n : ℕ) (o : Operand) → reach o ≤ n → is_there n o ≡ true
 there n (operand.Slot k) h = lt-ltb k n h
 there n (operand.Whole z) h = refl
 there n (operand.Truth b) h = refl
@@ -83,7 +85,8 @@ slots_kept calls n (i.Read s t o c at) h =
     and_true (nat_lt t n && nat_lt o n) (is_there n c)
     (and_true (nat_lt t n) (nat_lt o n) (lt-ltb t n (first (suc t) (max (suc o) (reach c)) n h)) (lt-ltb o n (first (suc o) (reach c) n more)))
     (there n c (second (suc o) (reach c) n more))
-slots_kept calls n (i.WriteOf o c v at) h = and_true (is_there n c) (is_there n v) (there n c (first (reach c) (reach v) n h)) (there n v (second (reach c) (reach v) n h))
+slots_kept calls n (i.WriteOf o c v at) h = and_true (is_there n c) (is_there n v) (there n c (first (reach c) (reach v) n h))
+    (there n v (second (reach c) (reach v) n h))
 slots_kept calls n (i.Write o c v at) h = two n o c v h
 slots_kept calls n (i.Fresh c) h = refl
 slots_kept calls n i.Draft h = refl

@@ -1,18 +1,23 @@
 -- The code of a program stays among its instructions.
-use Rattle.std.proofs.Common.{◌≡◌, ℕ, zero, suc, ◌+◌, ◌≤◌, List, [], ◌∷◌, ◌++◌, length, true, Option, Some, None, refl, sym, ap, ◌∙◌, subst, arith, length-append}
+use Rattle.std.proofs.Common.{◌≡◌, ℕ, zero, suc, ◌+◌, List, [], ◌∷◌, ◌++◌, length, true, Option, Some, None, refl, ap, subst, arith}
+use Rattle.std.proofs.Common.{length-append}
 use Rattle.std.specs.Prelude.{◌||◌, slice_get, nat_lt, nat_le, nat_eq}
 use Rattle.std.proofs.lemmas.Bool.{lt-ltb, le-leb, eq-eqb}
 use Rattle.std.proofs.lemmas.Option.{none-some, same_Some}
 use Rattle.jade_base.specs.declared.place.Pos.{Pos}
 use Rattle.jade_syntax.specs.declared.tree.Item.{Item}
-use Rattle.jade_syntax.specs.Abstract.{Name, Or, And, Relates, Adds, Multiplies, Expression, Whole, Truth, Variable, Group, Signed, Chain, Cell, Links, Last, Link, Place, Alone, Member, Action, Local, Assign, Store, If, IfElse, For, Withonly, With, Declare, Actions, Done, Then, AbstractProgram}
+use Rattle.jade_syntax.specs.Abstract.{Name, Or, And, Relates, Adds, Multiplies, Expression, Whole, Truth, Variable, Group, Signed, Chain, Cell, Links, Last}
+use Rattle.jade_syntax.specs.Abstract.{Link, Place, Alone, Member, Action, Local, Assign, Store, If, IfElse, For, Withonly, With, Declare, Actions, Done, Then}
+use Rattle.jade_syntax.specs.Abstract.{AbstractProgram}
 use Rattle.jade_meaning.specs.declared.resolve.Range.{Range}
 use Rattle.code_meaning.specs.declared.code.Operand.{Operand}
 use Rattle.code_meaning.specs.declared.code.Instruction.{Instruction}
 use Rattle.code_meaning.specs.declared.code.Instruction.TheVariants as i
 use Rattle.code_meaning.specs.Meaning.{Body}
 use Rattle.task_translation.specs.Room.{room, with_slots, calls_of}
-use Rattle.task_translation.specs.Compile.{Scope, entry, slot_of, brought, stored, operand_of, operand_at, unless, range_of, member_read, member_reached, code_of, code_of_links, code_at, code_of_place, store_code, call_of, inputs_in, given_scope, parameters, scope_after, next_after, bodies_in, bodies_in_all, code_for, code_for_all, body_for, bodies_for, bodies_for_all, unsized, compiled}
+use Rattle.task_translation.specs.Compile.{Scope, entry, slot_of, brought, stored, operand_of, operand_at, unless, range_of, member_read, member_reached}
+use Rattle.task_translation.specs.Compile.{code_of, code_of_links, code_at, code_of_place, store_code, call_of, inputs_in, given_scope, parameters, scope_after}
+use Rattle.task_translation.specs.Compile.{next_after, bodies_in, bodies_in_all, code_for, code_for_all, body_for, bodies_for, bodies_for_all, unsized}
 use Rattle.task_code.specs.Rules.{begins, places_are_there}
 use Rattle.code_keeps.specs.Keeps.{whole_code, KeepsPlaces, KeepsBeginnings}
 use Rattle.code_keeps.proofs.Rooms.{from_map, and_true, room_least}
@@ -30,7 +35,8 @@ read_inside : (g : Range) (t : ℕ) (j : Operand) (o : Option Operand) (code : L
 read_inside g t j None code at f = before_inside _ _ tt (both_inside code _ f (alone_inside _ tt))
 read_inside g t j (Some c) code at f = alone_inside _ tt
 
-reached_inside : (g : Range) (t : ℕ) (j : Operand) (o : Option Operand) (code : List Instruction) (at : Pos) → Inside code → Inside (member_reached g t j o code at)
+reached_inside : (g : Range) (t : ℕ) (j : Operand) (o : Option Operand) (code : List Instruction) (at : Pos) → Inside code
+    → Inside (member_reached g t j o code at)
 reached_inside g t j None code at f = before_inside _ _ tt (both_inside code _ f (alone_inside _ tt))
 reached_inside g t j (Some c) code at f = alone_inside _ tt
 
@@ -41,9 +47,12 @@ module _ (items : List Item) where
     code_inside (Truth b) scope t = alone_inside _ tt
     code_inside (Variable x) scope t = alone_inside _ tt
     code_inside (Group e) scope t = code_inside e scope t
-    code_inside (Signed sign at e) scope t = both_inside (unless (operand_of scope e) (code_of items scope t e)) _ (unless_inside (operand_of scope e) _ (code_inside e scope t)) (alone_inside _ tt)
-    code_inside (Chain e links) scope t = both_inside (unless (operand_of scope e) (code_of items scope t e)) _ (unless_inside (operand_of scope e) _ (code_inside e scope t)) (links_inside links scope t (operand_of scope e))
-    code_inside (Cell (Alone x at) e) scope t = both_inside (unless (operand_of scope e) (code_of items scope t e)) _ (unless_inside (operand_of scope e) _ (code_inside e scope t)) (alone_inside _ tt)
+    code_inside (Signed sign at e) scope t = both_inside (unless (operand_of scope e) (code_of items scope t e)) _
+        (unless_inside (operand_of scope e) _ (code_inside e scope t)) (alone_inside _ tt)
+    code_inside (Chain e links) scope t = both_inside (unless (operand_of scope e) (code_of items scope t e)) _
+        (unless_inside (operand_of scope e) _ (code_inside e scope t)) (links_inside links scope t (operand_of scope e))
+    code_inside (Cell (Alone x at) e) scope t = both_inside (unless (operand_of scope e) (code_of items scope t e)) _
+        (unless_inside (operand_of scope e) _ (code_inside e scope t)) (alone_inside _ tt)
     code_inside (Cell (Member x at j) e) scope t =
         both_inside (unless (operand_of scope j) (code_of items scope t j)) _ (unless_inside (operand_of scope j) _ (code_inside j scope t))
         (read_inside (range_of items x) t _ (operand_of scope e) (code_of items scope (t + 1) e) at (code_inside e scope (t + 1)))
@@ -54,18 +63,27 @@ module _ (items : List Item) where
         let a = code_of items scope t e in
         let b = code_of_links items scope t None links in
         let long = length-append a b in
-        both_inside (brought t o) _ (brought_inside t o) (before_inside _ (a ++ b) (omega (arith, long)) (both_inside a b (code_inside e scope t) (links_inside links scope t None)))
+        both_inside (brought t o) _ (brought_inside t o) (before_inside _ (a ++ b) (omega (
+          arith,
+          long,
+        )) (both_inside a b (code_inside e scope t) (links_inside links scope t None)))
     links_inside (Link And at e links) scope t o =
         let a = code_of items scope t e in
         let b = code_of_links items scope t None links in
         let long = length-append a b in
-        both_inside (brought t o) _ (brought_inside t o) (before_inside _ (a ++ b) (omega (arith, long)) (both_inside a b (code_inside e scope t) (links_inside links scope t None)))
+        both_inside (brought t o) _ (brought_inside t o) (before_inside _ (a ++ b) (omega (
+          arith,
+          long,
+        )) (both_inside a b (code_inside e scope t) (links_inside links scope t None)))
     links_inside (Link (Relates r) at e links) scope t o =
-        both_inside (unless (operand_of scope e) (code_of items scope (t + 1) e)) _ (unless_inside (operand_of scope e) _ (code_inside e scope (t + 1))) (before_inside _ _ tt (links_inside links scope t None))
+        both_inside (unless (operand_of scope e) (code_of items scope (t + 1) e)) _ (unless_inside (operand_of scope e) _ (code_inside e scope (t + 1)))
+        (before_inside _ _ tt (links_inside links scope t None))
     links_inside (Link (Adds r) at e links) scope t o =
-        both_inside (unless (operand_of scope e) (code_of items scope (t + 1) e)) _ (unless_inside (operand_of scope e) _ (code_inside e scope (t + 1))) (before_inside _ _ tt (links_inside links scope t None))
+        both_inside (unless (operand_of scope e) (code_of items scope (t + 1) e)) _ (unless_inside (operand_of scope e) _ (code_inside e scope (t + 1)))
+        (before_inside _ _ tt (links_inside links scope t None))
     links_inside (Link (Multiplies r) at e links) scope t o =
-        both_inside (unless (operand_of scope e) (code_of items scope (t + 1) e)) _ (unless_inside (operand_of scope e) _ (code_inside e scope (t + 1))) (before_inside _ _ tt (links_inside links scope t None))
+        both_inside (unless (operand_of scope e) (code_of items scope (t + 1) e)) _ (unless_inside (operand_of scope e) _ (code_inside e scope (t + 1)))
+        (before_inside _ _ tt (links_inside links scope t None))
 
   at_inside : (e : Expression) (scope : Scope) (t : ℕ) → Inside (code_at items scope t e)
   at_inside e scope t = unless_inside (operand_of scope e) _ (code_inside e scope t)
@@ -76,7 +94,8 @@ module _ (items : List Item) where
 
   store_inside : (o : Place) (e v : Expression) (scope : Scope) (n : ℕ) → Inside (store_code items scope n o e v)
   store_inside (Alone x at) e v scope n =
-      both_inside (code_at items scope n e) _ (at_inside e scope n) (before_inside _ _ tt (both_inside (code_at items scope (n + 1) v) _ (at_inside v scope (n + 1)) (alone_inside _ tt)))
+      both_inside (code_at items scope n e) _ (at_inside e scope n)
+      (before_inside _ _ tt (both_inside (code_at items scope (n + 1) v) _ (at_inside v scope (n + 1)) (alone_inside _ tt)))
   store_inside (Member x at j) e v scope n =
       both_inside (code_at items scope n j) _ (at_inside j scope n)
       (both_inside (member_reached (range_of items x) n (operand_at items scope n j) (operand_of scope e) (code_of items scope (n + 1) e) at) _
@@ -104,16 +123,20 @@ module _ (items : List Item) where
         (both_inside c _ (all_inside one scope n b) (before_inside _ d (omega arith) (all_inside other scope n (b + bodies_in_all one)))))
     for_inside (For x low high body) scope n b =
         both_inside (code_of items scope n low) _ (code_inside low scope n)
-        (both_inside (code_of items scope (n + 1) high) _ (code_inside high scope (n + 1)) (loop_inside n _ (all_inside body (entry x (n + 2) ∷ scope) (n + 3) b)))
+        (both_inside (code_of items scope (n + 1) high) _ (code_inside high scope (n + 1))
+        (loop_inside n _ (all_inside body (entry x (n + 2) ∷ scope) (n + 3) b)))
     for_inside (Withonly at section names body) scope n b =
-        before_inside _ _ tt (both_inside (code_for_all items scope n (b + 1 + bodies_in_all body) section) _ (all_inside section scope n (b + 1 + bodies_in_all body)) (alone_inside _ tt))
-    for_inside (With at section) scope n b = before_inside _ _ tt (both_inside (code_for_all items scope n b section) _ (all_inside section scope n b) (alone_inside _ tt))
+        before_inside _ _ tt (both_inside (code_for_all items scope n (b + 1 + bodies_in_all body) section) _
+        (all_inside section scope n (b + 1 + bodies_in_all body)) (alone_inside _ tt))
+    for_inside (With at section) scope n b = before_inside _ _ tt
+        (both_inside (code_for_all items scope n b section) _ (all_inside section scope n b) (alone_inside _ tt))
     for_inside (Declare how at o) scope n b = both_inside (code_of_place items scope n o) _ (place_inside o scope n) (alone_inside _ tt)
 
     all_inside : (a : Actions) (scope : Scope) (n b : ℕ) → Inside (code_for_all items scope n b a)
     all_inside Done scope n b = none_inside
     all_inside (Then a more) scope n b =
-        before_inside _ _ tt (both_inside (code_for items scope n b a) _ (for_inside a scope n b) (all_inside more (scope_after scope n a) (next_after n a) (b + bodies_in a)))
+        before_inside _ _ tt (both_inside (code_for items scope n b a) _ (for_inside a scope n b)
+        (all_inside more (scope_after scope n a) (next_after n a) (b + bodies_in a)))
 
 -- ---- bodies
 
@@ -155,7 +178,8 @@ module _ (items : List Item) where
     for_kept (Assign x e) scope n b = no_body
     for_kept (Store o e v) scope n b = no_body
     for_kept (If e one) scope n b = all_kept one scope n b
-    for_kept (IfElse e one other) scope n b = both_bodies (bodies_for_all items scope n b one) _ (all_kept one scope n b) (all_kept other scope n (b + bodies_in_all one))
+    for_kept (IfElse e one other) scope n b = both_bodies (bodies_for_all items scope n b one) _ (all_kept one scope n b)
+        (all_kept other scope n (b + bodies_in_all one))
     for_kept (For x low high body) scope n b = all_kept body (entry x (n + 2) ∷ scope) (n + 3) b
     for_kept (Withonly at section names body) scope n b =
         one_body _ _ (body_kept (call_of scope names) names (b + 1) body)
@@ -178,7 +202,8 @@ keeps_places p own place b x at here =
     subst P from.2 (λ h. (all.body own from.0 from.1).each place x h) here
 
 -- the first body is given nothing
-first_given : (x : Body) (rest : List Body) (own : ℕ) (c : Body) → length x.call ≡ 0 → slice_get (x ∷ rest) own ≡ Some c → (nat_lt 0 own || nat_eq (length c.call) 0) ≡ true
+first_given : (x : Body) (rest : List Body) (own : ℕ) (c : Body) → length x.call ≡ 0 → slice_get (x ∷ rest) own ≡ Some c
+    → (nat_lt 0 own || nat_eq (length c.call) 0) ≡ true
 first_given x rest zero c e h = subst (λ (d : Body). nat_eq (length d.call) 0 ≡ true) (same_Some x c h) (eq-eqb (length x.call) 0 e)
 first_given x rest (suc own) c e h = ap (λ t. t || nat_eq (length c.call) 0) (lt-ltb 0 (suc own) (omega arith))
 
@@ -193,5 +218,6 @@ keeps_beginnings p own b at =
     let P : Body → Type 0 = λ d. begins (whole_code p) own d ≡ true in
     subst P from.2
     (and_true _ _
-    (and_true (nat_lt 0 (length c.code)) (nat_le least (room calls least c.code)) (all.body own c from.1).some (le-leb least (room calls least c.code) (room_least calls least c.code)))
+    (and_true (nat_lt 0 (length c.code)) (nat_le least (room calls least c.code)) (all.body own c from.1).some
+    (le-leb least (room calls least c.code) (room_least calls least c.code)))
     (first_given _ _ own c refl from.1))

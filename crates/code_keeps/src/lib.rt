@@ -1,4 +1,5 @@
-//! Laws: the code of every program keeps the rules on beginnings, on slots and on places.
+//! Laws: the code of a checked program keeps all rules, and that of every program the rules on
+//! beginnings, on slots and on places.
 #![tactic(auto)]
 
 pub mod laws;

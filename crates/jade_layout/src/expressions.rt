@@ -1,7 +1,8 @@
 //! Printing expressions.
 
 ghost use Rattle.std.specs.Prelude.{◌≡◌, [], ◌∷◌, OnOk};
-ghost use Rattle.jade_layout.specs.Spelling.{expr_tokens, and_tokens, compare_tokens, sum_tokens, product_tokens, unary_tokens, atom_tokens, cell_tokens, product_sign, relation_sign, sum_sign, unary_sign, truth_word, number_token, bracketed, object_index};
+ghost use Rattle.jade_layout.specs.Spelling.{expr_tokens, and_tokens, compare_tokens, sum_tokens, product_tokens, unary_tokens, atom_tokens, cell_tokens};
+ghost use Rattle.jade_layout.specs.Spelling.{product_sign, relation_sign, sum_sign, unary_sign, truth_word, number_token, bracketed, object_index};
 ghost use Rattle.jade_layout.specs.Printed.{Adds};
 
 use crate::printer::Printer;

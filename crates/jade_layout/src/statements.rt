@@ -4,7 +4,8 @@ ghost use Rattle.std.specs.Prelude.{◌≡◌, [], ◌∷◌, ◌++◌, codes, O
 ghost use Rattle.jade_base.specs.declared.place.Pos.{Pos};
 ghost use Rattle.jade_syntax.specs.declared.tree.Statement.TheVariants.{Local, Assign, Store, With, Declare};
 ghost use Rattle.jade_layout.specs.Layout.{layout};
-ghost use Rattle.jade_layout.specs.Spelling.{expr_tokens, statement_tokens, block_tokens, object_tokens, item_tokens, spelling, name_tokens, declare_word, kind_word};
+ghost use Rattle.jade_layout.specs.Spelling.{expr_tokens, statement_tokens, block_tokens, object_tokens, item_tokens, spelling, name_tokens, declare_word};
+ghost use Rattle.jade_layout.specs.Spelling.{kind_word};
 ghost use Rattle.jade_layout.specs.Printed.{Adds};
 
 use crate::expressions::{put_cell, put_expr, put_member, put_name, put_number};
@@ -135,7 +136,8 @@ fn put_test(printer: &mut Printer, test: &Expr) -> Result<(), Memory>
 
 /// Puts what stands before the body of a `for`.
 fn put_bounds(printer: &mut Printer, name: &Name, low: &Expr, high: &Expr) -> Result<(), Memory>
-    ensures { OnOk result (Adds printer.old printer.new (codes "for" ∷ name.now ∷ codes "in" ∷ [] ++ expr_tokens low.now ++ codes ".." ∷ [] ++ expr_tokens high.now)) }
+    ensures { OnOk result (Adds printer.old printer.new (codes "for" ∷ name.now ∷ codes "in" ∷ [] ++ expr_tokens low.now ++ codes ".." ∷ []
+        ++ expr_tokens high.now)) }
 {
     printer.put(b"for")?;
     put_name(printer, name)?;

@@ -1,14 +1,13 @@
 -- What a course notes is what the marks of its serial run tell.
 use Rattle.std.proofs.Common.{◌≡◌, ℕ, suc, List, [], ◌∷◌, ◌++◌, map, refl, ap, sym, ◌∙◌, Option, Some, None, append-nil, append_assoc, length, replicate}
-use Rattle.std.specs.Prelude.{ℤ, slice_set, slice_index_or}
-use Rattle.std.proofs.Common.{length-set}
+use Rattle.std.specs.Prelude.{ℤ}
 use Rattle.std.specs.List.{filter_map}
 use Rattle.std.proofs.lemmas.List.{map-append}
 use Rattle.std.proofs.lemmas.List.Elements.{filter_map-append}
 use Rattle.jade_base.specs.declared.report.Blame.{Blame}
 use Rattle.jade_meaning.specs.declared.run_state.RunState.{RunState}
 use Rattle.jade_meaning.specs.Course.{Course, Reads, Writes, Steps, Creates, Changes, Ends, root_course}
-use Rattle.jade_meaning.specs.Serial.{Path, Store, Mark, Deed, DidRead, DidWrite, DidCreate, DidEnd, serial, own, under, after, cell, done_to, parts, zeros}
+use Rattle.jade_meaning.specs.Serial.{Path, Store, Mark, DidCreate, DidEnd, serial, own, under, after, cell, done_to, parts, zeros}
 use Rattle.jade_base.specs.declared.report.FaultNote.{FaultNote}
 use Rattle.jade_base.specs.declared.report.PartStep.{PartStep}
 use Rattle.jade_meaning.specs.Report.{fault_notes, fault_of, step_of, report}
@@ -114,28 +113,17 @@ carried_is p (Creates child body on) k n l =
 carried_is p (Changes new on) k n l = carried_is p on k n l
 carried_is p (Ends b) k n l = ap (λ q. noted q k n b l) (sym (append-nil p)) ∙ ended (p ++ []) b k n l
 
-kept : (d : Deed) (store : Store) → length (done_to d store) ≡ length store
-kept (DidRead o c v) store = refl
-kept (DidWrite o c v) store = length-set store o (slice_set (slice_index_or store o []) c v)
-kept (DidCreate t n) store = refl
-kept (DidEnd b n) store = refl
-
-as_many : (ms : List Mark) (store : Store) → length (after ms store) ≡ length store
-as_many [] store = refl
-as_many (m ∷ ms) store = as_many ms (done_to m.deed store) ∙ kept m.deed store
-
 -- the report of the whole program
 pub reports : (p : AbstractProgram) (ns : List ℤ) (limit : ℕ) (last : RunState) → last ≡ carried (0 ∷ []) (root_course p ns limit) 0 0
-    (record { objects = zeros (sizes p.items); faults = []; steps = [] }) → report_of last ≡ report p ns limit
+    (record { objects = zeros (sizes p.items); faults = []; steps = [] }) → report_of (length (sizes p.items)) last ≡ report p ns limit
 reports p ns limit last h =
     let c = root_course p ns limit in
     let store = zeros (sizes p.items) in
+    let turns = replicate (length (sizes p.items)) [] in
     let ms = serial c 0 0 store in
     let first : RunState = record { objects = store; faults = []; steps = [] } in
-    ap report_of (h ∙ carried_is (0 ∷ []) c 0 0 first)
-    ∙ ap (λ n. record { objects = after ms store; faults = noted_faults (map (under 0) ms); turns = replicate n []; steps = noted_steps (map (under 0) ms) })
-    (as_many ms store)
-    ∙ ap (λ s. record { objects = s; faults = noted_faults (map (under 0) ms); turns = replicate (length store) []; steps = noted_steps (map (under 0) ms) })
+    ap (report_of (length (sizes p.items))) (h ∙ carried_is (0 ∷ []) c 0 0 first)
+    ∙ ap (λ s. record { objects = s; faults = noted_faults (map (under 0) ms); turns = turns; steps = noted_steps (map (under 0) ms) })
     (sym (after_under 0 ms store))
-    ∙ ap (λ ps. record { objects = after (map (under 0) ms) store; faults = fault_notes ps; turns = replicate (length store) []; steps = map step_of ps })
+    ∙ ap (λ ps. record { objects = after (map (under 0) ms) store; faults = fault_notes ps; turns = turns; steps = map step_of ps })
     (sym (parts_stand p ns limit))

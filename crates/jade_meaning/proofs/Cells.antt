@@ -1,17 +1,10 @@
--- Cells of objects, and lists that are gone through from the front.
-use Rattle.std.proofs.Common.{◌≡◌, ℕ, zero, suc, ◌++◌, append_assoc, replicate, ◌+◌, ◌<◌, List, [], ◌∷◌, refl, ap, sym, ◌∙◌, Some, length, map, drop, add-one}
-use Rattle.std.specs.Prelude.{ℤ, pos, slice_get, slice_index_or, slice_set}
-use Rattle.std.proofs.Math.Seq.{drop-cons}
+-- Cells of objects.
+use Rattle.std.proofs.Common.{◌≡◌, ℕ, zero, suc, ◌++◌, append_assoc, replicate, ◌+◌, ◌<◌, List, [], ◌∷◌, refl, ap, sym, ◌∙◌, length, map}
+use Rattle.std.specs.Prelude.{ℤ, pos, slice_index_or, slice_set}
 use Rattle.std.proofs.lemmas.List.{get_or-map, map-set, map-append, replicate_more}
-use Rattle.std.proofs.lemmas.Option.{slice_get_within, get_or_from_slice_get}
 use Rattle.jade_syntax.specs.declared.tree.Item.{Item}
 use Rattle.jade_syntax.specs.Objects.{sizes}
 use Rattle.jade_meaning.specs.Serial.{Store, with_cell, zeros}
-
--- the object at a place, and those after it
-pub drop_at : {A : Type 0} (xs : List A) (i : ℕ) (x : A) → slice_get xs i ≡ Some x → drop i xs ≡ x ∷ drop (i + 1) xs
-drop_at xs i x h =
-    rw (add-one, drop-cons xs i x (slice_get_within xs i x h), get_or_from_slice_get xs i x x h) refl
 
 -- a write to an item of an item
 pub put_in : {A : Type 0} (f : A → List ℤ) (l : List A) (o c : ℕ) (v : ℤ) (a b : A) → o < length l → a ≡ slice_index_or l o a → f b ≡ slice_set (f a) c v

@@ -10,7 +10,6 @@ use Rattle.jade_syntax.specs.declared.tree.SumOp.{SumOp}
 use Rattle.jade_syntax.specs.declared.tree.ProductOp.{ProductOp}
 use Rattle.jade_meaning.specs.declared.source.Pause.{Pause}
 use Rattle.jade_meaning.specs.declared.source.Pause.TheVariants.{Fault, Awaits as AwaitsOf}
-use Rattle.jade_meaning.specs.declared.values.Value.TheVariants.{IntOf, BoolOf}
 use Rattle.jade_syntax.specs.Abstract.{Or, And, Adds, Multiplies, Expression, Link}
 use Rattle.jade_syntax.specs.Image.{Linked, links, chained, signed}
 use Rattle.jade_meaning.specs.declared.values.Value.{Value}
@@ -20,7 +19,7 @@ use Rattle.jade_meaning.specs.Specification.{Specification}
 use Rattle.jade_meaning.specs.Course.{Environment}
 use Rattle.jade_meaning.specs.steps.Direct.{blamed}
 use Rattle.jade_meaning.specs.steps.Evaluation.{Evaluation, Got, Awaits, Faults, Source, stopped, kept, ◌>>>◌, evaluate, evaluate_links}
-use Rattle.jade_meaning.proofs.Cells.{drop_at}
+use Rattle.jade_syntax.proofs.Limits.{drop_item}
 
 -- the chain comes to what its links from i on make of this value, where so many answers are used
 pub record Going (items : List Item) (env : Environment) (spec : Specification) (src : Source) (e : Expression) (n : ℕ) (A : Type 0) (f : A → Linked)
@@ -69,7 +68,7 @@ module _ {items : List Item} {env : Environment} {spec : Specification} {src : S
   module _ {e : Expression} {A : Type 0} {f : A → Linked} {xs : List A} {i : ℕ} {v : Value} {k : ℕ} where
     next_link : (x : A) → slice_get xs i ≡ Some x → Going items env spec src e n A f xs i v k → evaluate items env spec src e n ≡ evaluate_links items env spec
         src (Link (f x).operator (f x).at (f x).operand (links (map f (drop (i + 1) xs)))) v k
-    next_link x h g = g.same ∙ ap (λ ys. evaluate_links items env spec src (links (map f ys)) v k) (drop_at xs i x h)
+    next_link x h g = g.same ∙ ap (λ ys. evaluate_links items env spec src (links (map f ys)) v k) (drop_item xs i x h)
 
     -- the value decides the chain
     pub decided : (x : A) → slice_get xs i ≡ Some x → decides (f x).operator v ≡ true → Going items env spec src e n A f xs i v k
@@ -137,7 +136,7 @@ module _ {items : List Item} {env : Environment} {spec : Specification} {src : S
   sign_more {v = v} {k = k} i s u m h q g = record {
     same = ap (λ y. kept (blamed y s.1) k) q ∙ ap (λ r. r >>> λ v k. kept (blamed (values.signed s.0 v) s.1) k)
         (g.same ∙ ap (λ t. evaluate items env spec src (signed (drop t ss) e) n) (sym m)) ∙ ap (λ ys. evaluate items env spec src (signed ys e) n)
-        (sym (drop_at ss i s h));
+        (sym (drop_item ss i s h));
   }
 
   pub sign_fails : {j : ℕ} {v : Value} {k : ℕ} (i : ℕ) (s : UnaryOp × Pos) (b : Blame) → i + 1 ≡ j → slice_get ss i ≡ Some s
@@ -145,22 +144,16 @@ module _ {items : List Item} {env : Environment} {spec : Specification} {src : S
   sign_fails {v = v} {k = k} i s b m h q g =
       outward items env spec src e n i ss (Fault b) (ap (λ r. kept r k) q ∙ ap (λ r. r >>> λ v k. kept (blamed (values.signed s.0 v) s.1) k)
       (g.same ∙ ap (λ t. evaluate items env spec src (signed (drop t ss) e) n) (sym m)) ∙ ap (λ ys. evaluate items env spec src (signed ys e) n)
-      (sym (drop_at ss i s h)))
+      (sym (drop_item ss i s h)))
 
 pub adds_on : (s : SumOp) (v : Value) → decides (Adds s) v ≡ false
-adds_on s (IntOf x) = refl
-adds_on s (BoolOf b) = refl
+adds_on s v = refl
 
 pub multiplies_on : (o : ProductOp) (v : Value) → decides (Multiplies o) v ≡ false
-multiplies_on o (IntOf x) = refl
-multiplies_on o (BoolOf b) = refl
+multiplies_on o v = refl
 
 pub or_gives : (v w : Value) → Gives w ≡ operated Or v w
-or_gives (IntOf x) (IntOf y) = refl
-or_gives (IntOf x) (BoolOf c) = refl
-or_gives (BoolOf b) w = refl
+or_gives v w = refl
 
 pub and_gives : (v w : Value) → Gives w ≡ operated And v w
-and_gives (IntOf x) (IntOf y) = refl
-and_gives (IntOf x) (BoolOf c) = refl
-and_gives (BoolOf b) w = refl
+and_gives v w = refl

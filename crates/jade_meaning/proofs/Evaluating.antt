@@ -20,7 +20,7 @@ use Rattle.jade_meaning.specs.steps.Direct.{◌>>=◌, blamed, blame_at, indexed
 use Rattle.jade_meaning.specs.steps.Evaluation.{Evaluation, Got, Awaits, Faults, Answers, kept, ◌>>>◌, answered, evaluate, evaluate_links, evaluate_object}
 use Rattle.jade_meaning.specs.steps.Evaluation.{evaluate_read}
 use Rattle.jade_meaning.specs.steps.Frames.{fed, Tells, evaluate_write, evaluate_store, evaluate_bounds}
-use Rattle.jade_meaning.proofs.Cells.{drop_at}
+use Rattle.jade_syntax.proofs.Limits.{drop_item}
 
 pub fed_ends : (vs : List ℤ) (b : Option Blame) → fed vs (Ends b) ≡ Ends b
 fed_ends [] b = refl
@@ -89,7 +89,7 @@ module _ (vs : List ℤ) where
   answer_tells : (a : Option ℤ) (o c n : ℕ) (on : Value → Course) → slice_get vs n ≡ a → Tells vs (answered a o c n >>> λ z k. Got (IntOf z) k) on
       (fed (drop n vs) (Reads o c (λ z. on (IntOf z))))
   answer_tells (Some z) o c n on h =
-      ap (λ ws. fed ws (Reads o c (λ z. on (IntOf z)))) (drop_at vs n z h) ∙ ap (λ k. fed (drop k vs) (on (IntOf z))) (add-one n)
+      ap (λ ws. fed ws (Reads o c (λ z. on (IntOf z)))) (drop_item vs n z h) ∙ ap (λ k. fed (drop k vs) (on (IntOf z))) (add-one n)
   answer_tells None o c n on h =
       let P : List ℤ → Type 0 = λ ws. fed ws (Reads o c (λ z. on (IntOf z))) ≡ Reads o c (λ v. fed (v ∷ []) (fed ws (Reads o c (λ z. on (IntOf z))))) in
       subst P (sym (none_left vs n h)) refl

@@ -15,7 +15,7 @@ use Rattle.jade_meaning.specs.Values.{magnitude, turn_count}
 use Rattle.jade_meaning.specs.Course.{Setting, Environment, copied, value_of}
 use Rattle.jade_meaning.specs.Serial.{Path}
 use Rattle.jade_meaning.specs.steps.Perform.{Outcome, Goes, then_on, begun, within, turned, turned_once, perform, perform_all, Follows}
-use Rattle.jade_meaning.proofs.Cells.{drop_at}
+use Rattle.jade_syntax.proofs.Limits.{drop_item}
 
 -- an answer that is another's
 pub follows_as : (r : Result (Unit {0}) Stop) (o q : Outcome) (t : Task) (l : RunState) → q ≡ o → Follows r o t l → Follows r q t l
@@ -39,7 +39,7 @@ pub record Comes (s : Setting) (p : Path) (ss : List Statement) (t0 : Task) (l0 
 module _ {s : Setting} {p : Path} {ss : List Statement} {t0 : Task} {l0 : RunState} {i : ℕ} {t : Task} {l : RunState} where
   comes_to : (x : Statement) → slice_get ss i ≡ Some x → Comes s p ss t0 l0 i t l → perform_all s p (block ss) t0 l0 ≡ then_on
       (then_on (begun s.limit t l) (perform s p (action x))) (perform_all s p (block (drop (i + 1) ss)))
-  comes_to x h c = c.same ∙ ap (λ a. perform_all s p (block a) t l) (drop_at ss i x h)
+  comes_to x h c = c.same ∙ ap (λ a. perform_all s p (block a) t l) (drop_item ss i x h)
 
   pub comes_more : (x : Statement) (w : Task) (k : RunState) → slice_get ss i ≡ Some x → then_on (begun s.limit t l) (perform s p (action x)) ≡ Goes w k
       → Comes s p ss t0 l0 i t l → Comes s p ss t0 l0 (i + 1) w k
@@ -110,4 +110,4 @@ pub copied_more : (names : List Named) (i j : ℕ) (n : Named) (env given scope 
 copied_more names i j n env given scope new e h f g =
     f
     ∙ ap (λ s. record { name = n.name; value = value_of n.name env } ∷ s) (g ∙ ap (λ k. copied (map (λ n. n.name) (drop k names)) env ++ given) (sym e))
-    ∙ ap (λ ns. copied (map (λ n. n.name) ns) env ++ given) (sym (drop_at names i n h))
+    ∙ ap (λ ns. copied (map (λ n. n.name) ns) env ++ given) (sym (drop_item names i n h))

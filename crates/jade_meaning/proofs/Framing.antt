@@ -34,7 +34,7 @@ use Rattle.jade_meaning.specs.steps.Direct.{blame_at, drafted_with, amended_with
 use Rattle.jade_meaning.specs.steps.Evaluation.{Evaluation, Got, Answers, stopped, evaluate, evaluate_object}
 use Rattle.jade_meaning.specs.steps.Frames.{fed, Tells, frame_on, frames_from, frames_on, begun_with, course_of, Did, from_action, paused_as, opened_with}
 use Rattle.jade_meaning.specs.steps.Frames.{chosen, evaluate_store, evaluate_bounds}
-use Rattle.jade_meaning.proofs.Cells.{drop_at}
+use Rattle.jade_syntax.proofs.Limits.{drop_item}
 use Rattle.jade_meaning.proofs.Following.{turn_less, no_turn}
 use Rattle.jade_meaning.proofs.Evaluating.{fed_ends, fed_steps, fed_writes, fed_creates, fed_changes, eval_tells, find_tells, store_tells, bounds_tell}
 
@@ -248,7 +248,7 @@ module _ (s : Setting) (vs : List ℤ) (r : Running) where
       let rest : On = run_all s (block (drop (i + 1) b)) onward in
       let frames : frames_on s hs ≡ run s (action a) rest = ap (frames_on s) e2 ∙ frames_pushed s gs g finish ∙ eg (frames_on s gs)
       ∙ ap (run s (action a)) (ap (frames_on s) e1 ∙ frames_pushed s r.frames.items f finish ∙ ef onward) in
-      ap (λ l. begun_with vs (run_all s (block l) onward) r) (drop_at b i a h)
+      ap (λ l. begun_with vs (run_all s (block l) onward) r) (drop_item b i a h)
       ∙ step_goes (run s (action a) rest) lt
       ∙ ap (λ n. Steps (fed (drop r.used vs) (run s (action a) rest (record (mine_of r.task) { taken = n })))) (sym t)
       ∙ ap (λ on. Steps (fed (drop r.used vs) (on (record (mine_of r.task) { taken = taken })))) (sym frames)
@@ -256,7 +256,7 @@ module _ (s : Setting) (vs : List ℤ) (r : Running) where
   pub rest_stops : (b : List Statement) (i : ℕ) (a : Statement) → slice_get b i ≡ Some a → s.limit ≤ r.task.tally.taken
       → begun_with vs (run_all s (block (drop i b)) onward) r ≡ Ends (Some limit_blame)
   rest_stops b i a h le =
-      ap (λ l. begun_with vs (run_all s (block l) onward) r) (drop_at b i a h) ∙ step_stops (run s (action a) (run_all s (block (drop (i + 1) b)) onward)) le
+      ap (λ l. begun_with vs (run_all s (block l) onward) r) (drop_item b i a h) ∙ step_stops (run s (action a) (run_all s (block (drop (i + 1) b)) onward)) le
 
   pub rest_ends : (b : List Statement) (i : ℕ) → length b ≤ i → begun_with vs (run_all s (block (drop i b)) onward) r ≡ course_of s vs r
   rest_ends b i le = ap (λ l. begun_with vs (run_all s (block l) onward) r) (drop_all i b le)

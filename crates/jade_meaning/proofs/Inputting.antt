@@ -12,7 +12,7 @@ use Rattle.jade_syntax.specs.Abstract.{Name}
 use Rattle.jade_syntax.specs.Objects.{input_names}
 use Rattle.jade_meaning.specs.declared.values.Value.TheVariants.{IntOf}
 use Rattle.jade_meaning.specs.Course.{Environment, inputs}
-use Rattle.jade_meaning.proofs.Cells.{drop_at}
+use Rattle.jade_syntax.proofs.Limits.{drop_item}
 
 -- the items from a place on are variables, and so many numbers are left for those before it
 pub record Made (items : List Item) (numbers : List ℤ) (i n : ℕ) (scope : Environment) : Type 0 where
@@ -51,7 +51,7 @@ module _ (items : List Item) (numbers : List ℤ) (i j n : ℕ) (scope : Environ
       ∙ length-append (input_names (take i items)) (input_names (k ∷ []))
 
   rest_is : (k : Item) → item ≡ k → drop i items ≡ k ∷ drop j items
-  rest_is k e = drop_at items i item at_i ∙ ap (λ x. x ∷ drop (i + 1) items) e ∙ ap (λ t. k ∷ drop t items) next
+  rest_is k e = drop_item items i item at_i ∙ ap (λ x. x ∷ drop (i + 1) items) e ∙ ap (λ t. k ∷ drop t items) next
 
   pub input_left : (y : Name) (at : Pos) → item ≡ Input y at → 0 < n
   input_left y at e = omega (arith, counted_at (Input y at) e)

@@ -17,7 +17,6 @@ mod Listing
 mod Storing
 mod Performing
 mod Following
-mod Naming
 mod Inputting
 mod Reporting
 mod Examples

@@ -11,7 +11,7 @@ use Rattle.jade_syntax.specs.Numbering.{same_name}
 use Rattle.jade_syntax.specs.Objects.{amount, sizes}
 use Rattle.jade_meaning.specs.declared.resolve.Range.{Range}
 use Rattle.jade_meaning.specs.Course.{range_from}
-use Rattle.jade_meaning.proofs.Cells.{drop_at}
+use Rattle.jade_syntax.proofs.Limits.{drop_item}
 
 -- the items before a place have other names, and declare the objects before o
 pub record Passed (x : Name) (items : List Item) (o i : ℕ) : Type 0 where
@@ -24,7 +24,7 @@ pub record Counted (items : List Item) (o i : ℕ) : Type 0 where
 
 module _ (items : List Item) (o i : ℕ) (item : Item) (at_i : slice_get items i ≡ Some item) (h : Counted items o i) where
   sizes_from : (k : Item) → item ≡ k → sizes (drop i items) ≡ sizes (k ∷ drop (i + 1) items)
-  sizes_from k e = ap sizes (drop_at items i item at_i ∙ ap (λ y. y ∷ drop (i + 1) items) e)
+  sizes_from k e = ap sizes (drop_item items i item at_i ∙ ap (λ y. y ∷ drop (i + 1) items) e)
 
   pub input_counted : (y : Name) (at : Pos) (p : ℕ) → item ≡ Input y at → p ≡ o → Counted items p (i + 1)
   input_counted y at p e f =
@@ -62,7 +62,7 @@ module _ (items : List Item) (o i : ℕ) (item : Item) (at_i : slice_get items i
 
 module _ (x : Name) (items : List Item) (o i : ℕ) (item : Item) (at_i : slice_get items i ≡ Some item) where
   opened : (k : Item) → item ≡ k → drop i items ≡ k ∷ drop (i + 1) items
-  opened k e = drop_at items i item at_i ∙ ap (λ y. y ∷ drop (i + 1) items) e
+  opened k e = drop_item items i item at_i ∙ ap (λ y. y ∷ drop (i + 1) items) e
 
   pub single_here : (y : Name) (at : Pos) (size : Number) (n : ℕ) → item ≡ Single y at size → same_name x y ≡ true → n ≡ amount size.value
       → range_from 0 x items ≡ range_from o x (drop i items) → record { first = o; count = 1; size = n } ≡ range_from 0 x items

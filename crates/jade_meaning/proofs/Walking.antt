@@ -1,6 +1,6 @@
 -- A task that is walked, event by event.
 use Rattle.std.proofs.Common.{◌≡◌, ℕ, zero, suc, ◌+◌, ◌≤◌, true, false, List, [], ◌∷◌, ◌++◌, map, length, refl, ap, sym, ◌∙◌, subst, append_assoc, drop}
-use Rattle.std.proofs.Common.{Option, Some, None, ◌<◌, arith, add-one}
+use Rattle.std.proofs.Common.{append-nil, Option, Some, None, ◌<◌, arith, add-one}
 use Rattle.std.specs.Prelude.{ℤ, slice_get}
 use Rattle.std.proofs.lemmas.List.{drop_all, drop-append-le}
 use Rattle.jade_base.specs.declared.place.ObjectId.{ObjectId}
@@ -26,17 +26,26 @@ use Rattle.jade_syntax.specs.declared.tree.Item.{Item}
 use Rattle.jade_meaning.specs.Walk.{setting_of, begun_as, First, act_of, carried_of, is_answered, Passes, Bears, IsChildOf, task_of}
 use Rattle.jade_meaning.specs.steps.Walking.{goes_with, read_of, enrolls, creates}
 use Rattle.jade_meaning.proofs.Ending.{talk_closed, last_closes, not_last}
-use Rattle.jade_meaning.proofs.Cells.{drop_at}
+use Rattle.jade_syntax.proofs.Limits.{drop_item}
 use Rattle.jade_meaning.proofs.Evaluating.{fed_append}
 
-append_nil : {A : Type 0} (xs : List A) → xs ++ [] ≡ xs
-append_nil [] = refl
-append_nil (x ∷ xs) = ap (λ ys. x ∷ ys) (append_nil xs)
+-- what a task is seen as, of what every task of the run has, what it began with, its answers, and how many of its events are done
+abbrev pub walk_of : Setting → Environment → Specification → List Statement → List ℤ → ℕ → Walk
+walk_of s env spec body answers done = record {
+  items = s.items;
+  given = s.given;
+  limit = s.limit;
+  env = env;
+  spec = spec;
+  body = body;
+  answers = answers;
+  done = done;
+}
 
 -- the first that is pending comes first
 pub first_pending : (w : Task) (ps : List PendingEvent) (k : ℕ) (x : PendingEvent) (rest : List Event) (P : Event → Type 0) → slice_get ps k ≡ Some x
     → P (event_of w x) → First (map (event_of w) (drop k ps) ++ rest) P
-first_pending w ps k x rest P h p = subst (λ xs. First (map (event_of w) xs ++ rest) P) (sym (drop_at ps k x h)) p
+first_pending w ps k x rest P h p = subst (λ xs. First (map (event_of w) xs ++ rest) P) (sym (drop_item ps k x h)) p
 
 -- where nothing is pending, a read is asked for
 asked_first : (w : Task) (xs : List PendingEvent) (stage : Stage) (c : Course) (spec : Specification) (h : Holds) (n : ℕ) (P : Event → Type 0) → xs ≡ []
@@ -58,7 +67,7 @@ carried_asked w ps k stage c spec h n le g = asked_first w (drop k ps) stage c s
 -- the next event of a task that stands so
 module _ {s : Setting} {env : Environment} {spec : Specification} {body : List Statement} {answers : List ℤ} {done told : ℕ} {t : Configuration} where
   now_known : AgreesWithTalk s env spec body answers done told t → drop done (talk (task_from s env spec body) answers) ≡ ahead s answers t told []
-  now_known st = ap (λ a. drop done (talk (task_from s env spec body) a)) (sym (append_nil answers)) ∙ st.known []
+  now_known st = ap (λ a. drop done (talk (task_from s env spec body) a)) (sym (append-nil answers)) ∙ st.known []
 
   pub first_known : AgreesWithTalk s env spec body answers done told t → (P : Event → Type 0) → First (ahead s answers t told []) P
       → First (drop done (talk (task_from s env spec body) answers)) P

@@ -10,6 +10,7 @@ pub mod Laws
 pub mod Answer
 pub mod Proper
 pub mod Report
+pub mod Plan
 pub mod ReportAnswer
 pub mod Walks
 pub mod Codes

@@ -10,7 +10,7 @@ use Rattle.jade_syntax.specs.Abstract.{AbstractProgram}
 use Rattle.jade_syntax.specs.Objects.{sizes}
 use Rattle.jade_meaning.specs.Laws.{Every}
 use Rattle.jade_meaning.specs.Answer.{parts_by_key}
-use Rattle.jade_meaning.specs.Serial.{Path, Mark, Part, after, Store, zeros, serial_run}
+use Rattle.jade_meaning.specs.Serial.{Path, Mark, Part, after, zeros, serial_run}
 
 -- the note of a part that ended with a fault
 abbrev pub fault_of : Option Blame → Part → Option FaultNote
@@ -33,14 +33,13 @@ step_of p = record { path = p.path; children = p.children; steps = p.steps }
 abbrev pub steps_of : List Mark → List PartStep
 steps_of ms = map step_of (parts_by_key ms)
 
--- the report of these marks, from a store on, in which no object was taken for commuting
-abbrev pub reported : List Mark → Store → Report
-reported ms store =
-    record { objects = after ms store; faults = faults ms; turns = replicate (length store) []; steps = steps_of ms }
+-- the report of these marks on objects of these sizes: no object was taken for commuting, so each has an empty list of turns
+abbrev pub reported : (object_sizes : List ℕ) → List Mark → Report
+reported ns ms = record { objects = after ms (zeros ns); faults = faults ms; turns = replicate (length ns) []; steps = steps_of ms }
 
 -- the report of the serial run of a program
 abbrev pub report : AbstractProgram → (numbers : List ℤ) → (limit : ℕ) → Report
-report p ns limit = reported (serial_run p ns limit) (zeros (sizes p.items))
+report p ns limit = reported (sizes p.items) (serial_run p ns limit)
 
 -- keys that ascend strictly
 abbrev pub Ascends : List Path → Type 0

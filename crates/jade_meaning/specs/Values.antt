@@ -1,5 +1,6 @@
 -- Values, and what the operators give.
-use Rattle.std.specs.Prelude.{ℕ, ◌^◌, Bool, false, not, ℤ, pos, negsuc, ◌+ℤ◌, ◌-ℤ◌, ◌*ℤ◌, neg_ℤ, int_lt, int_le, int_div, int_rem, nat_lt, if◌then◌else◌}
+use Rattle.std.specs.Prelude.{ℕ, ◌^◌, Bool, true, false, not, ℤ, pos, negsuc, ◌+ℤ◌, ◌-ℤ◌, ◌*ℤ◌, neg_ℤ}
+use Rattle.std.specs.Prelude.{int_lt, int_le, int_div, int_rem, nat_lt, if◌then◌else◌}
 use Rattle.std.specs.Ordering.{int_eq}
 use Rattle.jade_base.specs.declared.report.FaultKind.{FaultKind}
 use Rattle.jade_base.specs.declared.report.FaultKind.TheVariants.{Overflow, Zero}
@@ -54,42 +55,37 @@ multiplied Times x y = fitting (x *ℤ y)
 multiplied Over x y = divided int_div x y
 multiplied Remainder x y = divided int_rem x y
 
--- what an operator makes of two numbers
-abbrev pub computed : Operator → ℤ → ℤ → Given
-computed (Relates r) x y = Gives (BoolOf (related r x y))
-computed (Adds s) x y = added s x y
-computed (Multiplies p) x y = multiplied p x y
-computed Or x y = Gives (IntOf y)
-computed And x y = Gives (IntOf y)
+-- the number that a value is: a truth value is 1 or 0
+abbrev pub whole : Value → ℤ
+whole (IntOf x) = x
+whole (BoolOf true) = pos 1
+whole (BoolOf false) = pos 0
 
--- what an operator makes of two values; of two truth values whose first decides nothing the second is the answer
+-- the truth of a value: a number is true where it is not 0
+abbrev pub holds : Value → Bool
+holds (IntOf x) = not (int_eq x (pos 0))
+holds (BoolOf b) = b
+
+-- what an operator makes of two values; where the first decides nothing, the second is the answer of `||` and `&&`
 abbrev pub operated : Operator → Value → Value → Given
-operated op (IntOf x) (IntOf y) = computed op x y
-operated op (IntOf x) (BoolOf y) = Gives (BoolOf y)
-operated op (BoolOf x) w = Gives w
+operated (Relates r) v w = Gives (BoolOf (related r (whole v) (whole w)))
+operated (Adds s) v w = added s (whole v) (whole w)
+operated (Multiplies p) v w = multiplied p (whole v) (whole w)
+operated Or v w = Gives w
+operated And v w = Gives w
 
 -- the operand before a `||` or `&&` that makes what follows needless
 abbrev pub decides : Operator → Value → Bool
-decides Or (BoolOf b) = b
-decides And (BoolOf b) = not b
-decides op v = false
+decides Or v = holds v
+decides And v = not (holds v)
+decides (Relates r) v = false
+decides (Adds s) v = false
+decides (Multiplies p) v = false
 
--- a sign before a value
+-- what a sign makes of a value
 abbrev pub signed : UnaryOp → Value → Given
-signed Negative (IntOf x) = fitting (neg_ℤ x)
-signed Not (BoolOf b) = Gives (BoolOf (not b))
-signed Negative (BoolOf b) = Gives (BoolOf b)
-signed Not (IntOf x) = Gives (IntOf x)
-
--- the number that a value is
-abbrev pub whole : Value → ℤ
-whole (IntOf x) = x
-whole (BoolOf b) = pos 0
-
--- the truth of a value
-abbrev pub holds : Value → Bool
-holds (IntOf x) = false
-holds (BoolOf b) = b
+signed Negative v = fitting (neg_ℤ (whole v))
+signed Not v = Gives (BoolOf (not (holds v)))
 
 -- a number from 0 on that is below n
 abbrev pub is_index : ℤ → ℕ → Bool

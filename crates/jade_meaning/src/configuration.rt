@@ -289,7 +289,8 @@ pub(crate) fn onward<'c>(
     at: &Configuration<'c>,
     answers: &[i64],
 ) -> Result<Configuration<'c>, Memory>
-    ensures same { IfOk result (λ t. (vs : List ℤ) → events (course_of (shown setting.now) answers.now at.now.run) at.now.spec at.now.holds at.now.part vs ≡ ahead (shown setting.now) answers.now t 0 vs) }
+    ensures same { IfOk result (λ t. (vs : List ℤ) → events (course_of (shown setting.now) answers.now at.now.run) at.now.spec at.now.holds at.now.part vs
+        ≡ ahead (shown setting.now) answers.now t 0 vs) }
     ensures ready { IfOk result (λ t. ready t.pending.items t.stage ≡ true) }
 {
     let mut next = resumed(setting.alloc, at)?;
@@ -345,7 +346,8 @@ pub(crate) fn begun<'c>(
     spec: &DenseSpec,
     body: &'c Block,
 ) -> Result<Configuration<'c>, Memory>
-    ensures same { IfOk result (λ t. (vs : List ℤ) → talk (task_from (shown setting.now) scope.now spec.now body.now) vs ≡ ahead (shown setting.now) [] t 0 vs) }
+    ensures same { IfOk result (λ t. (vs : List ℤ) → talk (task_from (shown setting.now) scope.now spec.now body.now) vs
+        ≡ ahead (shown setting.now) [] t 0 vs) }
     ensures ready { IfOk result (λ t. ready t.pending.items t.stage ≡ true) }
 {
     let mut at = unbegun(setting, scope, spec, body)?;

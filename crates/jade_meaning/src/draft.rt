@@ -101,7 +101,8 @@ impl Draft {
 
     /// A word of a section on an object; the error is the fault `change`, and changes nothing.
     pub(crate) fn declare(&mut self, word: DeclareWord, object: usize, at: Pos) -> Result<(), Blame>
-        ensures { MatchResult result (λ _. drafted_with self.old word object at ≡ Ok self.new) (λ blame. (drafted_with self.old word object at ≡ Err blame) × (self.new ≡ self.old)) }
+        ensures { MatchResult result (λ _. drafted_with self.old word object at ≡ Ok self.new)
+            (λ blame. (drafted_with self.old word object at ≡ Err blame) × (self.new ≡ self.old)) }
     {
         match self.kind {
             DraftKind::Absent => Ok(()),

@@ -107,7 +107,8 @@ impl<'c> Setting<'c> {
         answers: &[i64],
         run: &mut Running<'c>,
     ) -> Result<Transition<'c>, Memory>
-        ensures { (kind : ValueKind) → IfOk result (λ transition. Did (shown self.now) answers.now transition (abstract.Local kind name.now (expression value.now)) run.old run.new) }
+        ensures { (kind : ValueKind)
+            → IfOk result (λ transition. Did (shown self.now) answers.now transition (abstract.Local kind name.now (expression value.now)) run.old run.new) }
     {
         let mut used = run.used;
         match self.evaluate(&run.task, &Cells::Answered(answers), &mut used, value) {
@@ -150,7 +151,9 @@ impl<'c> Setting<'c> {
         cells: &Cells,
         used: &mut usize,
     ) -> Result<(usize, usize, i64), Pause>
-        ensures { evaluated result used.new ≡ evaluate_store self.now.items task.now.scope task.now.spec (source cells.now) (reference target.now).place (reference target.now).cell (expression value.now) used.old }
+        ensures { evaluated result used.new
+            ≡ evaluate_store self.now.items task.now.scope task.now.spec (source cells.now) (reference target.now).place (reference target.now).cell
+            (expression value.now) used.old }
     {
         let found = match self.evaluate_object(
             task,
@@ -191,7 +194,8 @@ impl<'c> Setting<'c> {
         answers: &[i64],
         run: &mut Running<'c>,
     ) -> Transition<'c>
-        ensures { Did (shown self.now) answers.now result (abstract.Store (reference target.now).place (reference target.now).cell (expression value.now)) run.old run.new }
+        ensures { Did (shown self.now) answers.now result (abstract.Store (reference target.now).place (reference target.now).cell
+            (expression value.now)) run.old run.new }
     {
         let mut used = run.used;
         match self.stored(
@@ -249,7 +253,8 @@ impl<'c> Setting<'c> {
         answers: &[i64],
         run: &mut Running<'c>,
     ) -> Result<Transition<'c>, Memory>
-        ensures { IfOk result (λ transition. Did (shown self.now) answers.now transition (chosen (expression test.now) then.now otherwise.now) run.old run.new) }
+        ensures { IfOk result (λ transition. Did (shown self.now) answers.now transition
+            (chosen (expression test.now) then.now otherwise.now) run.old run.new) }
     {
         let mut used = run.used;
         match self.evaluate(&run.task, &Cells::Answered(answers), &mut used, test) {
@@ -280,7 +285,8 @@ impl<'c> Setting<'c> {
         cells: &Cells,
         used: &mut usize,
     ) -> Result<(i64, i64), Pause>
-        ensures { evaluated result used.new ≡ evaluate_bounds self.now.items task.now.scope task.now.spec (source cells.now) (expression low.now) (expression high.now) used.old }
+        ensures { evaluated result used.new
+            ≡ evaluate_bounds self.now.items task.now.scope task.now.spec (source cells.now) (expression low.now) (expression high.now) used.old }
     {
         let low = match self.evaluate(task, cells, used, low) {
             Ok(value) => value.whole(),
@@ -301,7 +307,8 @@ impl<'c> Setting<'c> {
         answers: &[i64],
         run: &mut Running<'c>,
     ) -> Result<Transition<'c>, Memory>
-        ensures { IfOk result (λ transition. Did (shown self.now) answers.now transition (abstract.For name.now (expression range.entry.0.now) (expression range.entry.1.now) (block body.now)) run.old run.new) }
+        ensures { IfOk result (λ transition. Did (shown self.now) answers.now transition
+            (abstract.For name.now (expression range.entry.0.now) (expression range.entry.1.now) (block body.now)) run.old run.new) }
     {
         let mut used = run.used;
         let (low, high) = range;
@@ -324,7 +331,8 @@ impl<'c> Setting<'c> {
         body: &'c Block,
         run: &mut Running<'c>,
     ) -> Result<Transition<'c>, Memory>
-        ensures { (vs : List ℤ) → IfOk result (λ transition. Did (shown self.now) vs transition (abstract.Withonly at (block section.now) (map (λ n. n.name) names.now) (block body.now)) run.old run.new) }
+        ensures { (vs : List ℤ) → IfOk result (λ transition. Did (shown self.now) vs transition
+            (abstract.Withonly at (block section.now) (map (λ n. n.name) names.now) (block body.now)) run.old run.new) }
     {
         self.begin_building(&mut run.task)?;
         run.frames.push(Frame::Creating(at, names, body))?;
@@ -441,7 +449,8 @@ impl<'c> Setting<'c> {
         range: (i64, i64),
         run: &mut Running<'c>,
     ) -> Result<Transition<'c>, Memory>
-        ensures { (vs : List ℤ) → IfOk result (λ transition. DoesNext (shown self.now) vs transition (Frame.Turning name.entry body.entry range) run.old run.new) }
+        ensures { (vs : List ℤ) → IfOk result (λ transition. DoesNext (shown self.now) vs transition
+            (Frame.Turning name.entry body.entry range) run.old run.new) }
     {
         if is_left(range) {
             match run.task.tally.begin_step(self.limit) {
@@ -467,7 +476,8 @@ impl<'c> Setting<'c> {
         body: &'c Block,
         run: &mut Running<'c>,
     ) -> Result<Transition<'c>, Memory>
-        ensures { (vs : List ℤ) → IfOk result (λ transition. DoesNext (shown self.now) vs transition (Frame.Creating at names.entry body.entry) run.old run.new) }
+        ensures { (vs : List ℤ) → IfOk result (λ transition. DoesNext (shown self.now) vs transition
+            (Frame.Creating at names.entry body.entry) run.old run.new) }
     {
         let spec = self.end_building(&mut run.task)?;
         if !run.task.spec.covers(&spec) {

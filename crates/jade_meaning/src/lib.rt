@@ -7,8 +7,9 @@ mod draft;
 mod frames;
 mod holds;
 pub mod laws;
+pub mod plan;
 pub mod ready;
-mod resolve;
+pub mod resolve;
 mod run_state;
 mod scope;
 pub mod serial;
@@ -20,6 +21,7 @@ mod tally;
 pub mod values;
 pub mod walker;
 
+pub use plan::Plan;
 pub use ready::can_run;
 pub use serial::{serial_program, serial_run};
 pub use walker::{Act, Carried, Walker};

@@ -1,17 +1,19 @@
 //! The objects that names stand for.
 
 ghost use Rattle.std.specs.Prelude.{◌≡◌, ◌+◌, ◌≤◌, length};
+ghost use Rattle.jade_syntax.specs.declared.objects.TheConstants.{OBJECT_LIMIT};
 ghost use Rattle.jade_syntax.specs.Numbering.{same_name};
 ghost use Rattle.jade_syntax.specs.Objects.{sizes};
 ghost use Rattle.jade_meaning.specs.Course.{range_from};
 
 use jade_syntax::Name;
+use jade_syntax::name::same_name as same_bytes;
 use jade_syntax::objects::{amount_of, count_objects};
 use jade_syntax::tree::{Item, Items};
 use std::marker::Model;
 
-/// The objects that a name stands for: their first number, how many they are, and the cells of
-/// each.
+/// The objects that a name stands for: the number of the first, how many they are, and the number
+/// of cells of each. Their numbers follow one another.
 #[derive(Clone, Copy, Debug, PartialEq, Eq)]
 pub struct Range {
     pub first: usize,
@@ -19,30 +21,32 @@ pub struct Range {
     pub size: usize,
 }
 
-/// An object's number and the number of its cells.
+/// One object that a name stands for: its number, and the number of its cells.
 #[derive(Clone, Copy, Debug, PartialEq, Eq)]
 pub struct ResolvedObject {
     pub number: usize,
     pub size: usize,
 }
 
-// Whether two names are the same.
+/// Whether two names are the same.
 pub(crate) fn same_name(first: &Name, second: &Name) -> bool
     ensures { result ≡ same_name first.now second.now }
 {
-    first.bytes() == second.bytes()
+    same_bytes(first.bytes(), second.bytes())
 }
 
-/// The items of a program of at most 4,096 objects, which contracts see as the list of them.
+/// The items of a program, by which the names of its objects are resolved. Contracts see the list
+/// of them. Its type keeps that they declare no more objects than a program may.
 #[derive(Drop)]
-pub(crate) struct Declared<'c> {
+pub struct DeclaredItems<'c> {
     items: &'c Items,
     objects: usize,
 }
 
-impl<'c> Model for Declared<'c> {
+impl<'c> Model for DeclaredItems<'c> {
     ghost use Rattle.std.specs.Prelude.{◌≡◌, List, ◌≤◌, length};
     ghost use Rattle.std.specs.Coded.{coded_list};
+    ghost use Rattle.jade_syntax.specs.declared.objects.TheConstants.{OBJECT_LIMIT};
     ghost use Rattle.jade_syntax.specs.declared.tree.Item.{Item as ItemOf};
     ghost use Rattle.jade_syntax.specs.contracts.tree.Item as item;
     ghost use Rattle.jade_syntax.specs.Objects.{sizes};
@@ -53,43 +57,50 @@ impl<'c> Model for Declared<'c> {
 
     ghost view = { λ d. d.items.now };
 
-    ghost invariant = { λ d. (d.objects ≡ length (sizes d.items.now)) × (length (sizes d.items.now) ≤ 4096) };
+    ghost invariant = { λ d. (d.objects ≡ length (sizes d.items.now)) × (length (sizes d.items.now) ≤ OBJECT_LIMIT) };
 }
 
-impl<'c> Declared<'c> {
-    /// These items.
-    pub(crate) fn of(items: &'c Items) -> Declared<'c>
-        requires { length (sizes items.now) ≤ 4096 }
+impl<'c> DeclaredItems<'c> {
+    /// These items. It takes no memory.
+    pub fn of(items: &'c Items) -> DeclaredItems<'c>
+        requires { length (sizes items.now) ≤ OBJECT_LIMIT }
         ensures { result ≡ items.now }
     {
-        Declared {
+        DeclaredItems {
             items,
             objects: count_objects(items),
         }
     }
 
-    /// The same items.
-    pub(crate) fn copy(&self) -> Declared<'c>
+    /// The same items. It takes no memory.
+    pub fn copy(&self) -> DeclaredItems<'c>
         ensures { result ≡ self.now }
     {
-        Declared {
+        DeclaredItems {
             items: self.items,
             objects: self.objects,
         }
     }
 
-    /// The number of objects.
-    pub(crate) fn objects(&self) -> usize
+    /// The items. It takes no memory.
+    pub fn items(&self) -> &'c Items
+        ensures { result.now ≡ self.now }
+    {
+        self.items
+    }
+
+    /// The number of objects. It takes no memory, and does not go through the items.
+    pub fn objects(&self) -> usize
         ensures { result ≡ length (sizes self.now) }
     {
         self.objects
     }
 
-    /// The objects that a name stands for; one that is not declared has the number after the last,
-    /// and no cell.
-    pub(crate) fn range(&self, name: &Name) -> Range
+    /// The objects that a name stands for. One that is not declared as an object stands for none: its
+    /// range begins after the last object, and its objects have no cell. It takes no memory.
+    pub fn range(&self, name: &Name) -> Range
         ensures range { result ≡ range_from 0 name.now self.now }
-        ensures bounded { result.first + result.count ≤ 4096 }
+        ensures bounded { result.first + result.count ≤ OBJECT_LIMIT }
     {
         range_of(self.items, name)
     }
@@ -97,9 +108,9 @@ impl<'c> Declared<'c> {
 
 // The objects that a name stands for.
 fn range_of(items: &Items, name: &Name) -> Range
-    requires { length (sizes items.now) ≤ 4096 }
+    requires { length (sizes items.now) ≤ OBJECT_LIMIT }
     ensures range { result ≡ range_from 0 name.now items.now }
-    ensures bounded { result.first + result.count ≤ 4096 }
+    ensures bounded { result.first + result.count ≤ OBJECT_LIMIT }
 {
     let mut first = 0;
     for i in 0..items.len() {

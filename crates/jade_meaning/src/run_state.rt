@@ -1,6 +1,6 @@
 //! What a run has done so far: the cells of the objects, the faults, and the steps of the parts.
 
-ghost use Rattle.std.specs.Prelude.{◌≡◌, [], ◌∷◌, ◌++◌, IfOk, OnOk, List, map, length, replicate, pos};
+ghost use Rattle.std.specs.Prelude.{◌≡◌, [], ◌∷◌, ◌++◌, IfOk, OnOk, List, map, replicate, pos};
 ghost use Rattle.jade_syntax.specs.Objects.{sizes};
 ghost use Rattle.jade_meaning.specs.Serial.{cell, with_cell, zeros};
 ghost use Rattle.jade_meaning.specs.steps.Carry.{noted, report_of};
@@ -40,13 +40,6 @@ impl Store {
             add_objects(&mut objects, alloc, count, size)?;
         }
         Ok(Store { objects })
-    }
-
-    /// The number of objects.
-    fn len(&self) -> usize
-        ensures { result ≡ length self.now }
-    {
-        self.objects.len()
     }
 
     /// The cells of each object as a list.
@@ -116,11 +109,11 @@ impl RunState {
         })
     }
 
-    /// The report of it, with an empty list of turns for each object.
-    pub(crate) fn into_report(self, alloc: Global) -> Result<Report, Memory>
-        ensures { IfOk result (λ report. report ≡ report_of self) }
+    /// The report of it, with an empty list of turns for each of so many objects.
+    pub(crate) fn into_report(self, alloc: Global, objects: usize) -> Result<Report, Memory>
+        ensures { IfOk result (λ report. report ≡ report_of objects self) }
     {
-        let turns = no_turns(alloc, self.objects.len())?;
+        let turns = no_turns(alloc, objects)?;
         let objects = self.objects.into_lists(alloc)?;
         Ok(Report {
             objects,

@@ -1,13 +1,14 @@
 //! The serial run of a program.
 
 ghost use Rattle.std.specs.Prelude.{◌≡◌, ◌≤◌, length, IfOk};
+ghost use Rattle.jade_syntax.specs.declared.objects.TheConstants.{OBJECT_LIMIT};
 ghost use Rattle.jade_syntax.specs.Image.{program as abstracted};
 ghost use Rattle.jade_syntax.specs.Objects.{input_names, sizes};
 ghost use Rattle.jade_meaning.specs.Course.{inputs};
 ghost use Rattle.jade_meaning.specs.Report.{report};
 
 use crate::dense_spec::DenseSpec;
-use crate::resolve::Declared;
+use crate::resolve::DeclaredItems;
 use crate::run_state::RunState;
 use crate::scope::Scope;
 use crate::setting::Setting;
@@ -42,13 +43,14 @@ pub fn serial_program(
     limit: u32,
 ) -> Result<Report, Memory>
     requires given { length numbers.now ≡ length (input_names program.now.items) }
-    requires objects { length (sizes program.now.items) ≤ 4096 }
+    requires objects { length (sizes program.now.items) ≤ OBJECT_LIMIT }
     ensures { IfOk result (λ done. done ≡ report (abstracted program.now) numbers.now limit) }
 {
-    let items = Declared::of(&program.items);
+    let items = DeclaredItems::of(&program.items);
     let given = inputs(alloc, &program.items, numbers)?;
     let scope = given.copy(alloc)?;
-    let spec = DenseSpec::all(alloc, items.objects())?;
+    let count = items.objects();
+    let spec = DenseSpec::all(alloc, count)?;
     let path = Path::root(alloc)?;
     let mut state = RunState::start(alloc, &program.items)?;
     let setting = Setting {
@@ -58,7 +60,7 @@ pub fn serial_program(
         limit,
     };
     setting.run(scope, spec, &program.main, &path, &mut state)?;
-    state.into_report(alloc)
+    state.into_report(alloc, count)
 }
 
 // The inputs as variables with these values.

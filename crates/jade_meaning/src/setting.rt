@@ -1,14 +1,16 @@
 //! What every task of a run has, what a task has of its own, and the values of expressions.
 
 ghost use Rattle.std.specs.Prelude.{◌≡◌, ◌+◌, ◌≤◌};
+ghost use Rattle.jade_syntax.specs.declared.objects.TheConstants.{OBJECT_LIMIT};
 ghost use Rattle.jade_syntax.specs.Abstract.{Cell};
-ghost use Rattle.jade_syntax.specs.Image.{expression, and_expression, compare_expression, sum_expression, product_expression, unary_expression, atom_expression, reference, placed, member};
+ghost use Rattle.jade_syntax.specs.Image.{expression, and_expression, compare_expression, sum_expression, product_expression, unary_expression};
+ghost use Rattle.jade_syntax.specs.Image.{atom_expression, reference, placed, member};
 ghost use Rattle.jade_meaning.specs.steps.Direct.{worth, located, blame_at, member_of, index_in, indexed};
 ghost use Rattle.jade_meaning.specs.steps.Evaluation.{evaluated, source, evaluate, evaluate_object, evaluate_read};
 
 use crate::dense_spec::DenseSpec;
 use crate::draft::Draft;
-use crate::resolve::{Declared, Range, ResolvedObject};
+use crate::resolve::{DeclaredItems, Range, ResolvedObject};
 use crate::run_state::Store;
 use crate::scope::Scope;
 use crate::source::{Cells, Pause};
@@ -33,7 +35,7 @@ pub(crate) struct Task<'c> {
 #[derive(Drop)]
 pub(crate) struct Setting<'c> {
     pub(crate) alloc: Global,
-    pub(crate) items: Declared<'c>,
+    pub(crate) items: DeclaredItems<'c>,
     pub(crate) given: Scope<'c>,
     pub(crate) limit: u32,
 }
@@ -50,7 +52,7 @@ pub(crate) fn blame_at(kind: FaultKind, at: Pos) -> Blame
 
 /// A member of a family, or the fault `object`.
 fn member_of(range: Range, index: i64, at: Pos) -> Result<ResolvedObject, Blame>
-    requires { range.first + range.count ≤ 4096 }
+    requires { range.first + range.count ≤ OBJECT_LIMIT }
     ensures { result ≡ member_of range index at }
 {
     match index_below(index, range.count) {
@@ -280,7 +282,8 @@ impl<'c> Setting<'c> {
         used: &mut usize,
         e: &CellRef,
     ) -> Result<Value, Pause>
-        ensures { evaluated result used.new ≡ evaluate self.now.items task.now.scope task.now.spec (source cells.now) (Cell (reference e.now).place (reference e.now).cell) used.old }
+        ensures { evaluated result used.new
+            ≡ evaluate self.now.items task.now.scope task.now.spec (source cells.now) (Cell (reference e.now).place (reference e.now).cell) used.old }
     {
         let found = match self.evaluate_object(task, cells, used, &e.name, e.pos, &e.family) {
             Ok(found) => found,
@@ -307,7 +310,8 @@ impl<'c> Setting<'c> {
         at: Pos,
         family: &Option<Expr>,
     ) -> Result<ResolvedObject, Pause>
-        ensures { evaluated result used.new ≡ evaluate_object self.now.items task.now.scope task.now.spec (source cells.now) (placed name.now at (member family.now)) used.old }
+        ensures { evaluated result used.new
+            ≡ evaluate_object self.now.items task.now.scope task.now.spec (source cells.now) (placed name.now at (member family.now)) used.old }
     {
         let range = self.items.range(name);
         match family {

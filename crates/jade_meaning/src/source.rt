@@ -23,7 +23,8 @@ pub(crate) enum Pause {
 impl Cells<'_> {
     /// What a cell holds, where `used` answers are used; none where there is no answer.
     pub(crate) fn next(&self, object: usize, cell: usize, used: &mut usize) -> Option<i64>
-        ensures { MatchOption result (next_of (source self.now) object cell used.old ≡ Awaits object cell) (λ z. next_of (source self.now) object cell used.old ≡ Got z used.new) }
+        ensures { MatchOption result (next_of (source self.now) object cell used.old ≡ Awaits object cell)
+            (λ z. next_of (source self.now) object cell used.old ≡ Got z used.new) }
     {
         match self {
             Cells::Stored(store) => Some(store.read(object, cell)),

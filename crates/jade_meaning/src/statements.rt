@@ -7,7 +7,8 @@ ghost use Rattle.jade_meaning.specs.Course.{NoDraft, Building, Amending, copied,
 ghost use Rattle.jade_meaning.specs.steps.Carry.{noted};
 ghost use Rattle.jade_meaning.specs.Specification.{fitted};
 ghost use Rattle.jade_meaning.specs.Values.{turn_count};
-ghost use Rattle.jade_meaning.specs.steps.Perform.{Goes, Follows, shown, begun, within, localized, reassigned, stored, declared_on, turned, turned_once, perform, perform_all, created, changed, child_task, ended, then_on};
+ghost use Rattle.jade_meaning.specs.steps.Perform.{Goes, Follows, shown, begun, within, localized, reassigned, stored, declared_on, turned, turned_once};
+ghost use Rattle.jade_meaning.specs.steps.Perform.{perform, perform_all, created, changed, child_task, ended, then_on};
 
 use crate::dense_spec::DenseSpec;
 use crate::draft::Draft;
@@ -79,7 +80,8 @@ impl<'c> Setting<'c> {
         task: &Task<'c>,
         state: &mut RunState,
     ) -> Result<(), Stop>
-        ensures { Follows result (stored (shown self.now) (reference target.now).place (reference target.now).cell (expression value.now) task.now state.old) task.now state.new }
+        ensures { Follows result (stored (shown self.now) (reference target.now).place (reference target.now).cell
+            (expression value.now) task.now state.old) task.now state.new }
     {
         let found = match self.located(
             task,
@@ -275,7 +277,8 @@ impl<'c> Setting<'c> {
         task: &mut Task<'c>,
         state: &mut RunState,
     ) -> Result<(), Stop>
-        ensures { Follows result (perform (shown self.now) path.now (For name.now (expression low.now) (expression high.now) (block body.now)) task.old state.old) task.new state.new }
+        ensures { Follows result (perform (shown self.now) path.now (For name.now (expression low.now) (expression high.now)
+            (block body.now)) task.old state.old) task.new state.new }
     {
         let low = self.value(task, &state.objects, low)?.whole();
         let high = self.value(task, &state.objects, high)?.whole();
@@ -291,7 +294,8 @@ impl<'c> Setting<'c> {
         task: &mut Task<'c>,
         state: &mut RunState,
     ) -> Result<(), Stop>
-        ensures { let u = record task.old { draft = Building (none_of self.now.items) } in Follows result (within u (perform_all (shown self.now) path.now (block section.now) u state.old)) task.new state.new }
+        ensures { let u = record task.old { draft = Building (none_of self.now.items) } in
+            Follows result (within u (perform_all (shown self.now) path.now (block section.now) u state.old)) task.new state.new }
     {
         self.begin_building(task)?;
         self.scoped(section, path, task, state)
@@ -306,7 +310,9 @@ impl<'c> Setting<'c> {
         task: &mut Task<'c>,
         state: &mut RunState,
     ) -> Result<(), Stop>
-        ensures { let u = record task.old { draft = Amending task.old.spec } in Follows result (then_on (within u (perform_all (shown self.now) path.now (block section.now) u state.old)) (λ w m. Goes (changed w) m)) task.new state.new }
+        ensures { let u = record task.old { draft = Amending task.old.spec } in
+            Follows result (then_on (within u (perform_all (shown self.now) path.now (block section.now) u state.old))
+            (λ w m. Goes (changed w) m)) task.new state.new }
     {
         self.begin_amending(task)?;
         self.scoped(section, path, task, state)?;
@@ -323,7 +329,8 @@ impl<'c> Setting<'c> {
         task: &mut Task<'c>,
         state: &mut RunState,
     ) -> Result<(), Stop>
-        ensures { Follows result (then_on (begun self.now.limit task.old state.old) (perform (shown self.now) path.now (action statement.now))) task.new state.new }
+        ensures { Follows result (then_on (begun self.now.limit task.old state.old)
+            (perform (shown self.now) path.now (action statement.now))) task.new state.new }
     {
         match self.begin(task, state) {
             Ok(()) => self.statement(statement, path, task, state),
@@ -384,7 +391,8 @@ impl<'c> Setting<'c> {
         task: &mut Task<'c>,
         state: &mut RunState,
     ) -> Result<(), Stop>
-        ensures { Follows result (turned self.now.limit (turn_count low high) low name.now (perform_all (shown self.now) path.now (block body.now)) task.old state.old) task.new state.new }
+        ensures { Follows result (turned self.now.limit (turn_count low high) low name.now
+            (perform_all (shown self.now) path.now (block body.now)) task.old state.old) task.new state.new }
     {
         let mut index = low;
         while index < high {
@@ -408,7 +416,8 @@ impl<'c> Setting<'c> {
         task: &mut Task<'c>,
         state: &mut RunState,
     ) -> Result<(), Stop>
-        ensures { Follows result (turned_once self.now.limit index name.now (perform_all (shown self.now) path.now (block body.now)) task.old state.old) task.new state.new }
+        ensures { Follows result (turned_once self.now.limit index name.now
+            (perform_all (shown self.now) path.now (block body.now)) task.old state.old) task.new state.new }
     {
         match self.begin(task, state) {
             Ok(()) => {}
@@ -439,7 +448,8 @@ impl<'c> Setting<'c> {
         task: &mut Task<'c>,
         state: &mut RunState,
     ) -> Result<(), Stop>
-        ensures { Follows result (created (shown self.now) path.now at (map (λ n. n.name) names.now) (λ q. perform_all (shown self.now) q (block body.now)) task.old state.old) task.new state.new }
+        ensures { Follows result (created (shown self.now) path.now at (map (λ n. n.name) names.now)
+            (λ q. perform_all (shown self.now) q (block body.now)) task.old state.old) task.new state.new }
     {
         let spec = match self.end_building(task) {
             Ok(spec) => spec,
@@ -473,7 +483,9 @@ impl<'c> Setting<'c> {
         tally: &Tally,
         state: &mut RunState,
     ) -> Result<(), Memory>
-        ensures { OnOk result (let q = path.now ++ tally.now.children ∷ [] in state.new ≡ ended q (perform_all (shown self.now) q (block body.now) (child_task scope.entry spec) (noted path.now tally.now.children tally.now.part None state.old))) }
+        ensures { OnOk result (let q = path.now ++ tally.now.children ∷ [] in state.new
+            ≡ ended q (perform_all (shown self.now) q (block body.now) (child_task scope.entry spec)
+            (noted path.now tally.now.children tally.now.part None state.old))) }
     {
         match state.note(self.alloc, path, tally.children(), tally.part(), None) {
             Ok(()) => {}

@@ -2,7 +2,7 @@
 
 ghost use Rattle.std.specs.Prelude.{◌≡◌};
 ghost use Rattle.jade_syntax.specs.Abstract.{Or, And, Relates, Adds, Multiplies};
-ghost use Rattle.jade_meaning.specs.Values.{Gives, computed, operated, decides, related, signed, whole, holds, added, multiplied};
+ghost use Rattle.jade_meaning.specs.Values.{Gives, operated, decides, related, signed, whole, holds, added, multiplied};
 ghost use Rattle.jade_meaning.specs.steps.Direct.{as_given, as_fitting, index_in};
 
 use jade_base::FaultKind;
@@ -16,22 +16,23 @@ pub enum Value {
 }
 
 impl Value {
-    /// The number that a value is.
+    /// The number that a value is: a truth value is 1 or 0.
     pub(crate) fn whole(self) -> i64
         ensures { result ≡ whole self }
     {
         match self {
             Value::IntOf(number) => number,
-            Value::BoolOf(_) => 0,
+            Value::BoolOf(true) => 1,
+            Value::BoolOf(false) => 0,
         }
     }
 
-    /// The truth of a value.
+    /// The truth of a value: a number is true where it is not 0.
     pub(crate) fn holds(self) -> bool
         ensures { result ≡ holds self }
     {
         match self {
-            Value::IntOf(_) => false,
+            Value::IntOf(number) => number != 0,
             Value::BoolOf(truth) => truth,
         }
     }
@@ -40,62 +41,44 @@ impl Value {
     pub(crate) fn decides_or(self) -> bool
         ensures { result ≡ decides Or self }
     {
-        match self {
-            Value::IntOf(_) => false,
-            Value::BoolOf(truth) => truth,
-        }
+        self.holds()
     }
 
     /// Whether the operand makes what follows a `&&` needless.
     pub(crate) fn decides_and(self) -> bool
         ensures { result ≡ decides And self }
     {
-        match self {
-            Value::IntOf(_) => false,
-            Value::BoolOf(truth) => !truth,
-        }
+        !self.holds()
     }
 
     /// How two values compare.
     pub(crate) fn compared(self, relation: Relation, other: Value) -> Value
         ensures { Gives result ≡ operated (Relates relation) self other }
     {
-        match (self, other) {
-            (Value::IntOf(left), Value::IntOf(right)) => {
-                Value::BoolOf(is_related(relation, left, right))
-            }
-            (Value::IntOf(_), Value::BoolOf(_)) | (Value::BoolOf(_), _) => other,
-        }
+        Value::BoolOf(is_related(relation, self.whole(), other.whole()))
     }
 
     /// A sum or a difference.
     pub(crate) fn added(self, op: SumOp, other: Value) -> Result<Value, FaultKind>
         ensures { as_given result ≡ operated (Adds op) self other }
     {
-        match (self, other) {
-            (Value::IntOf(left), Value::IntOf(right)) => add(op, left, right),
-            (Value::IntOf(_), Value::BoolOf(_)) | (Value::BoolOf(_), _) => Ok(other),
-        }
+        add(op, self.whole(), other.whole())
     }
 
     /// A product, a quotient or a remainder.
     pub(crate) fn multiplied(self, op: ProductOp, other: Value) -> Result<Value, FaultKind>
         ensures { as_given result ≡ operated (Multiplies op) self other }
     {
-        match (self, other) {
-            (Value::IntOf(left), Value::IntOf(right)) => multiply(op, left, right),
-            (Value::IntOf(_), Value::BoolOf(_)) | (Value::BoolOf(_), _) => Ok(other),
-        }
+        multiply(op, self.whole(), other.whole())
     }
 
     /// A value after a sign.
     pub(crate) fn signed(self, sign: UnaryOp) -> Result<Value, FaultKind>
         ensures { as_given result ≡ signed sign self }
     {
-        match (sign, self) {
-            (UnaryOp::Negative, Value::IntOf(number)) => fitting(number.checked_neg()),
-            (UnaryOp::Not, Value::BoolOf(truth)) => Ok(Value::BoolOf(!truth)),
-            (UnaryOp::Negative, Value::BoolOf(_)) | (UnaryOp::Not, Value::IntOf(_)) => Ok(self),
+        match sign {
+            UnaryOp::Negative => fitting(self.whole().checked_neg()),
+            UnaryOp::Not => Ok(Value::BoolOf(!self.holds())),
         }
     }
 }

@@ -1,6 +1,7 @@
 //! One task's talk, event by event.
 
 ghost use Rattle.std.specs.Prelude.{◌≡◌, ◌+◌, ◌≤◌, [], true, false, None, Some, List, ℤ, drop, length, IfOk, OnOk, OnErr};
+ghost use Rattle.jade_syntax.specs.declared.objects.TheConstants.{OBJECT_LIMIT};
 ghost use Rattle.jade_syntax.specs.Objects.{input_names, sizes};
 ghost use Rattle.jade_meaning.specs.Course.{Setting as SettingOf};
 ghost use Rattle.jade_meaning.specs.Talk.{Task as TaskOf};
@@ -12,7 +13,7 @@ ghost use Rattle.jade_meaning.specs.steps.Walking.{goes_with, read_of, creates, 
 use crate::configuration::{Configuration, Stage, begun, onward};
 use crate::dense_spec::DenseSpec;
 use crate::holds::PendingEvent;
-use crate::resolve::Declared;
+use crate::resolve::DeclaredItems;
 use crate::scope::Scope;
 use crate::serial::inputs;
 use crate::setting::Setting;
@@ -88,7 +89,16 @@ impl<'c> Model for Walker<'c> {
     ghost use Rattle.jade_meaning.specs.steps.Perform.{shown};
     ghost use Rattle.jade_meaning.specs.steps.Agreement.{AgreesWithTalk};
 
-    ghost view = { λ w. record { items = w.setting.items; given = w.setting.given; limit = w.setting.limit; env = w.scope; spec = w.spec; body = w.body.now; answers = w.answers.items; done = w.done } };
+    ghost view = { λ w. record {
+      items = w.setting.items;
+      given = w.setting.given;
+      limit = w.setting.limit;
+      env = w.scope;
+      spec = w.spec;
+      body = w.body.now;
+      answers = w.answers.items;
+      done = w.done;
+    } };
 
     ghost invariant = { λ w. AgreesWithTalk (shown w.setting) w.scope w.spec w.body.now w.answers.items w.done w.told w.configuration };
 }
@@ -155,10 +165,10 @@ impl<'c> Walker<'c> {
         limit: u32,
     ) -> Result<Walker<'c>, Memory>
         requires given { length numbers.now ≡ length (input_names program.now.items) }
-        requires objects { length (sizes program.now.items) ≤ 4096 }
+        requires objects { length (sizes program.now.items) ≤ OBJECT_LIMIT }
         ensures { IfOk result (λ w. w ≡ root_walk program.now numbers.now limit) }
     {
-        let items = Declared::of(&program.items);
+        let items = DeclaredItems::of(&program.items);
         let given = inputs(alloc, &program.items, numbers)?;
         let scope = given.copy(alloc)?;
         let spec = DenseSpec::all(alloc, items.objects())?;

@@ -28,7 +28,7 @@ use Rattle.jade_parser.specs.steps.Reads.{Passes, Stops, Whole, OnStop, OnOther,
 use Rattle.jade_parser.specs.steps.Parts.{Any, ReadIn, RefusalIn, LongIn, OuterIn}
 use Rattle.jade_parser.specs.Programs.{Fits, FitsAll}
 use Rattle.jade_parser.specs.steps.Forms.{Came, NoHead, ended, named_list}
-use Rattle.jade_parser.specs.steps.Begins.{begin_of, Told}
+use Rattle.jade_parser.specs.steps.Begins.{begin_of, Predicts}
 use Rattle.jade_parser.specs.steps.Compound.{block_in, if_in, for_in, withonly_in, with_in, BeginAt, Halts}
 use Rattle.jade_parser.proofs.Steps.{some_expr}
 use Rattle.jade_parser.proofs.Reading.{whole_none, none_valid, all_valid}
@@ -37,7 +37,7 @@ use Rattle.jade_parser.proofs.Going.{stop_here, none_short}
 use Rattle.jade_parser.proofs.Coming.{came_none, came_on, came_under, came_past, came_fixed, came_marked}
 use Rattle.jade_parser.proofs.Coming.{after, other, not_sign, nowhere, some_name, some_valid}
 use Rattle.jade_parser.proofs.Simply.{given_valid, read_in, assign_is, assign_fits}
-use Rattle.jade_parser.proofs.Beginning.{told}
+use Rattle.jade_parser.proofs.Beginning.{predicted}
 
 -- ---- what a word begins
 
@@ -61,18 +61,18 @@ stops_word : (all : List Seen) (at : ℕ) (c : BlockKind) (s : Sign) → Some s 
 stops_word all at c s e k = record { by = λ st. rw (split_sign all at s e, k st) (omega arith) }
 
 -- the word decides
-pub begin_told : (all : List Seen) (at : ℕ) (c : BlockKind) (s : Sign) → Some s ≡ head_sign (drop at (kinds all)) → BeginAt c all at (begin_of c s)
-begin_told all at c s e = by_told (begin_of c s) (told c s)
+pub begin_predicted : (all : List Seen) (at : ℕ) (c : BlockKind) (s : Sign) → Some s ≡ head_sign (drop at (kinds all)) → BeginAt c all at (begin_of c s)
+begin_predicted all at c s e = by_prediction (begin_of c s) (predicted c s)
   where
-    by_told : (b : Begin) → Told c s b → BeginAt c all at b
-    by_told (begin.Local k) t = rw (t.0) (opens all at c s _ e t.1)
-    by_told begin.If t = rw (← t.0) (opens all at c s _ e t.1)
-    by_told begin.For t = rw (← t.0) (opens all at c s _ e t.1)
-    by_told begin.Withonly t = (t.0, takes_marked all at WithonlyWord (Body Main ∷ []) withonly_in (rw (← t.1) e) (λ rest st. refl))
-    by_told begin.With t = (t.0, takes_marked all at WithWord (Body Main ∷ []) with_in (rw (← t.1) e) (λ rest st. refl))
-    by_told (begin.Declare w) t = (t.1, rw (t.0) (opens_marked all at c s _ e t.2))
-    by_told begin.Closing t = closes all at c s t e
-    by_told begin.Nothing t = stops_word all at c s e t
+    by_prediction : (b : Begin) → Predicts c s b → BeginAt c all at b
+    by_prediction (begin.Local k) t = rw (t.0) (opens all at c s _ e t.1)
+    by_prediction begin.If t = rw (← t.0) (opens all at c s _ e t.1)
+    by_prediction begin.For t = rw (← t.0) (opens all at c s _ e t.1)
+    by_prediction begin.Withonly t = (t.0, takes_marked all at WithonlyWord (Body Main ∷ []) withonly_in (rw (← t.1) e) (λ rest st. refl))
+    by_prediction begin.With t = (t.0, takes_marked all at WithWord (Body Main ∷ []) with_in (rw (← t.1) e) (λ rest st. refl))
+    by_prediction (begin.Declare w) t = (t.1, rw (t.0) (opens_marked all at c s _ e t.2))
+    by_prediction begin.Closing t = closes all at c s t e
+    by_prediction begin.Nothing t = stops_word all at c s e t
 
 -- no statement begins here
 pub nothing_begins : (all : List Seen) (at : ℕ) (c : BlockKind) → at ≤ length all → Stops all at (Body c ∷ []) at

@@ -25,12 +25,12 @@ stops_sign : (all : List Seen) (at : ℕ) (s : Sign) (xs : Stack) → Some s ≡
 stops_sign all at s xs e none = record { by = λ st. rw (split_sign all at s e, none (drop (at + 1) (kinds all)) st) (omega arith) }
 
 -- the word decides
-pub opening_told : (all : List Seen) (at : ℕ) (s : Sign) → Some s ≡ head_sign (drop at (kinds all)) → OpeningAt all at (opening_of s)
-opening_told all at InputWord e = takes_sign all at InputWord _ _ e (λ rest st. refl)
-opening_told all at ObjectWord e = takes_sign all at ObjectWord _ _ e (λ rest st. refl)
-opening_told all at ObjectsWord e = takes_sign all at ObjectsWord _ _ e (λ rest st. refl)
-opening_told all at MainWord e = takes_sign all at MainWord _ _ e (λ rest st. refl)
-opening_told all at s e = stops_sign all at s _ e (λ rest st. refl)
+pub opening_read : (all : List Seen) (at : ℕ) (s : Sign) → Some s ≡ head_sign (drop at (kinds all)) → OpeningAt all at (opening_of s)
+opening_read all at InputWord e = takes_sign all at InputWord _ _ e (λ rest st. refl)
+opening_read all at ObjectWord e = takes_sign all at ObjectWord _ _ e (λ rest st. refl)
+opening_read all at ObjectsWord e = takes_sign all at ObjectsWord _ _ e (λ rest st. refl)
+opening_read all at MainWord e = takes_sign all at MainWord _ _ e (λ rest st. refl)
+opening_read all at s e = stops_sign all at s _ e (λ rest st. refl)
 
 no_item : (ts : Tokens) → None ≡ head_sign ts → (st : Stack) → goes ts (Items ∷ st) ≡ 0
 no_item [] e st = refl

@@ -92,24 +92,3 @@ statement_parts = fold-Statement Parts at_statement
 -- the parts of a block
 abbrev pub block_parts : List Statement → Parts
 block_parts b = fixed LeftBrace ∷ [] ++ flat_map statement_parts b ++ fixed RightBrace ∷ []
-
--- the other branch, where there is one, as a tree
-abbrev pub else_block : Option (List Statement) → Parts
-else_block None = []
-else_block (Some b) = fixed ElseWord ∷ [] ++ block_parts b
-
--- a statement whose parts are trees
-abbrev pub opened : Statement-F Statement → Parts
-opened (Statement-F.Local kind name pos value) = plain (kind_word kind) ∷ marked (Called name) pos ∷ fixed Becomes ∷ [] ++ outer value ++ fixed Semicolon
-    ∷ []
-opened (Statement-F.Assign name pos value) = marked (Called name) pos ∷ fixed Becomes ∷ [] ++ outer value ++ fixed Semicolon ∷ []
-opened (Statement-F.Store target value) = target_parts target ++ fixed Becomes ∷ [] ++ outer value ++ fixed Semicolon ∷ []
-opened (Statement-F.If test then otherwise) = fixed IfWord ∷ [] ++ outer test ++ block_parts then ++ else_block otherwise
-opened (Statement-F.For name pos low high body) =
-    fixed ForWord ∷ marked (Called name) pos ∷ fixed InWord ∷ [] ++ outer low ++ fixed DotDot ∷ [] ++ outer high ++ block_parts body
-opened (Statement-F.Withonly pos section names body) =
-    marked (Fixed WithonlyWord) pos ∷ [] ++ block_parts section ++ fixed DoWord ∷ [] ++ fixed LeftParen ∷ [] ++ name_parts names ++ fixed RightParen ∷ []
-    ++ block_parts body
-opened (Statement-F.With pos section) = marked (Fixed WithWord) pos ∷ [] ++ block_parts section ++ fixed ContWord ∷ [] ++ fixed Semicolon ∷ []
-opened (Statement-F.Declare word pos object) = marked (declare_word word) pos ∷ fixed LeftParen ∷ [] ++ object_parts object ++ fixed RightParen ∷ []
-    ++ fixed Semicolon ∷ []

@@ -2,7 +2,8 @@ ghost use Rattle.std.specs.Prelude.{◌≡◌, ℕ, ◌+◌, ◌<◌, ◌≤◌,
 ghost use Rattle.std.specs.List.{flat_map};
 ghost use Rattle.jade_parser.specs.steps.Reads.{Known, Parsed, Whole, NoUnary, OnToken, closed, head_sign, kinds, place_at};
 ghost use Rattle.jade_parser.specs.steps.Machine.{Need, First, Second, Must, expr_in, and_in, compare_in, sum_in, product_in, unary_in};
-ghost use Rattle.jade_parser.specs.Spelled.{expr_parts, and_parts, compare_parts, sum_parts, product_parts, unary_parts, atom_parts, cell_parts, sign_part, Called, marked, fixed};
+ghost use Rattle.jade_parser.specs.Spelled.{expr_parts, and_parts, compare_parts, sum_parts, product_parts, unary_parts, atom_parts, cell_parts, sign_part};
+ghost use Rattle.jade_parser.specs.Spelled.{Called, marked, fixed};
 ghost use Rattle.jade_parser.specs.declared.Sign.TheVariants.{LeftBracket, RightBracket};
 
 use crate::leaves::{
@@ -20,7 +21,8 @@ use std::alloc::Global;
 /// The signs in front of an atom.
 fn signs(alloc: Global, tokens: &[Seen<'_>], start: usize) -> Result<(Signs, usize), Stop>
     requires { start ≤ length tokens.now }
-    ensures { MatchResult result (λ r. Whole tokens.now start (Need ∷ []) r.1 (Need ∷ []) (flat_map sign_part r.0) × NoUnary tokens.now r.1) (λ e. OnToken e (λ _. ⊥)) }
+    ensures { MatchResult result (λ r. Whole tokens.now start (Need ∷ []) r.1 (Need ∷ []) (flat_map sign_part r.0) × NoUnary tokens.now r.1)
+        (λ e. OnToken e (λ _. ⊥)) }
 {
     let mut all = Signs::empty(alloc);
     let mut at = start;
@@ -263,7 +265,8 @@ fn parse_cell(
     name: Name,
     pos: Pos,
 ) -> Result<(CellRef, usize), Stop>
-    requires read { Whole tokens.now start (Need ∷ []) (start + 2) (expr_in ++ Must RightBracket ∷ Second ∷ []) (marked (Called name) pos ∷ fixed LeftBracket ∷ []) }
+    requires read { Whole tokens.now start (Need ∷ []) (start + 2)
+        (expr_in ++ Must RightBracket ∷ Second ∷ []) (marked (Called name) pos ∷ fixed LeftBracket ∷ []) }
     requires known { Known tokens.now }
     ensures { Parsed cell_parts tokens.now start unary_in result }
 {

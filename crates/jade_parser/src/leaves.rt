@@ -89,7 +89,8 @@ pub fn same(a: Sign, b: Sign) -> bool
 
 /// An operator that adds.
 pub fn sum_op(tokens: &[Seen<'_>], at: usize) -> Option<SumOp>
-    ensures { MatchOption result (Passes tokens.now at (Rest 2 ∷ []) at []) (λ op. Whole tokens.now at (Rest 2 ∷ []) (at + 1) sum_in (marked (sum_sign op) (place_at tokens.now at) ∷ [])) }
+    ensures { MatchOption result (Passes tokens.now at (Rest 2 ∷ []) at [])
+        (λ op. Whole tokens.now at (Rest 2 ∷ []) (at + 1) sum_in (marked (sum_sign op) (place_at tokens.now at) ∷ [])) }
 {
     match sign_at(tokens, at) {
         Some(sign) => sum_of(sign),
@@ -99,7 +100,8 @@ pub fn sum_op(tokens: &[Seen<'_>], at: usize) -> Option<SumOp>
 
 /// An operator that multiplies.
 pub fn product_op(tokens: &[Seen<'_>], at: usize) -> Option<ProductOp>
-    ensures { MatchOption result (Passes tokens.now at (Rest 1 ∷ []) at []) (λ op. Whole tokens.now at (Rest 1 ∷ []) (at + 1) product_in (marked (product_sign op) (place_at tokens.now at) ∷ [])) }
+    ensures { MatchOption result (Passes tokens.now at (Rest 1 ∷ []) at [])
+        (λ op. Whole tokens.now at (Rest 1 ∷ []) (at + 1) product_in (marked (product_sign op) (place_at tokens.now at) ∷ [])) }
 {
     match sign_at(tokens, at) {
         Some(sign) => product_of(sign),
@@ -109,7 +111,8 @@ pub fn product_op(tokens: &[Seen<'_>], at: usize) -> Option<ProductOp>
 
 /// A relation.
 pub fn relation(tokens: &[Seen<'_>], at: usize) -> Option<Relation>
-    ensures { MatchOption result (Passes tokens.now at (Rest 3 ∷ []) at []) (λ op. Whole tokens.now at (Rest 3 ∷ []) (at + 1) sum_in (marked (relation_sign op) (place_at tokens.now at) ∷ [])) }
+    ensures { MatchOption result (Passes tokens.now at (Rest 3 ∷ []) at [])
+        (λ op. Whole tokens.now at (Rest 3 ∷ []) (at + 1) sum_in (marked (relation_sign op) (place_at tokens.now at) ∷ [])) }
 {
     match sign_at(tokens, at) {
         Some(sign) => relation_of(sign),
@@ -119,7 +122,8 @@ pub fn relation(tokens: &[Seen<'_>], at: usize) -> Option<Relation>
 
 /// A sign in front.
 pub fn unary_op(tokens: &[Seen<'_>], at: usize) -> Option<UnaryOp>
-    ensures { MatchOption result (NoUnary tokens.now at) (λ op. Whole tokens.now at (Need ∷ []) (at + 1) (Need ∷ []) (marked (unary_sign op) (place_at tokens.now at) ∷ [])) }
+    ensures { MatchOption result (NoUnary tokens.now at) (λ op. Whole tokens.now at (Need ∷ []) (at + 1) (Need ∷ [])
+        (marked (unary_sign op) (place_at tokens.now at) ∷ [])) }
 {
     match sign_at(tokens, at) {
         Some(sign) => unary_of(sign),
@@ -164,7 +168,8 @@ pub fn bracket(tokens: &[Seen<'_>], at: usize) -> bool
 
 /// The place after the sign.
 pub fn expect(tokens: &[Seen<'_>], at: usize, wanted: Sign) -> Result<usize, Stop>
-    ensures { MatchResult result (λ next. Whole tokens.now at (Must wanted ∷ []) next [] (fixed wanted ∷ [])) (λ e. OnOther e tokens.now at (Must wanted ∷ [])) }
+    ensures { MatchResult result (λ next. Whole tokens.now at (Must wanted ∷ []) next [] (fixed wanted ∷ []))
+        (λ e. OnOther e tokens.now at (Must wanted ∷ [])) }
 {
     match sign_at(tokens, at) {
         Some(sign) => {

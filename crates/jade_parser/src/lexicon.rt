@@ -1,7 +1,8 @@
 //! The words and symbols of the language, each as its bytes.
 
 ghost use Rattle.std.specs.Prelude.{◌≡◌, codes};
-ghost use Rattle.jade_parser.specs.Kinds.{sign_among, sign_in, all_signs, item_signs, statement_signs, access_signs, change_signs, bracket_signs, mark_signs, relation_signs, operator_signs};
+ghost use Rattle.jade_parser.specs.Kinds.{sign_among, sign_in, all_signs, item_signs, statement_signs, access_signs, change_signs, bracket_signs, mark_signs};
+ghost use Rattle.jade_parser.specs.Kinds.{relation_signs, operator_signs};
 
 use crate::Sign;
 use jade_syntax::name::same_name;

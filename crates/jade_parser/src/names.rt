@@ -11,7 +11,8 @@ use std::alloc::Global;
 /// The name that stands at the place.
 pub fn name_at(alloc: Global, tokens: &[Seen<'_>], at: usize) -> Result<Name, Stop>
     requires { Known tokens.now }
-    ensures { MatchResult result (λ name. Whole tokens.now at (NameIs ∷ []) (at + 1) [] (marked (Called name) (place_at tokens.now at) ∷ [])) (λ e. OnOther e tokens.now at (NameIs ∷ [])) }
+    ensures { MatchResult result (λ name. Whole tokens.now at (NameIs ∷ []) (at + 1) [] (marked (Called name) (place_at tokens.now at) ∷ []))
+        (λ e. OnOther e tokens.now at (NameIs ∷ [])) }
 {
     if at >= tokens.len() {
         return Err(Stop::Token(at));
@@ -30,7 +31,8 @@ pub fn name_at(alloc: Global, tokens: &[Seen<'_>], at: usize) -> Result<Name, St
 
 /// The number that stands at the place.
 pub fn number_at(tokens: &[Seen<'_>], at: usize) -> Result<Number, Stop>
-    ensures { MatchResult result (λ number. Whole tokens.now at (NumberIs ∷ []) (at + 1) [] (number_part number ∷ [])) (λ e. OnOther e tokens.now at (NumberIs ∷ [])) }
+    ensures { MatchResult result (λ number. Whole tokens.now at (NumberIs ∷ []) (at + 1) [] (number_part number ∷ []))
+        (λ e. OnOther e tokens.now at (NumberIs ∷ [])) }
 {
     if at >= tokens.len() {
         return Err(Stop::Token(at));

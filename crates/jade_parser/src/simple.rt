@@ -30,7 +30,8 @@ pub fn parse_local(
     kind: ValueKind,
     place: BlockKind,
 ) -> Result<(Statement, usize), Stop>
-    requires read { Whole tokens.now start (Body place ∷ []) (start + 1) (NameIs ∷ Must Becomes ∷ expr_in ++ Must Semicolon ∷ Body place ∷ []) (plain (kind_word kind) ∷ []) }
+    requires read { Whole tokens.now start (Body place ∷ []) (start + 1)
+        (NameIs ∷ Must Becomes ∷ expr_in ++ Must Semicolon ∷ Body place ∷ []) (plain (kind_word kind) ∷ []) }
     requires known { Known tokens.now }
     ensures { ParsedIn (Fits place) statement_parts tokens.now start (Body place ∷ []) (Body place ∷ []) result }
 {
@@ -67,7 +68,8 @@ pub fn parse_declare(
     place: BlockKind,
 ) -> Result<(Statement, usize), Stop>
     requires stands { declares place word ≡ true }
-    requires read { Whole tokens.now start (Body place ∷ []) (start + 1) (Must LeftParen ∷ NameIs ∷ Second ∷ Must RightParen ∷ Must Semicolon ∷ Body place ∷ []) (marked (declare_word word) (place_at tokens.now start) ∷ []) }
+    requires read { Whole tokens.now start (Body place ∷ []) (start + 1) (Must LeftParen ∷ NameIs ∷ Second ∷ Must RightParen ∷ Must Semicolon ∷ Body place ∷ [])
+        (marked (declare_word word) (place_at tokens.now start) ∷ []) }
     requires known { Known tokens.now }
     ensures { ParsedIn (Fits place) statement_parts tokens.now start (Body place ∷ []) (Body place ∷ []) result }
 {
@@ -111,7 +113,9 @@ fn parse_store(
 ) -> Result<(Statement, usize), Stop>
     requires main { is_main place ≡ true }
     requires further { start + 1 ≤ next }
-    requires read { Came tokens.now start (Body place ∷ []) next (expr_in ++ Must RightBracket ∷ Second ∷ Must Becomes ∷ expr_in ++ Must Semicolon ∷ Body place ∷ []) (marked (Called name) pos ∷ fixed LeftBracket ∷ []) }
+    requires read { Came tokens.now start (Body place ∷ []) next
+        (expr_in ++ Must RightBracket ∷ Second ∷ Must Becomes ∷ expr_in ++ Must Semicolon ∷ Body place ∷ [])
+        (marked (Called name) pos ∷ fixed LeftBracket ∷ []) }
     requires known { Known tokens.now }
     ensures { ParsedIn (Fits place) statement_parts tokens.now start (Body place ∷ []) (Body place ∷ []) result }
 {

@@ -1,7 +1,5 @@
 pub mod Alike
 pub mod Same
-pub mod ErasedTerms
-pub mod ErasedStatements
 pub mod Likeness
 pub mod OneChain
 pub mod Shown

@@ -4,8 +4,6 @@ ghost use Rattle.std.specs.Prelude.{◌≡◌, ℕ, ◌≤◌, true, List, lengt
 ghost use Rattle.jade_lexer.specs.Lexemes.{TokenList};
 ghost use Rattle.jade_lexer.specs.Reading.{reading, Whole};
 ghost use Rattle.jade_syntax.specs.declared.tree.Program.{Program};
-ghost use Rattle.jade_syntax.specs.Erased.{erased_program};
-ghost use Rattle.jade_syntax.specs.Image.{program};
 ghost use Rattle.jade_syntax.specs.PlacedImage.{placed_program};
 ghost use Rattle.jade_syntax.specs.Shapes.{program_extent, is_shaped};
 ghost use Rattle.jade_layout.specs.Spelling.{spelling};
@@ -19,12 +17,6 @@ ghost use Rattle.jade_reading.specs.ReadingBack.{ReadsBack};
 
 use jade_layout::laws::layout_is_read;
 use jade_lexer::laws::reading_is_cut;
-
-/// A law of programs, which does nothing: a program with all places, less the places that its
-/// meaning does not need, is its abstract syntax.
-pub fn erased_is_program()
-    ensures { (p : Program) → erased_program (placed_program p) ≡ program p }
-{}
 
 /// A law of programs, which does nothing: the tokens that the grammar gives a program are those of
 /// its printed layout.
@@ -41,7 +33,8 @@ pub fn one_tree()
 /// A law of programs, which does nothing: programs that are spelled alike are the same tree but
 /// for places.
 pub fn one_tree_but_for_places()
-    ensures { (p q : Program) → IsProgram p → IsProgram q → bytes_of (program_parts p) ≡ bytes_of (program_parts q) → unplaced (placed_program p) ≡ unplaced (placed_program q) }
+    ensures { (p q : Program) → IsProgram p → IsProgram q → bytes_of (program_parts p) ≡ bytes_of (program_parts q)
+        → unplaced (placed_program p) ≡ unplaced (placed_program q) }
 {}
 
 /// A law of programs, which does nothing: the rules of shape count the tokens of a program, and
@@ -56,13 +49,15 @@ pub fn shape_of_program()
 /// A law of refusals, which does nothing: tokens that spell a program of the grammar with no
 /// outermost expression too long are not refused, wherever they stand.
 pub fn spelled_is_not_refused()
-    ensures { (tokens : TokenList) (p : Program) (e : ParseError) → IsProgram p → AllShort (program_parts p) → bytes_of (program_parts p) ≡ texts tokens → IsRefusal tokens e → IsMemory e }
+    ensures { (tokens : TokenList) (p : Program) (e : ParseError) → IsProgram p → AllShort (program_parts p) → bytes_of (program_parts p) ≡ texts tokens
+        → IsRefusal tokens e → IsMemory e }
 {}
 
 /// A law of texts, which does nothing: a program that a text of at most 1,048,576 bytes reads as
 /// keeps the rules of shape, with its brackets at most 64 deep.
 pub fn read_is_shaped()
-    ensures { (text : List ℕ) (tokens : TokenList) (p : Program) → length text ≤ 1048576 → reading text ≡ Whole tokens → IsReading tokens p → is_shaped p ≡ true }
+    ensures { (text : List ℕ) (tokens : TokenList) (p : Program) → length text ≤ 1048576 → reading text ≡ Whole tokens → IsReading tokens p
+        → is_shaped p ≡ true }
 {
     reading_is_cut();
 }

@@ -32,8 +32,20 @@ pub fn jade_main<R, S: Source, K: Sink, G: Gate>(
 ) -> Status
     ensures unread { RefusesWords words.now → (source.new ≡ source.old) × (result ≡ Status.Reading → ⊥) }
     ensures headline { Headline words.now result
-        (record { left = S.left source.old; taken = K.taken sink.old; room = K.room sink.old; source_faults = S.faults source.old; sink_faults = K.faults sink.old })
-        (record { left = S.left source.new; taken = K.taken sink.new; room = K.room sink.new; source_faults = S.faults source.new; sink_faults = K.faults sink.new }) }
+        (record {
+          left = S.left source.old;
+          taken = K.taken sink.old;
+          room = K.room sink.old;
+          source_faults = S.faults source.old;
+          sink_faults = K.faults sink.old;
+        })
+        (record {
+          left = S.left source.new;
+          taken = K.taken sink.new;
+          room = K.room sink.new;
+          source_faults = S.faults source.new;
+          sink_faults = K.faults sink.new;
+        }) }
 {
     match answer(alloc, words, source) {
         Ok(answer) => match write_text(sink, &answer.text) {
@@ -48,7 +60,8 @@ pub fn jade_main<R, S: Source, K: Sink, G: Gate>(
 /// memory.
 fn answer<S: Source>(alloc: Global, words: &[Word], source: &mut S) -> Result<Answer, Status>
     ensures unread { RefusesWords words.now → (source.new ≡ source.old) × IfErr result (λ s. s ≡ Status.Memory) }
-    ensures answer { MatchResult result (λ a. Answers words.now (S.left source.old) (S.left source.new) a.text.items a.status) (λ s. Stops s (S.faults source.old) (S.faults source.new)) }
+    ensures answer { MatchResult result (λ a. Answers words.now (S.left source.old) (S.left source.new) a.text.items a.status)
+        (λ s. Stops s (S.faults source.old) (S.faults source.new)) }
 {
     let command = match command_of(alloc, words) {
         Ok(command) => command,

@@ -4,8 +4,9 @@ ghost use Rattle.std.specs.Prelude.{ℕ, List};
 ghost use Rattle.jade_run.specs.declared.status.Status.{Status};
 ghost use Rattle.jade_run.specs.Outcome.{IsOutcome, SameOutcome};
 
+use erased_places::laws::erased_is_program;
 use jade_parser::laws::one_reading;
-use jade_reading::laws::{erased_is_program, one_tree, spelled_alike};
+use jade_reading::laws::{one_tree, spelled_alike};
 
 /// Words and a text come to one text and one status.
 pub fn one_outcome()

@@ -2,7 +2,8 @@
 
 ghost use Rattle.std.specs.Prelude.{◌≡◌, ◌++◌, ◌∷◌, [], codes, IfOk, OnOk, ◌<◌, length, slice_get, Some};
 ghost use Rattle.std.specs.Fmt.{decimal, signed_decimal};
-ghost use Rattle.jade_run.specs.Texts.{place_text, path_text, fault_word, fault_text, place_before, refused_text, line_of, cells_text, member_text, object_text, objects_text, between, numbers_text, static_word};
+ghost use Rattle.jade_run.specs.Texts.{place_text, path_text, fault_word, fault_text, place_before, refused_text, line_of, cells_text, member_text};
+ghost use Rattle.jade_run.specs.Texts.{object_text, objects_text, between, numbers_text, static_word};
 ghost use Rattle.jade_syntax.specs.Objects.{labels};
 
 use itoa::Buffer;

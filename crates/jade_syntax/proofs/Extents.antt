@@ -18,38 +18,9 @@ use Rattle.jade_syntax.specs.declared.tree.Sum.{Sum, out-Sum, fold_out-Sum}
 use Rattle.jade_syntax.specs.declared.tree.SumOp.{SumOp}
 use Rattle.jade_syntax.specs.declared.tree.Unary.{Unary, fold_out-Unary}
 use Rattle.jade_syntax.specs.Measured.{capped, Measures}
-use Rattle.jade_syntax.specs.Shapes.{
-  nothing,
-  signs,
-  name_extent,
-  ◌⊕◌,
-  all_of,
-  in_brackets,
-  at_atom,
-  at_and,
-  at_cell,
-  at_compare,
-  at_expr,
-  at_product,
-  at_sum,
-  at_unary,
-  expr_extent,
-  and_extent,
-  compare_extent,
-  sum_extent,
-  product_extent,
-  unary_extent,
-  atom_extent,
-  cell_extent,
-  inner_index,
-  outermost,
-  target_extent,
-  object_extent,
-  names_extent,
-  block_extent,
-  statement_extent,
-  at_statement,
-}
+use Rattle.jade_syntax.specs.Shapes.{nothing, signs, name_extent, ◌⊕◌, all_of, in_brackets, at_atom, at_and, at_cell, at_compare, at_expr, at_product, at_sum}
+use Rattle.jade_syntax.specs.Shapes.{at_unary, expr_extent, and_extent, compare_extent, sum_extent, product_extent, unary_extent, atom_extent, cell_extent}
+use Rattle.jade_syntax.specs.Shapes.{inner_index, statement_extent, at_statement}
 
 abbrev pub or_link : Pos × AndExpr → Extent
 or_link p = signs 1 ⊕ and_extent p.1
@@ -123,34 +94,12 @@ pub cell_opens : (e : CellRef) → cell_extent e ≡ name_extent (out-CellRef e)
 cell_opens e = fold_out-CellRef Extent Extent Extent Extent Extent Extent Extent Extent at_atom at_and at_cell at_compare at_expr at_product at_sum at_unary e
     ∙ cell_layer_is (out-CellRef e).name (out-CellRef e).pos (out-CellRef e).family (out-CellRef e).cell
 
-abbrev pub other_block : Option (List Statement) → Extent
-other_block None = nothing
-other_block (Some b) = signs 1 ⊕ block_extent b
-
 -- a statement whose parts are trees
 abbrev pub opened : Statement-F Statement → Extent
-opened (Statement-F.Local kind name at value) = signs 3 ⊕ name_extent name ⊕ outermost value
-opened (Statement-F.Assign name at value) = signs 2 ⊕ name_extent name ⊕ outermost value
-opened (Statement-F.Store target value) = signs 2 ⊕ target_extent target ⊕ outermost value
-opened (Statement-F.If test then otherwise) = signs 1 ⊕ outermost test ⊕ block_extent then ⊕ other_block otherwise
-opened (Statement-F.For name at low high body) = signs 3 ⊕ name_extent name ⊕ outermost low ⊕ outermost high ⊕ block_extent body
-opened (Statement-F.Withonly at section names body) = signs 2 ⊕ block_extent section ⊕ in_brackets (names_extent names) ⊕ block_extent body
-opened (Statement-F.With at section) = signs 3 ⊕ block_extent section
-opened (Statement-F.Declare how at object) = signs 2 ⊕ in_brackets (object_extent object)
+opened f = at_statement (map-Statement Statement Extent statement_extent f)
 
 pub statement_opens : (s : Statement) → statement_extent s ≡ opened (out-Statement s)
-statement_opens s = fold_out-Statement Extent at_statement s ∙ layer_opens (out-Statement s)
-  where
-    layer_opens : (f : Statement-F Statement) → at_statement (map-Statement Statement Extent statement_extent f) ≡ opened f
-    layer_opens (Statement-F.Local kind name at value) = refl
-    layer_opens (Statement-F.Assign name at value) = refl
-    layer_opens (Statement-F.Store target value) = refl
-    layer_opens (Statement-F.If test then None) = refl
-    layer_opens (Statement-F.If test then (Some b)) = refl
-    layer_opens (Statement-F.For name at low high body) = refl
-    layer_opens (Statement-F.Withonly at section names body) = refl
-    layer_opens (Statement-F.With at section) = refl
-    layer_opens (Statement-F.Declare how at object) = refl
+statement_opens s = fold_out-Statement Extent at_statement s
 
 -- the arm of one kind of statement
 pub extent_arm : (s t : Statement) (f : Statement-F Statement) (m : Extent) → s ≡ t → out-Statement t ≡ f → Measures m (opened f)

@@ -15,7 +15,8 @@ use Rattle.jade_syntax.specs.declared.static_fault.StaticKind.TheVariants as fau
 use Rattle.jade_syntax.specs.Abstract.{Name}
 use Rattle.jade_syntax.specs.Objects.{amount, input_names, sizes}
 use Rattle.jade_syntax.specs.StaticFaults as spec
-use Rattle.jade_syntax.specs.StaticFaults.{Site, Declares, Counts, item_known, item_place, item_names, item_sites, amount_sites, counted, exceeds, found, is_known, when, site_place, fault_kind}
+use Rattle.jade_syntax.specs.StaticFaults.{Site, Declares, Counts, item_known, item_place, item_names, item_sites, amount_sites, counted, exceeds, found}
+use Rattle.jade_syntax.specs.StaticFaults.{is_known, when, site_place, fault_kind}
 use Rattle.jade_syntax.proofs.Limits.{inputs_first, sizes_first, drop_item}
 use Rattle.jade_types.specs.declared.faults.items.Room.{Room}
 use Rattle.jade_types.specs.declared.faults.names.Meaning.{Meaning}

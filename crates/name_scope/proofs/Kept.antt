@@ -1,5 +1,6 @@
 -- The newest entries of names, as entries come and end.
-use Rattle.std.proofs.Common.{◌≡◌, ℕ, suc, ◌+◌, ◌-◌, ◌<◌, ◌≤◌, List, [], ◌∷◌, ◌++◌, Bool, true, false, cond, ◌&&◌, Bor, length, get_or, map, drop, Option, Some, None, nat_eq, refl, ap, sym, ◌∙◌, arith}
+use Rattle.std.proofs.Common.{◌≡◌, ℕ, suc, ◌+◌, ◌-◌, ◌<◌, ◌≤◌, List, [], ◌∷◌, ◌++◌, Bool, true, false, cond, ◌&&◌, Bor, length, get_or, map, drop, Option, Some}
+use Rattle.std.proofs.Common.{None, nat_eq, refl, ap, sym, ◌∙◌, arith}
 use Rattle.std.specs.Prelude.{reverse, slice_get, if◌then◌else◌}
 use Rattle.std.specs.Cmp.Lexicographic.{pointwise, bytes_decides}
 use Rattle.std.specs.Map.{lookup}
@@ -94,7 +95,8 @@ module _ {V : Type 0} where
           is = ap (λ b. cond b (Some e.value) (lookup (same_name x) (map named es))) g ∙ f.is;
         }
 
-    by_test : (newest_place x es ≡ Some j → Found x es j) → (b : Bool) → same_name x e.name.now ≡ b → (if b then Some (length es) else newest_place x es) ≡ Some j → Found x (e ∷ es) j
+    by_test : (newest_place x es ≡ Some j → Found x es j) → (b : Bool) → same_name x e.name.now ≡ b
+        → (if b then Some (length es) else newest_place x es) ≡ Some j → Found x (e ∷ es) j
     by_test rest true g k =
         let here : length es ≡ j = cc in
         let le : length (reverse es) ≤ j = omega (arith, length-reverse es, here) in
@@ -110,7 +112,8 @@ module _ {V : Type 0} where
   pub not_found : (x : Name) (es : List (Entry V)) → newest_place x es ≡ None → lookup (same_name x) (map named es) ≡ None
   not_found x [] h = refl
   not_found x (e ∷ es) h = by_test (not_found x es) (same_name x e.name.now) h where
-    by_test : (newest_place x es ≡ None → lookup (same_name x) (map named es) ≡ None) → (b : Bool) → (if b then Some (length es) else newest_place x es) ≡ None → cond b (Some e.value) (lookup (same_name x) (map named es)) ≡ None
+    by_test : (newest_place x es ≡ None → lookup (same_name x) (map named es) ≡ None) → (b : Bool)
+        → (if b then Some (length es) else newest_place x es) ≡ None → cond b (Some e.value) (lookup (same_name x) (map named es)) ≡ None
     by_test rest true k = absurd (cc)
     by_test rest false k = rest k
 

@@ -1,342 +1,75 @@
--- The serial order of tasks is strict and total, and a queue in it is searched by halves.
-use Rattle.std.proofs.Common.{◌≡◌, ℕ, zero, suc, ◌<◌, ◌≤◌, Bool, true, false, ◌&&◌, ◌||◌, List, [], ◌∷◌, length, drop, refl, sym, ap, ◌∙◌, subst, arith}
-use Rattle.std.specs.Prelude.{min, nat_eq, nat_lt, slice_index_or, if◌then◌else◌}
-use Rattle.std.proofs.lemmas.Bool.Decides.{nat_tests}
+-- What becomes of the order of a queue as its entries change.
+use Rattle.std.proofs.Common.{◌≡◌, ℕ, suc, ◌<◌, ◌≤◌, true, false, List, [], ◌∷◌, length, refl, sym, ap, ◌∙◌, subst, arith}
+use Rattle.std.specs.Prelude.{if◌then◌else◌}
 use Rattle.jade_base.specs.declared.rights.Rights.{Rights}
+use Rattle.jade_base.specs.Places.{same_path}
+use Rattle.task_roll.specs.Order as order
+use Rattle.task_roll.proofs.InOrder as in_order
 use Rattle.object_shelf.specs.declared.queue.Entry.{Entry}
-use Rattle.object_shelf.specs.Shelves.{same_path, place_in, at, without, entered_in, newborn}
-use Rattle.object_shelf.specs.Order.{stands_before, before_all, is_ordered, rank, fits, fits_at, fitted_in}
+use Rattle.object_shelf.specs.Shelves.{place_in, at, without, entered_in, newborn}
+use Rattle.object_shelf.specs.Order.{paths, is_ordered, fits, fitted_in}
+pub use Rattle.task_roll.proofs.InOrder.{same-is, same-refl, before-other}
 
-true-not-false : true ≡ false → ⊥
-true-not-false q = absurd (cc)
+-- a path has the same place among entries and among their tasks
+pub place-paths : (p : List ℕ) (es : List Entry) → order.place_among p (paths es) ≡ place_in p es
+place-paths p [] = refl
+place-paths p (e ∷ es) = ap (λ n. if same_path p e.path then 0 else suc n) (place-paths p es)
 
-and-left : (a b : Bool) → a && b ≡ true → a ≡ true
-and-left true b h = refl
-and-left false b h = absurd (cc)
+pub length-paths : (es : List Entry) → length (paths es) ≡ length es
+length-paths [] = refl
+length-paths (e ∷ es) = ap suc (length-paths es)
 
-and-right : (a b : Bool) → a && b ≡ true → b ≡ true
-and-right true b h = h
-and-right false b h = absurd (cc)
-
-and-both : (a b : Bool) → a ≡ true → b ≡ true → a && b ≡ true
-and-both true b h g = g
-and-both false b h g = absurd (cc)
-
--- one path is the other
-pub same-is : (p q : List ℕ) → same_path p q ≡ true → p ≡ q
-same-is [] [] h = refl
-same-is [] (j ∷ q) h = absurd (cc)
-same-is (i ∷ p) [] h = absurd (cc)
-same-is (i ∷ p) (j ∷ q) h =
-    let e : i ≡ j = heads i j (and-left (nat_eq i j) (same_path p q) h) in
-    ap (λ k. k ∷ p) e ∙ ap (λ r. j ∷ r) (same-is p q (and-right (nat_eq i j) (same_path p q) h))
-  where
-    heads : (i j : ℕ) → nat_eq i j ≡ true → i ≡ j
-    heads i j h = grind (arith, nat_tests)
-
-pub same-refl : (p : List ℕ) → same_path p p ≡ true
-same-refl [] = refl
-same-refl (i ∷ p) = and-both (nat_eq i i) (same_path p p) (own i) (same-refl p)
-  where
-    own : (i : ℕ) → nat_eq i i ≡ true
-    own i = grind (arith, nat_tests)
-
--- what stands before is another
-pub before-other : (p q : List ℕ) → stands_before p q ≡ true → same_path q p ≡ false
-before-other [] q h = absurd (cc)
-before-other (i ∷ p) [] h = refl
-before-other (i ∷ p) (j ∷ q) h = head i j (stands_before p q) (same_path q p) (before-other p q) h
-  where
-    head : (i j : ℕ) (b s : Bool) → (b ≡ true → s ≡ false) → nat_lt i j || (nat_eq i j && b) ≡ true → nat_eq j i && s ≡ false
-    head i j true true f h = absurd (true-not-false (f refl))
-    head i j true false f h = grind (arith, nat_tests)
-    head i j false true f h = grind (arith, nat_tests)
-    head i j false false f h = grind (arith, nat_tests)
-
-pub before-trans : (p q r : List ℕ) → stands_before p q ≡ true → stands_before q r ≡ true → stands_before p r ≡ true
-before-trans [] q r h g = absurd (cc)
-before-trans (i ∷ p) [] r h g = absurd (cc)
-before-trans (i ∷ p) (j ∷ q) [] h g = refl
-before-trans (i ∷ p) (j ∷ q) (k ∷ r) h g = head i j k (stands_before p q) (stands_before q r) (stands_before p r) (before-trans p q r) h g
-  where
-    head : (i j k : ℕ) (a b c : Bool) → (a ≡ true → b ≡ true → c ≡ true) → nat_lt i j || (nat_eq i j && a) ≡ true → nat_lt j k || (nat_eq j k && b) ≡ true →
-        nat_lt i k || (nat_eq i k && c) ≡ true
-    head i j k true true true f h g = grind (arith, nat_tests)
-    head i j k true true false f h g = absurd (let x = f refl refl in cc)
-    head i j k true false c f h g = elim c [ true ↦ grind (arith, nat_tests) | false ↦ grind (arith, nat_tests) ]
-    head i j k false b c f h g = elim b [
-      | true ↦ elim c [ true ↦ grind (arith, nat_tests) | false ↦ grind (arith, nat_tests) ]
-      | false ↦
-          elim c [ true ↦ grind (arith, nat_tests) | false ↦ grind (arith, nat_tests) ]
-    ]
-
--- of two others one stands before the other
-pub before-total : (p q : List ℕ) → stands_before q p ≡ false → same_path p q ≡ false → stands_before p q ≡ true
-before-total [] [] h g = absurd (cc)
-before-total [] (j ∷ q) h g = absurd (cc)
-before-total (i ∷ p) [] h g = refl
-before-total (i ∷ p) (j ∷ q) h g = head i j (stands_before q p) (same_path p q) (stands_before p q) (before-total p q) h g
-  where
-    head : (i j : ℕ) (a s b : Bool) → (a ≡ false → s ≡ false → b ≡ true) → nat_lt j i || (nat_eq j i && a) ≡ false → nat_eq i j && s ≡ false →
-        nat_lt i j || (nat_eq i j && b) ≡ true
-    head i j false false true f h g = grind (arith, nat_tests)
-    head i j false false false f h g = absurd (let x = f refl refl in cc)
-    head i j true s true f h g = elim s [ true ↦ grind (arith, nat_tests) | false ↦ grind (arith, nat_tests) ]
-    head i j true s false f h g = elim s [ true ↦ grind (arith, nat_tests) | false ↦ grind (arith, nat_tests) ]
-    head i j false true b f h g = elim b [ true ↦ grind (arith, nat_tests) | false ↦ grind (arith, nat_tests) ]
-
--- what stands before the first entry of some stands before them all
-pub further : (p q : List ℕ) (es : List Entry) → stands_before p q ≡ true → before_all q es ≡ true → before_all p es ≡ true
-further p q [] h g = refl
-further p q (e ∷ es) h g =
-    and-both (stands_before p e.path) (before_all p es) (before-trans p q e.path h (and-left (stands_before q e.path) (before_all q es) g))
-    (further p q es h (and-right (stands_before q e.path) (before_all q es) g))
-
--- an entry of those that a task stands before
-pub at-index : (p : List ℕ) (es : List Entry) (n : ℕ) (e : Entry) → before_all p es ≡ true → n < length es → e ≡ slice_index_or es n e →
-    stands_before p e.path ≡ true
-at-index p [] n e h lt q = absurd (omega arith)
-at-index p (x ∷ es) zero e h lt q = ap (λ (z : Entry). stands_before p z.path) q ∙ and-left (stands_before p x.path) (before_all p es) h
-at-index p (x ∷ es) (suc n) e h lt q = at-index p es n e (and-right (stands_before p x.path) (before_all p es) h) (omega arith) q
-
--- an entry that stands before a task lies within the rank
-pub low_half : (p : List ℕ) (es : List Entry) (n : ℕ) (e : Entry) → is_ordered es ≡ true → n < length es → e ≡ slice_index_or es n e →
-    stands_before e.path p ≡ true → n < rank p es
-low_half p [] n e o lt q h = absurd (omega arith)
-low_half p (x ∷ es) zero e o lt q h =
-    let b : stands_before x.path p ≡ true = ap (λ (z : Entry). stands_before z.path p) (sym q) ∙ h in
-    subst (λ b. 0 < (if b then suc (rank p es) else 0)) (sym b) (omega arith)
-low_half p (x ∷ es) (suc n) e o lt q h =
-    let all : before_all x.path es ≡ true = and-left (before_all x.path es) (is_ordered es) o in
-    let b : stands_before x.path p ≡ true = before-trans x.path e.path p (at-index x.path es n e all (omega arith) q) h in
-    let r : n < rank p es = low_half p es n e (and-right (before_all x.path es) (is_ordered es) o) (omega arith) q h in
-    subst (λ b. suc n < (if b then suc (rank p es) else 0)) (sym b) (omega arith)
-
--- and one that does not lies past it
-pub high_half : (p : List ℕ) (es : List Entry) (n : ℕ) (e : Entry) → n < length es → e ≡ slice_index_or es n e → stands_before e.path p ≡ false → rank p es ≤ n
-high_half p [] n e lt q h = absurd (omega arith)
-high_half p (x ∷ es) zero e lt q h =
-    let b : stands_before x.path p ≡ false = ap (λ (z : Entry). stands_before z.path p) (sym q) ∙ h in
-    subst (λ b. (if b then suc (rank p es) else 0) ≤ 0) (sym b) (omega arith)
-high_half p (x ∷ es) (suc n) e lt q h =
-    let r : rank p es ≤ n = high_half p es n e (omega arith) q h in
-    go (stands_before x.path p) r
-  where
-    go : (b : Bool) → rank p es ≤ n → (if b then suc (rank p es) else 0) ≤ suc n
-    go true r = omega arith
-    go false r = omega arith
-
-pub rank_within : (p : List ℕ) (es : List Entry) → rank p es ≤ length es
-rank_within p [] = omega arith
-rank_within p (x ∷ es) = let r : rank p es ≤ length es = rank_within p es in go (stands_before x.path p) r
-  where
-    go : (b : Bool) → rank p es ≤ length es → (if b then suc (rank p es) else 0) ≤ suc (length es)
-    go true r = omega arith
-    go false r = omega arith
-
-not-among : (p : List ℕ) (es : List Entry) → before_all p es ≡ true → place_in p es ≡ length es
-not-among p [] h = refl
-not-among p (e ∷ es) h =
-    subst (λ b. (if b then 0 else suc (place_in p es)) ≡ suc (length es)) (sym (turned p e.path (and-left (stands_before p e.path) (before_all p es) h)))
-    (ap suc (not-among p es (and-right (stands_before p e.path) (before_all p es) h)))
-  where
-    turned : (p q : List ℕ) → stands_before p q ≡ true → same_path p q ≡ false
-    turned p q h = flip (same_path p q) refl
-      where
-        flip : (b : Bool) → same_path p q ≡ b → same_path p q ≡ false
-        flip false e = e
-        flip true e = absurd (true-not-false (sym (same-refl p) ∙ before-other p p (subst (λ z. stands_before p z ≡ true) (sym (same-is p q e)) h)))
-
--- where the entry at the rank is the path's, this is its place
-pub found : (p : List ℕ) (es : List Entry) (n : ℕ) (e : Entry) → n ≡ rank p es → n < length es → e ≡ slice_index_or es n e → same_path p e.path ≡ true →
-    n ≡ place_in p es
-found p [] n e r lt q h = absurd (omega arith)
-found p (x ∷ es) n e r lt q h = go (found p es) (stands_before x.path p) refl n r lt q
-  where
-    go : ((m : ℕ) (f : Entry) → m ≡ rank p es → m < length es → f ≡ slice_index_or es m f → same_path p f.path ≡ true → m ≡ place_in p es) → (b : Bool) →
-        stands_before x.path p ≡ b → (n : ℕ) → n ≡ (if b then suc (rank p es) else 0) → n < suc (length es) → e ≡ slice_index_or (x ∷ es) n e →
-        n ≡ place_in p (x ∷ es)
-    go f true w zero r lt q = absurd (omega arith)
-    go f true w (suc n) r lt q =
-        let i : n ≡ place_in p es = f n e (omega arith) (omega arith) q h in
-        subst (λ b. suc n ≡ (if b then 0 else suc (place_in p es))) (sym (before-other x.path p w)) (ap suc i)
-    go f false w (suc n) r lt q = absurd (omega arith)
-    go f false w zero r lt q =
-        subst (λ b. 0 ≡ (if b then 0 else suc (place_in p es))) (sym (ap (λ (z : Entry). same_path p z.path) (sym q) ∙ h)) refl
-
--- where it is another's, the path has no entry
-pub missed : (p : List ℕ) (es : List Entry) (n : ℕ) (e : Entry) → is_ordered es ≡ true → n ≡ rank p es → n < length es → e ≡ slice_index_or es n e →
-    same_path p e.path ≡ false → length es ≡ place_in p es
-missed p [] n e o r lt q h = refl
-missed p (x ∷ es) n e o r lt q h = go (missed p es) (stands_before x.path p) refl n r lt q
-  where
-    all : before_all x.path es ≡ true
-    all = and-left (before_all x.path es) (is_ordered es) o
-
-    go : ((m : ℕ) (f : Entry) → is_ordered es ≡ true → m ≡ rank p es → m < length es → f ≡ slice_index_or es m f → same_path p f.path ≡ false →
-        length es ≡ place_in p es) → (b : Bool) → stands_before x.path p ≡ b → (n : ℕ) → n ≡ (if b then suc (rank p es) else 0) → n < suc (length es) →
-        e ≡ slice_index_or (x ∷ es) n e → suc (length es) ≡ place_in p (x ∷ es)
-    go f true w zero r lt q = absurd (omega arith)
-    go f true w (suc n) r lt q =
-        let i : length es ≡ place_in p es = f n e (and-right (before_all x.path es) (is_ordered es) o) (omega arith) (omega arith) q h in
-        subst (λ b. suc (length es) ≡ (if b then 0 else suc (place_in p es))) (sym (before-other x.path p w)) (ap suc i)
-    go f false w (suc n) r lt q = absurd (omega arith)
-    go f false w zero r lt q =
-        let s : same_path p x.path ≡ false = ap (λ (z : Entry). same_path p z.path) (sym q) ∙ h in
-        subst (λ b. suc (length es) ≡ (if b then 0 else suc (place_in p es))) (sym s)
-        (ap suc (sym (not-among p es (further p x.path es (before-total p x.path w s) all))))
-
--- nor where all entries stand before it
-pub past-all : (p : List ℕ) (es : List Entry) (n : ℕ) → n ≡ rank p es → length es ≤ n → length es ≡ place_in p es
-past-all p [] n r le = refl
-past-all p (x ∷ es) n r le = go (past-all p es) (stands_before x.path p) refl n r le
-  where
-    go : ((m : ℕ) → m ≡ rank p es → length es ≤ m → length es ≡ place_in p es) → (b : Bool) → stands_before x.path p ≡ b → (n : ℕ) →
-        n ≡ (if b then suc (rank p es) else 0) → suc (length es) ≤ n → suc (length es) ≡ place_in p (x ∷ es)
-    go f true w zero r le = absurd (omega arith)
-    go f true w (suc n) r le =
-        let i : length es ≡ place_in p es = f n (omega arith) (omega arith) in
-        subst (λ b. suc (length es) ≡ (if b then 0 else suc (place_in p es))) (sym (before-other x.path p w)) (ap suc i)
-    go f false w n r le = absurd (omega arith)
-
--- the order is kept where entries change but for their paths
-pub at-before : (q p : List ℕ) (f : Entry → Entry) (es : List Entry) → ((e : Entry) → (f e).path ≡ e.path) → before_all q (at p f es) ≡ before_all q es
-at-before q p f [] h = refl
-at-before q p f (e ∷ es) h =
-    elim (same_path p e.path) as (λ b. before_all q (if b then f e ∷ es else e ∷ at p f es) ≡ before_all q (e ∷ es)) [
-      | true ↦ ap (λ x. stands_before q x && before_all q es) (h e)
-      | false ↦ ap (λ b. stands_before q e.path && b) (at-before q p f es h)
+-- entries change but for their paths
+at-paths : (p : List ℕ) (f : Entry → Entry) (es : List Entry) → ((e : Entry) → (f e).path ≡ e.path) → paths (at p f es) ≡ paths es
+at-paths p f [] h = refl
+at-paths p f (e ∷ es) h =
+    elim (same_path p e.path) as (λ b. paths (if b then f e ∷ es else e ∷ at p f es) ≡ paths (e ∷ es)) [
+      | true ↦ ap (λ q. q ∷ paths es) (h e)
+      | false ↦ ap (λ qs. e.path ∷ qs) (at-paths p f es h)
     ]
 
 pub at-ordered : (p : List ℕ) (f : Entry → Entry) (es : List Entry) → ((e : Entry) → (f e).path ≡ e.path) → is_ordered (at p f es) ≡ is_ordered es
-at-ordered p f [] h = refl
-at-ordered p f (e ∷ es) h =
-    elim (same_path p e.path) as (λ b. is_ordered (if b then f e ∷ es else e ∷ at p f es) ≡ is_ordered (e ∷ es)) [
-      | true ↦ ap (λ x. before_all x es && is_ordered es) (h e)
-      | false ↦ ap (λ b. b && is_ordered (at p f es)) (at-before e.path p f es h) ∙ ap (λ b. before_all e.path es && b) (at-ordered p f es h)
-    ]
+at-ordered p f es h = ap order.is_ordered (at-paths p f es h)
 
--- and where one goes
-pub without-before : (q p : List ℕ) (es : List Entry) → before_all q es ≡ true → before_all q (without p es) ≡ true
-without-before q p [] h = refl
-without-before q p (e ∷ es) h =
-    let l : stands_before q e.path ≡ true = and-left (stands_before q e.path) (before_all q es) h in
-    let r : before_all q es ≡ true = and-right (stands_before q e.path) (before_all q es) h in
-    elim (same_path p e.path) as (λ b. before_all q (if b then es else e ∷ without p es) ≡ true) [
-      | true ↦ r
-      | false ↦ and-both (stands_before q e.path) (before_all q (without p es)) l (without-before q p es r)
+-- one goes
+without-paths : (p : List ℕ) (es : List Entry) → paths (without p es) ≡ order.without p (paths es)
+without-paths p [] = refl
+without-paths p (e ∷ es) =
+    elim (same_path p e.path) as (λ b. paths (if b then es else e ∷ without p es) ≡ (if b then paths es else e.path ∷ order.without p (paths es))) [
+      | true ↦ refl
+      | false ↦ ap (λ qs. e.path ∷ qs) (without-paths p es)
     ]
 
 pub without-ordered : (p : List ℕ) (es : List Entry) → is_ordered es ≡ true → is_ordered (without p es) ≡ true
-without-ordered p [] h = refl
-without-ordered p (e ∷ es) h =
-    let l : before_all e.path es ≡ true = and-left (before_all e.path es) (is_ordered es) h in
-    let r : is_ordered es ≡ true = and-right (before_all e.path es) (is_ordered es) h in
-    elim (same_path p e.path) as (λ b. is_ordered (if b then es else e ∷ without p es) ≡ true) [
-      | true ↦ r
-      | false ↦ and-both (before_all e.path (without p es)) (is_ordered (without p es)) (without-before e.path p es l) (without-ordered p es r)
-    ]
+without-ordered p es h = ap order.is_ordered (without-paths p es) ∙ in_order.without-ordered p (paths es) h
 
--- and where a child's is put before its parent's that fits there
-pub entered-before : (q p c : List ℕ) (a : Rights) (es : List Entry) → before_all q es ≡ true → stands_before q c ≡ true →
-    before_all q (entered_in p c a es) ≡ true
-entered-before q p c a [] h g = refl
-entered-before q p c a (e ∷ es) h g =
-    let l : stands_before q e.path ≡ true = and-left (stands_before q e.path) (before_all q es) h in
-    let r : before_all q es ≡ true = and-right (stands_before q e.path) (before_all q es) h in
-    elim (same_path p e.path) as (λ b. before_all q (if b then newborn c a e ∷ (e ∷ es) else e ∷ entered_in p c a es) ≡ true) [
-      | true ↦ and-both (stands_before q c) (before_all q (e ∷ es)) g h
-      | false ↦ and-both (stands_before q e.path) (before_all q (entered_in p c a es)) l (entered-before q p c a es r g)
+-- a child's is put before its parent's that fits there
+entered-paths : (p c : List ℕ) (a : Rights) (es : List Entry) → paths (entered_in p c a es) ≡ order.entered p c (paths es)
+entered-paths p c a [] = refl
+entered-paths p c a (e ∷ es) =
+    elim (same_path p e.path) as (λ b. paths (if b then newborn c a e ∷ (e ∷ es) else e ∷ entered_in p c a es) ≡
+    (if b then c ∷ (e.path ∷ paths es) else e.path ∷ order.entered p c (paths es))) [
+      | true ↦ refl
+      | false ↦ ap (λ qs. e.path ∷ qs) (entered-paths p c a es)
     ]
 
 pub entered-ordered : (p c : List ℕ) (a : Rights) (es : List Entry) → is_ordered es ≡ true → fits p c es ≡ true → is_ordered (entered_in p c a es) ≡ true
-entered-ordered p c a [] h g = refl
-entered-ordered p c a (e ∷ es) h g = go (entered-ordered p c a es) (same_path p e.path) g
-  where
-    l : before_all e.path es ≡ true
-    l = and-left (before_all e.path es) (is_ordered es) h
-
-    r : is_ordered es ≡ true
-    r = and-right (before_all e.path es) (is_ordered es) h
-
-    go : (is_ordered es ≡ true → fits p c es ≡ true → is_ordered (entered_in p c a es) ≡ true) → (b : Bool) →
-        (if b then stands_before c e.path else (stands_before e.path c && fits p c es)) ≡ true →
-        is_ordered (if b then newborn c a e ∷ (e ∷ es) else e ∷ entered_in p c a es) ≡ true
-    go f true g = and-both (before_all c (e ∷ es)) (is_ordered (e ∷ es)) (and-both (stands_before c e.path) (before_all c es) g (further c e.path es g l)) h
-    go f false g =
-        let b : stands_before e.path c ≡ true = and-left (stands_before e.path c) (fits p c es) g in
-        let t : fits p c es ≡ true = and-right (stands_before e.path c) (fits p c es) g in
-        and-both (before_all e.path (entered_in p c a es)) (is_ordered (entered_in p c a es)) (entered-before e.path p c a es l b) (f r t)
-
-swap : (a b : Bool) → a && b ≡ b && a
-swap true true = refl
-swap true false = refl
-swap false true = refl
-swap false false = refl
-
-implied : (a b : Bool) → (b ≡ true → a ≡ true) → b ≡ a && b
-implied true b f = refl
-implied false true f = absurd (let x = f refl in cc)
-implied false false f = refl
-
--- an entry more in front asks no more
-within : (c : List ℕ) (e : Entry) (es : List Entry) (n : ℕ) → is_ordered (e ∷ es) ≡ true → n < length es →
-    fits_at (suc n) c (e ∷ es) ≡ stands_before e.path c && fits_at n c es
-within c e [] n o lt = absurd (omega arith)
-within c e (x ∷ es) zero o lt = swap (stands_before c x.path) (stands_before e.path c)
-within c e (x ∷ es) (suc n) o lt =
-    let l : before_all e.path (x ∷ es) ≡ true = and-left (before_all e.path (x ∷ es)) (is_ordered (x ∷ es)) o in
-    let r : is_ordered (x ∷ es) ≡ true = and-right (before_all e.path (x ∷ es)) (is_ordered (x ∷ es)) o in
-    let b : stands_before e.path x.path ≡ true = and-left (stands_before e.path x.path) (before_all e.path es) l in
-    let i : fits_at (suc n) c (x ∷ es) ≡ stands_before x.path c && fits_at n c es = within c x es n r (omega arith) in
-    implied (stands_before e.path c) (fits_at (suc n) c (x ∷ es))
-    (λ t. before-trans e.path x.path c b (and-left (stands_before x.path c) (fits_at n c es) (sym i ∙ t)))
+entered-ordered p c a es h g = ap order.is_ordered (entered-paths p c a es) ∙ in_order.entered-ordered p c (paths es) h g
 
 -- where it fits is told by two entries
-pub fits-there : (p c : List ℕ) (es : List Entry) → is_ordered es ≡ true → place_in p es < length es → fits_at (place_in p es) c es ≡ fits p c es
-fits-there p c [] h lt = refl
-fits-there p c (e ∷ es) h lt = go (fits-there p c es) (same_path p e.path) lt
-  where
-    r : is_ordered es ≡ true
-    r = and-right (before_all e.path es) (is_ordered es) h
-
-    go : (is_ordered es ≡ true → place_in p es < length es → fits_at (place_in p es) c es ≡ fits p c es) → (b : Bool) →
-        (if b then 0 else suc (place_in p es)) < suc (length es) →
-        fits_at (if b then 0 else suc (place_in p es)) c (e ∷ es) ≡ (if b then stands_before c e.path else (stands_before e.path c && fits p c es))
-    go f true lt = refl
-    go f false lt = within c e es (place_in p es) h (omega arith) ∙ ap (λ b. stands_before e.path c && b) (f r (omega arith))
-
-and-none : (a b : Bool) → b ≡ false → a && b ≡ false
-and-none true b h = h
-and-none false b h = refl
+pub fits-there : (p c : List ℕ) (es : List Entry) → is_ordered es ≡ true → place_in p es < length es →
+    order.fits_at (place_in p es) c (paths es) ≡ fits p c es
+fits-there p c es h lt =
+    let q = place-paths p es in
+    let l = length-paths es in
+    ap (λ n. order.fits_at n c (paths es)) (sym q) ∙ in_order.fits-there p c (paths es) h (omega (arith, q, l))
 
 -- a path without an entry fits nowhere
 pub fits-past : (p c : List ℕ) (es : List Entry) → length es ≤ place_in p es → fits p c es ≡ false
-fits-past p c [] le = refl
-fits-past p c (e ∷ es) le = go (fits-past p c es) (same_path p e.path) le
-  where
-    go : (length es ≤ place_in p es → fits p c es ≡ false) → (b : Bool) → suc (length es) ≤ (if b then 0 else suc (place_in p es)) →
-        (if b then stands_before c e.path else (stands_before e.path c && fits p c es)) ≡ false
-    go f true le = absurd (omega arith)
-    go f false le = and-none (stands_before e.path c) (fits p c es) (f (omega arith))
-
--- what is left of two lists past their shared numbers
-pub ends : (p q : List ℕ) (n : ℕ) → n ≡ min (length p) (length q) → nat_lt (length q) (length p) ≡ stands_before (drop n p) (drop n q)
-ends [] q n e = first n (length q) (omega (arith, e))
-  where
-    first : (n k : ℕ) → n ≡ 0 → nat_lt k 0 ≡ stands_before (drop n []) (drop n q)
-    first zero k e = grind (arith, nat_tests)
-    first (suc n) k e = absurd (omega arith)
-ends (i ∷ p) [] n e = first n (omega (arith, e))
-  where
-    first : (n : ℕ) → n ≡ 0 → nat_lt 0 (suc (length p)) ≡ stands_before (drop n (i ∷ p)) (drop n [])
-    first zero e = grind (arith, nat_tests)
-    first (suc n) e = absurd (omega arith)
-ends (i ∷ p) (j ∷ q) zero e = absurd (omega arith)
-ends (i ∷ p) (j ∷ q) (suc n) e = less (length q) (length p) ∙ ends p q n (omega arith)
-  where
-    less : (a b : ℕ) → nat_lt (suc a) (suc b) ≡ nat_lt a b
-    less a b = grind (arith, nat_tests)
+fits-past p c es le =
+    let q = place-paths p es in
+    let l = length-paths es in
+    in_order.fits-past p c (paths es) (omega (arith, q, l))
 
 -- the entry put where it fits
 pub fitted-in : (p c : List ℕ) (a : Rights) (es : List Entry) → fits p c es ≡ true → fitted_in p c a es ≡ entered_in p c a es
@@ -344,24 +77,3 @@ fitted-in p c a es h = subst (λ b. (if b then entered_in p c a es else es) ≡ 
 
 pub fitted-out : (p c : List ℕ) (a : Rights) (es : List Entry) → fits p c es ≡ false → es ≡ fitted_in p c a es
 fitted-out p c a es h = subst (λ b. es ≡ (if b then entered_in p c a es else es)) (sym h) refl
-
--- two entries tell of a place past the front, and the later alone where it does not let the child stand before it
-pub fits-pair : (k : List ℕ) (es : List Entry) (n m : ℕ) (e f : Entry) → n ≡ suc m → n < length es → e ≡ slice_index_or es n e → f ≡ slice_index_or es m f →
-    fits_at n k es ≡ stands_before k e.path && stands_before f.path k
-fits-pair k es zero m e f s lt q r = absurd (omega arith)
-fits-pair k [] (suc n) m e f s lt q r = absurd (omega arith)
-fits-pair k (x ∷ []) (suc n) m e f s lt q r = absurd (omega arith)
-fits-pair k (x ∷ (y ∷ es)) (suc zero) zero e f s lt q r =
-    ap (λ (z : Entry). stands_before k z.path && stands_before x.path k) (sym q) ∙ ap (λ (z : Entry). stands_before k e.path && stands_before z.path k) (sym r)
-fits-pair k (x ∷ (y ∷ es)) (suc zero) (suc m) e f s lt q r = absurd (omega arith)
-fits-pair k (x ∷ (y ∷ es)) (suc (suc n)) zero e f s lt q r = absurd (omega arith)
-fits-pair k (x ∷ (y ∷ es)) (suc (suc n)) (suc m) e f s lt q r = fits-pair k (y ∷ es) (suc n) m e f (omega arith) (omega arith) q r
-
-pub fits-not : (k : List ℕ) (es : List Entry) (n : ℕ) (e : Entry) → n < length es → e ≡ slice_index_or es n e → stands_before k e.path ≡ false →
-    fits_at n k es ≡ false
-fits-not k [] n e lt q h = refl
-fits-not k (x ∷ es) zero e lt q h = ap (λ (z : Entry). stands_before k z.path) (sym q) ∙ h
-fits-not k (x ∷ []) (suc n) e lt q h = absurd (omega arith)
-fits-not k (x ∷ (y ∷ es)) (suc zero) e lt q h =
-    ap (λ (z : Entry). stands_before k z.path && stands_before x.path k) (sym q) ∙ ap (λ b. b && stands_before x.path k) h
-fits-not k (x ∷ (y ∷ es)) (suc (suc n)) e lt q h = fits-not k (y ∷ es) (suc n) e (omega arith) q h

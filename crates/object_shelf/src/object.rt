@@ -1,4 +1,4 @@
-ghost use Rattle.std.specs.Prelude.{◌≡◌, true, false, None, Some, is_some, pos, length, IfOk, OnOk, OnErr, MatchOption};
+ghost use Rattle.std.specs.Prelude.{◌≡◌, ◌<◌, true, false, None, Some, is_some, pos, length, slice_get, IfOk, OnOk, OnErr, MatchOption};
 ghost use Rattle.object_shelf.specs.Shelves.{find, keeper_in, entered, taken, given, shifted, left, written, content_for, value_in, at, held_for, entered_in};
 ghost use Rattle.object_shelf.specs.Shelves.{started as begun};
 ghost use Rattle.object_shelf.specs.Order.{fits};
@@ -110,6 +110,21 @@ impl Object {
     {
         self.shelf.leave(path);
         settle(&mut self.shelf, &mut self.hand);
+    }
+
+    /// The number of entries of the queue.
+    pub fn len(&self) -> usize
+        ensures { result ≡ length self.now.queue }
+    {
+        self.shelf.len()
+    }
+
+    /// The entry at a place of the queue, counted from the front. It takes no memory.
+    pub fn entry(&self, place: usize) -> &Entry
+        requires { place < length self.now.queue }
+        ensures { slice_get self.now.queue place ≡ Some result.now }
+    {
+        self.shelf.entry(place)
     }
 
     /// Whether a task has the content out.
@@ -249,22 +264,12 @@ fn settle(shelf: &mut Shelf, hand: &mut Option<Content>)
     ensures one { is_one shelf.new.home hand.new ≡ true }
     ensures out { is_some hand.new ≡ is_out shelf.new.queue }
 {
-    if has_holder(shelf) {
+    if shelf.is_out() {
         return;
     }
     match hand.take() {
         Some(content) => shelf.bring(content),
         None => {}
-    }
-}
-
-// Whether an entry has the content out.
-fn has_holder(shelf: &Shelf) -> bool
-    ensures { result ≡ is_out shelf.now.queue }
-{
-    match shelf.holder() {
-        Some(_) => true,
-        None => false,
     }
 }
 

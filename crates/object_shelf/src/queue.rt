@@ -1,13 +1,20 @@
 ghost use Rattle.std.specs.Prelude.{◌≡◌, ◌<◌, ◌∷◌, [], true, None, Some, length, slice_get, IfOk, OnOk, OnErr, MatchOption};
-ghost use Rattle.object_shelf.specs.Shelves.{same_path, place_in, find, blocker_in, holder_in, takes_out, at, without, newborn, conflicts, if_read_only, held_with, released, with_rights};
-ghost use Rattle.object_shelf.specs.Order.{stands_before, rank, is_ordered, fits_at, fitted_in};
+ghost use Rattle.object_shelf.specs.Shelves.{place_in, find, blocker_in, holder_in, takes_out, at, without, newborn, if_read_only};
+ghost use Rattle.object_shelf.specs.Shelves.{held_with, released, with_rights};
+ghost use Rattle.object_shelf.specs.Order.{is_ordered, paths, fitted_in};
+ghost use Rattle.object_shelf.specs.Clear.{IsClear};
+ghost use Rattle.object_shelf.specs.Whole.{is_out};
+ghost use Rattle.task_roll.specs.Order.{fits_at};
 ghost use Rattle.object_shelf.specs.Whole.{reset};
 ghost use Rattle.std.specs.List.{insert, remove};
 
+use crate::clear::{Clear, of_one, out_at, takes_out};
 use jade_base::{Memory, Mode, Path, Rights, SharedCells};
 use std::alloc::Global;
 use std::collections::VecDeque;
 use std::marker::Model;
+use task_roll::OnPath;
+use task_roll::order::{fits_at, place_of};
 
 /// A task's entry in the queue of an object: its rights, its hold, and the version of the content
 /// that is kept for it.
@@ -19,24 +26,35 @@ pub struct Entry {
     pub version: Option<SharedCells>,
 }
 
+impl OnPath for Entry {
+    ghost task = { λ e. e.path };
+
+    fn path(&self) -> &Path {
+        &self.path
+    }
+}
+
 /// The entries of an object in the serial order of their tasks. Contracts see it as their list.
 /// Tasks end at its front and make their children near its back, and both are near an end of the
-/// deque; an entry is found by halves.
+/// deque; an entry is found by halves, and the first that keeps a task from the object by how far
+/// the queue is clear for each mode.
 #[derive(Debug, Drop)]
 pub(crate) struct Queue {
     rows: VecDeque<Entry>,
+    clear: Clear,
 }
 
 impl Model for Queue {
     ghost use Rattle.std.specs.Prelude.{◌≡◌, true, List};
     ghost use Rattle.object_shelf.specs.declared.queue.Entry.{Entry as EntryOf};
     ghost use Rattle.object_shelf.specs.Order.{is_ordered};
+    ghost use Rattle.object_shelf.specs.Clear.{IsClear};
 
     ghost Value = { List EntryOf };
 
     ghost view = { λ q. q.rows.items };
 
-    ghost invariant = { λ q. is_ordered q.rows.items ≡ true };
+    ghost invariant = { λ q. (is_ordered q.rows.items ≡ true) × (IsClear q.clear q.rows.items) };
 }
 
 impl Queue {
@@ -44,9 +62,10 @@ impl Queue {
     pub(crate) fn of(alloc: Global, entry: Entry) -> Result<Queue, Memory>
         ensures { IfOk result (λ queue. queue ≡ entry ∷ []) }
     {
+        let clear = of_one(&entry);
         let mut rows = VecDeque::new(alloc);
         match rows.push_back(entry) {
-            Ok(()) => Ok(Queue { rows }),
+            Ok(()) => Ok(Queue { rows, clear }),
             Err(_) => Err(Memory),
         }
     }
@@ -63,7 +82,14 @@ impl Queue {
         ensures done { OnOk result (self.new ≡ fitted_in parent.now child.now rights self.old) }
         ensures unchanged { OnErr result (self.new ≡ self.old) }
     {
-        enter_in(&mut self.rows, alloc, parent, child, rights)
+        enter_in(
+            &mut self.rows,
+            &mut self.clear,
+            alloc,
+            parent,
+            child,
+            rights,
+        )
     }
 
     /// The number of entries.
@@ -92,7 +118,7 @@ impl Queue {
     pub(crate) fn blocker(&self, path: &Path, mode: Mode) -> Option<&Entry>
         ensures { MatchOption result (blocker_in path.now mode self.now ≡ None) (λ e. blocker_in path.now mode self.now ≡ Some e.now) }
     {
-        first_conflict(&self.rows, path, mode)
+        first_conflict(&self.rows, &self.clear, path, mode)
     }
 
     /// The entry with which the content is out.
@@ -102,135 +128,92 @@ impl Queue {
         holder(&self.rows)
     }
 
+    /// Whether an entry has the content out.
+    pub(crate) fn is_out(&self) -> bool
+        ensures { result ≡ is_out self.now }
+    {
+        any_out(&self.clear, &self.rows)
+    }
+
     /// The path's task holds the object, and this version is kept for it from now on.
     pub(crate) fn hold(&mut self, path: &Path, mode: Mode, fresh: Option<SharedCells>)
         ensures { self.new ≡ at path.now (held_with mode fresh) self.old }
     {
-        hold_in(&mut self.rows, path, mode, fresh);
+        hold_in(&mut self.rows, &mut self.clear, path, mode, fresh);
     }
 
     /// The path's task holds the object no longer.
     pub(crate) fn release(&mut self, path: &Path)
         ensures { self.new ≡ at path.now released self.old }
     {
-        release_in(&mut self.rows, path);
+        release_in(&mut self.rows, &mut self.clear, path);
     }
 
     /// The path's task holds the object no longer, and this version is what is kept for it.
     pub(crate) fn restore(&mut self, path: &Path, version: Option<SharedCells>)
         ensures { self.new ≡ at path.now (reset version) self.old }
     {
-        restore_in(&mut self.rows, path, version);
+        restore_in(&mut self.rows, &mut self.clear, path, version);
     }
 
     /// The path's entry gets other rights.
     pub(crate) fn shift(&mut self, path: &Path, rights: Rights)
         ensures { self.new ≡ at path.now (with_rights rights) self.old }
     {
-        shift_in(&mut self.rows, path, rights);
+        shift_in(&mut self.rows, &mut self.clear, path, rights);
     }
 
     /// The path's entry goes.
     pub(crate) fn leave(&mut self, path: &Path)
         ensures { self.new ≡ without path.now self.old }
     {
-        leave_in(&mut self.rows, path);
+        leave_in(&mut self.rows, &mut self.clear, path);
     }
-}
-
-// Whether two paths are one.
-fn same_path(left: &Path, right: &Path) -> bool
-    ensures { result ≡ same_path left.now right.now }
-{
-    left.compare(right).is_eq()
-}
-
-// Whether the first task stands before the other in the serial order.
-fn stands_before(first: &Path, other: &Path) -> bool
-    ensures { result ≡ stands_before first.now other.now }
-{
-    comes_first(first.numbers(), other.numbers())
-}
-
-// The same of the numbers of two paths.
-fn comes_first(first: &[u32], other: &[u32]) -> bool
-    ensures { result ≡ stands_before first.now other.now }
-{
-    let shared = first.len().min(other.len());
-    for i in 0..shared {
-        if first[i] != other[i] {
-            return first[i] < other[i];
-        }
-    }
-    first.len() > other.len()
-}
-
-// How many entries at the front stand before a path, found by halves.
-#[tactic(auto, using(crate::proofs::Order::low_half, crate::proofs::Order::high_half, crate::proofs::Order::rank_within))]
-fn rank_of(rows: &VecDeque<Entry>, path: &Path) -> usize
-    requires { is_ordered rows.now.items ≡ true }
-    ensures { result ≡ rank path.now rows.now.items }
-{
-    let mut low = 0;
-    let mut high = rows.len();
-    'halves: while low < high {
-        let middle = low + (high - low) / 2;
-        if stands_before(&rows[middle].path, path) {
-            low = middle + 1;
-        } else {
-            high = middle;
-        }
-    }
-    low
 }
 
 // How many entries stand before the path's; where it has none, their number.
-fn place_of(rows: &VecDeque<Entry>, path: &Path) -> usize
+fn entry_place(rows: &VecDeque<Entry>, path: &Path) -> usize
     requires { is_ordered rows.now.items ≡ true }
     ensures { result ≡ place_in path.now rows.now.items }
 {
-    let place = rank_of(rows, path);
-    if place < rows.len() && same_path(path, &rows[place].path) {
-        return place;
-    }
-    rows.len()
+    place_of(rows, path)
 }
 
 // Puts the child's entry directly before its parent's, where that keeps the order.
 fn enter_in(
     rows: &mut VecDeque<Entry>,
+    clear: &mut Clear,
     alloc: Global,
     parent: &Path,
     child: &Path,
     rights: Rights,
 ) -> Result<(), Memory>
-    requires { is_ordered rows.old.items ≡ true }
+    requires ordered { is_ordered rows.old.items ≡ true }
+    requires clear { IsClear clear.old rows.old.items }
     ensures done { OnOk result (rows.new.items ≡ fitted_in parent.now child.now rights rows.old.items) }
     ensures unchanged { OnErr result (rows.new.items ≡ rows.old.items) }
-    ensures ordered { is_ordered rows.new.items ≡ true }
+    ensures order { is_ordered rows.new.items ≡ true }
+    ensures clears { IsClear clear.new rows.new.items }
 {
-    let place = place_of(rows, parent);
+    let place = entry_place(rows, parent);
     if place >= rows.len() {
         return Ok(());
     }
-    if !fits_at(rows, place, child) {
+    if !child_fits(rows, place, child) {
         return Ok(());
     }
     let entry = born(alloc, &rows[place], child, rights)?;
     insert(rows, place, entry)?;
+    clear.entered(rows, place);
     Ok(())
 }
 
 // Whether a task stands between the entry at a place and the one before it.
-fn fits_at(rows: &VecDeque<Entry>, place: usize, child: &Path) -> bool
+fn child_fits(rows: &VecDeque<Entry>, place: usize, child: &Path) -> bool
     requires { place < length rows.now.items }
-    ensures { result ≡ fits_at place child.now rows.now.items }
+    ensures { result ≡ fits_at place child.now (paths rows.now.items) }
 {
-    let first = stands_before(child, &rows[place].path);
-    if place == 0 {
-        return first;
-    }
-    first && stands_before(&rows[place - 1].path, child)
+    fits_at(rows, place, child)
 }
 
 // The entry of a child of the task of this entry.
@@ -277,7 +260,7 @@ fn find_in<'a>(rows: &'a VecDeque<Entry>, path: &Path) -> Option<&'a Entry>
     requires { is_ordered rows.now.items ≡ true }
     ensures { MatchOption result (find path.now rows.now.items ≡ None) (λ e. find path.now rows.now.items ≡ Some e.now) }
 {
-    let place = place_of(rows, path);
+    let place = entry_place(rows, path);
     if place < rows.len() {
         return Some(&rows[place]);
     }
@@ -285,18 +268,39 @@ fn find_in<'a>(rows: &'a VecDeque<Entry>, path: &Path) -> Option<&'a Entry>
 }
 
 // The first entry before the path's that conflicts with a hold in this mode.
-fn first_conflict<'a>(rows: &'a VecDeque<Entry>, path: &Path, mode: Mode) -> Option<&'a Entry>
+fn first_conflict<'a>(
+    rows: &'a VecDeque<Entry>,
+    clear: &Clear,
+    path: &Path,
+    mode: Mode,
+) -> Option<&'a Entry>
+    requires ordered { is_ordered rows.now.items ≡ true }
+    requires clear { IsClear clear.now rows.now.items }
     ensures { MatchOption result (blocker_in path.now mode rows.now.items ≡ None) (λ e. blocker_in path.now mode rows.now.items ≡ Some e.now) }
 {
-    for place in 0..rows.len() {
-        if same_path(&rows[place].path, path) {
-            return None;
-        }
-        if conflicts(&rows[place], mode) {
-            return Some(&rows[place]);
-        }
+    let first = clear.until(mode);
+    if first < entry_place(rows, path) {
+        return entry_at(rows, first);
     }
     None
+}
+
+// The entry at a place, if there is one.
+fn entry_at(rows: &VecDeque<Entry>, place: usize) -> Option<&Entry>
+    ensures { MatchOption result (slice_get rows.now.items place ≡ None) (λ e. slice_get rows.now.items place ≡ Some e.now) }
+{
+    if place < rows.len() {
+        return Some(&rows[place]);
+    }
+    None
+}
+
+// Whether an entry has the content out.
+fn any_out(clear: &Clear, rows: &VecDeque<Entry>) -> bool
+    requires { IsClear clear.now rows.now.items }
+    ensures { result ≡ is_out rows.now.items }
+{
+    clear.out > 0
 }
 
 // The entry with which the content is out.
@@ -311,73 +315,94 @@ fn holder(rows: &VecDeque<Entry>) -> Option<&Entry>
     None
 }
 
-// Whether the content is out with an entry's task.
-fn takes_out(entry: &Entry) -> bool
-    ensures { result ≡ takes_out entry.now.hold }
-{
-    match entry.hold {
-        Some(Mode::Writing) | Some(Mode::Commuting) => true,
-        Some(Mode::Reading) | None => false,
-    }
-}
-
 // The path's task holds the object, and this version is kept for it.
-fn hold_in(rows: &mut VecDeque<Entry>, path: &Path, mode: Mode, fresh: Option<SharedCells>)
-    requires { is_ordered rows.old.items ≡ true }
+fn hold_in(
+    rows: &mut VecDeque<Entry>,
+    clear: &mut Clear,
+    path: &Path,
+    mode: Mode,
+    fresh: Option<SharedCells>,
+)
+    requires ordered { is_ordered rows.old.items ≡ true }
+    requires clear { IsClear clear.old rows.old.items }
     ensures done { rows.new.items ≡ at path.now (held_with mode fresh) rows.old.items }
-    ensures ordered { is_ordered rows.new.items ≡ true }
+    ensures order { is_ordered rows.new.items ≡ true }
+    ensures clears { IsClear clear.new rows.new.items }
 {
-    let place = place_of(rows, path);
+    let place = entry_place(rows, path);
     if place < rows.len() {
+        let was_out = out_at(rows, clear, place);
         hold(&mut rows[place], mode, fresh);
+        clear.changed(rows, place, was_out);
     }
 }
 
 // The path's task gives its hold up.
-fn release_in(rows: &mut VecDeque<Entry>, path: &Path)
-    requires { is_ordered rows.old.items ≡ true }
+fn release_in(rows: &mut VecDeque<Entry>, clear: &mut Clear, path: &Path)
+    requires ordered { is_ordered rows.old.items ≡ true }
+    requires clear { IsClear clear.old rows.old.items }
     ensures done { rows.new.items ≡ at path.now released rows.old.items }
-    ensures ordered { is_ordered rows.new.items ≡ true }
+    ensures order { is_ordered rows.new.items ≡ true }
+    ensures clears { IsClear clear.new rows.new.items }
 {
-    let place = place_of(rows, path);
+    let place = entry_place(rows, path);
     if place < rows.len() {
+        let was_out = out_at(rows, clear, place);
         release(&mut rows[place]);
+        clear.changed(rows, place, was_out);
     }
 }
 
 // The path's task holds the object no longer, and this version is what is kept for it.
-fn restore_in(rows: &mut VecDeque<Entry>, path: &Path, version: Option<SharedCells>)
-    requires { is_ordered rows.old.items ≡ true }
+fn restore_in(
+    rows: &mut VecDeque<Entry>,
+    clear: &mut Clear,
+    path: &Path,
+    version: Option<SharedCells>,
+)
+    requires ordered { is_ordered rows.old.items ≡ true }
+    requires clear { IsClear clear.old rows.old.items }
     ensures done { rows.new.items ≡ at path.now (reset version) rows.old.items }
-    ensures ordered { is_ordered rows.new.items ≡ true }
+    ensures order { is_ordered rows.new.items ≡ true }
+    ensures clears { IsClear clear.new rows.new.items }
 {
-    let place = place_of(rows, path);
+    let place = entry_place(rows, path);
     if place < rows.len() {
+        let was_out = out_at(rows, clear, place);
         restore(&mut rows[place], version);
+        clear.changed(rows, place, was_out);
     }
 }
 
 // The path's entry gets other rights.
-fn shift_in(rows: &mut VecDeque<Entry>, path: &Path, rights: Rights)
-    requires { is_ordered rows.old.items ≡ true }
+fn shift_in(rows: &mut VecDeque<Entry>, clear: &mut Clear, path: &Path, rights: Rights)
+    requires ordered { is_ordered rows.old.items ≡ true }
+    requires clear { IsClear clear.old rows.old.items }
     ensures done { rows.new.items ≡ at path.now (with_rights rights) rows.old.items }
-    ensures ordered { is_ordered rows.new.items ≡ true }
+    ensures order { is_ordered rows.new.items ≡ true }
+    ensures clears { IsClear clear.new rows.new.items }
 {
-    let place = place_of(rows, path);
+    let place = entry_place(rows, path);
     if place < rows.len() {
+        let was_out = out_at(rows, clear, place);
         rows[place].rights = rights;
+        clear.changed(rows, place, was_out);
     }
 }
 
 // The path's entry goes.
-fn leave_in(rows: &mut VecDeque<Entry>, path: &Path)
-    requires { is_ordered rows.old.items ≡ true }
+fn leave_in(rows: &mut VecDeque<Entry>, clear: &mut Clear, path: &Path)
+    requires ordered { is_ordered rows.old.items ≡ true }
+    requires clear { IsClear clear.old rows.old.items }
     ensures done { rows.new.items ≡ without path.now rows.old.items }
-    ensures ordered { is_ordered rows.new.items ≡ true }
+    ensures order { is_ordered rows.new.items ≡ true }
+    ensures clears { IsClear clear.new rows.new.items }
 {
-    let place = place_of(rows, path);
+    let place = entry_place(rows, path);
     if place < rows.len() {
+        let was_out = out_at(rows, clear, place);
         take_out(rows, place);
+        clear.left(rows, place, was_out);
     }
 }
 
@@ -415,20 +440,4 @@ fn restore(entry: &mut Entry, version: Option<SharedCells>)
 {
     entry.hold = None;
     entry.version = version;
-}
-
-// Whether an earlier entry conflicts with a hold in this mode.
-fn conflicts(entry: &Entry, mode: Mode) -> bool
-    ensures { result ≡ conflicts mode entry.now }
-{
-    let rights = entry.rights;
-    let changes = rights.writes.is_there() || rights.commutes.is_there();
-    match mode {
-        Mode::Reading => changes,
-        Mode::Writing => changes || (rights.reads.is_there() && entry.version.is_none()),
-        Mode::Commuting => {
-            (rights.reads.is_there() || rights.writes.is_there())
-                && (changes || entry.version.is_none())
-        }
-    }
 }

@@ -1,22 +1,22 @@
 -- A seat follows the serial run: its task is one of the run, and the events that it has told are the deeds that are done.
-use Rattle.std.proofs.Common.{◌≡◌, ℕ, zero, suc, ◌+◌, Bool, true, false, List, [], ◌∷◌, ◌++◌, length, take, drop, refl, sym, ap, ◌∙◌, subst, Option, Some, None, arith, append-nil, append_assoc, length-append}
-use Rattle.std.specs.Prelude.{ℤ, slice_get, if◌then◌else◌}
+use Rattle.std.proofs.Common.{◌≡◌, ℕ, suc, List, [], ◌∷◌, ◌++◌, length, refl, sym, ap, ◌∙◌, subst, Some, None, arith, append-nil, length-append}
+use Rattle.std.specs.Prelude.{ℤ, if◌then◌else◌}
 use Rattle.std.specs.List.{filter_map, cons_option}
 use Rattle.std.proofs.lemmas.List.Elements.{filter_map-append}
-use Rattle.jade_meaning.specs.Specification.{Specification}
 use Rattle.jade_meaning.specs.Course.{Course, Reads, Writes, Steps, Creates, Changes, Ends}
-use Rattle.jade_meaning.specs.Talk.{Task, Event, Enter, Enroll, Take, TouchRead, TouchWrite, Wants, Give, Leave, Shift, Resign, talk}
-use Rattle.jade_meaning.specs.Serial.{Mark, Path, Store, Deed, DidRead, DidWrite, DidCreate, DidEnd, deeds_at, reads_at, read_of, same_path}
-use Rattle.jade_meaning.specs.Laws.{Every, deeds, deed_of, child_path}
+use Rattle.jade_meaning.specs.Talk.{Task, Event, Enter, Enroll, Take, TouchRead, TouchWrite, Wants, Give, Leave, Shift, Resign}
+use Rattle.jade_meaning.specs.Serial.{Mark, Path, Deed, DidRead, DidWrite, DidCreate, DidEnd, deeds_at, reads_at, read_of, same_path}
+use Rattle.jade_meaning.specs.Laws.{Every, deeds, deed_of}
 use Rattle.jade_meaning.specs.Walks.{Walk}
-use Rattle.jade_meaning.specs.Walk.{First, task_of, moved, IsChildOf}
+use Rattle.jade_meaning.specs.Walk.{First, task_of, moved}
+use Rattle.jade_meaning.specs.Doing.{from_deed}
 use Rattle.object_shelf.specs.Views.{ObjectView}
 use Rattle.schedule_core.specs.declared.steps.Seat.{Seat}
-use Rattle.schedule_core.specs.Core.{Bare, Cells, Doing, mark, value_in, content_for, going_on, child_of, quietly, with_pending}
+use Rattle.schedule_core.specs.Core.{Cells, mark, value_in, content_for, going_on, child_of, quietly, with_pending}
 use Rattle.schedule_core.specs.Unplaced.{Live, event_done, deed_done}
 use Rattle.schedule_core.specs.Sound.{Orderly}
-use Rattle.schedule_core.specs.Plain.{seat_after, value_at, seated_child, Does}
-use Rattle.schedule_core.specs.Shown.{from_deed, Sits, Seated}
+use Rattle.schedule_core.specs.Plain.{seat_after, value_at, Does}
+use Rattle.schedule_core.specs.Shown.{Sits, Seated}
 use Rattle.schedule_core.specs.Serially.{IsTask, is_created}
 use Rattle.schedule_core.proofs.Walks.{Walks, walks_start, walks_quiet, walks_read, walks_write, walks_create}
 use Rattle.schedule_core.proofs.Showing.{path_same}
@@ -48,7 +48,8 @@ reads_both : (p : Path) (a b : List Mark) → reads_at p (a ++ b) ≡ reads_at p
 reads_both p a b = ap (filter_map read_of) (deeds_both p a b) ∙ filter_map-append read_of (deeds_at p a) (deeds_at p b)
 
 -- what others have done changes nothing
-follows_still : (run : List Mark) (root : Task) (log added : List Mark) (s : Seat) (t : Live) → deeds_at s.path added ≡ [] → Follows run root log s t → Follows run root (log ++ added) s t
+follows_still : (run : List Mark) (root : Task) (log added : List Mark) (s : Seat) (t : Live) → deeds_at s.path added ≡ [] → Follows run root log s t
+    → Follows run root (log ++ added) s t
 follows_still run root log added s t none x = record {
   done = x.done;
   walks = x.walks;
@@ -58,7 +59,8 @@ follows_still run root log added s t none x = record {
   task = x.task;
 }
 
-pub others_follow : (run : List Mark) (root : Task) (log added : List Mark) (seats : List Seat) (ts : List Live) → Seated seats ts → Every (λ (u : Live). deeds_at u.path added ≡ []) ts → Beside (Follows run root log) seats ts → Beside (Follows run root (log ++ added)) seats ts
+pub others_follow : (run : List Mark) (root : Task) (log added : List Mark) (seats : List Seat) (ts : List Live) → Seated seats ts
+    → Every (λ (u : Live). deeds_at u.path added ≡ []) ts → Beside (Follows run root log) seats ts → Beside (Follows run root (log ++ added)) seats ts
 others_follow run root log added [] [] g n h = tt
 others_follow run root log added [] (t ∷ ts) g n h = absurd h
 others_follow run root log added (s ∷ seats) [] g n h = absurd h
@@ -87,7 +89,8 @@ marks_off f t [] p n = go t.doing.course
     go (Steps on) = refl
     go (Changes new on) = refl
 
-module _ (run : List Mark) (root : Task) (log : List Mark) (s : Seat) (t : Live) (f : ℕ → Cells) (ss ss' : List ObjectView) (new : List Seat) (sits : Sits s t) (x : Follows run root log s t) where
+module _ (run : List Mark) (root : Task) (log : List Mark) (s : Seat) (t : Live) (f : ℕ
+    → Cells) (ss ss' : List ObjectView) (new : List Seat) (sits : Sits s t) (x : Follows run root log s t) where
   abbrev w : Walk
   w = s.walker
 
@@ -96,22 +99,28 @@ module _ (run : List Mark) (root : Task) (log : List Mark) (s : Seat) (t : Live)
 
   more_deeds : (e : Event) (d : Deed) → deed_of e ≡ Some d → deeds (x.done ++ e ∷ []) ≡ deeds_at s.path (log ++ mark t d ∷ [])
   more_deeds e d q =
-      filter_map-append deed_of x.done (e ∷ []) ∙ ap (λ z. deeds x.done ++ cons_option z []) q ∙ ap (λ ds. ds ++ d ∷ []) x.deeds ∙ ap (λ ds. deeds_at s.path log ++ ds) (sym (own_mark d)) ∙ sym (deeds_both s.path log (mark t d ∷ []))
+      filter_map-append deed_of x.done (e ∷ []) ∙ ap (λ z. deeds x.done ++ cons_option z []) q ∙ ap (λ ds. ds ++ d ∷ []) x.deeds
+      ∙ ap (λ ds. deeds_at s.path log ++ ds) (sym (own_mark d)) ∙ sym (deeds_both s.path log (mark t d ∷ []))
 
   more_many : (e : Event) → length (x.done ++ e ∷ []) ≡ suc w.done
   more_many e = let a = length-append x.done (e ∷ []) in let b = x.many in omega arith
 
   more_reads : (d : Deed) → reads_at s.path (log ++ mark t d ∷ []) ≡ w.answers ++ filter_map read_of (d ∷ [])
-  more_reads d = reads_both s.path log (mark t d ∷ []) ∙ ap (λ vs. vs ++ filter_map read_of (deeds_at s.path (mark t d ∷ []))) x.answers ∙ ap (λ ds. w.answers ++ filter_map read_of ds) (own_mark d)
+  more_reads d = reads_both s.path log (mark t d ∷ []) ∙ ap (λ vs. vs ++ filter_map read_of (deeds_at s.path (mark t d ∷ []))) x.answers
+      ∙ ap (λ ds. w.answers ++ filter_map read_of ds) (own_mark d)
 
   no_more : (e : Event) → deed_of e ≡ None → deeds (x.done ++ e ∷ []) ≡ deeds_at s.path (log ++ [])
   no_more e q =
-      filter_map-append deed_of x.done (e ∷ []) ∙ ap (λ z. deeds x.done ++ cons_option z []) q ∙ append-nil (deeds x.done) ∙ x.deeds ∙ ap (deeds_at s.path) (sym (append-nil log))
+      filter_map-append deed_of x.done (e ∷ []) ∙ ap (λ z. deeds x.done ++ cons_option z []) q ∙ append-nil (deeds x.done) ∙ x.deeds
+      ∙ ap (deeds_at s.path) (sym (append-nil log))
 
-  quiet_follows : (e : Event) (es : List Event) → t.doing.pending ≡ e ∷ es → deed_of e ≡ None → (u : Live) → u.doing ≡ record t.doing { pending = es } → Follows run root (log ++ []) (seat_after None s) u
+  quiet_follows : (e : Event) (es : List Event) → t.doing.pending ≡ e ∷ es → deed_of e ≡ None → (u : Live) → u.doing ≡ record t.doing { pending = es }
+      → Follows run root (log ++ []) (seat_after None s) u
   quiet_follows e es is q u d = record {
     done = x.done ++ e ∷ [];
-    walks = subst (Walks (task_of w) w.answers (x.done ++ e ∷ [])) (sym d) (walks_quiet (task_of w) w.answers x.done es e t.doing.spec t.doing.plan t.doing.steps t.doing.course (subst (λ (y : List Event). Walks (task_of w) w.answers x.done (record t.doing { pending = y })) is x.walks));
+    walks = subst (Walks (task_of w) w.answers (x.done ++ e ∷ [])) (sym d)
+        (walks_quiet (task_of w) w.answers x.done es e t.doing.spec t.doing.plan t.doing.steps t.doing.course
+        (subst (λ (y : List Event). Walks (task_of w) w.answers x.done (record t.doing { pending = y })) is x.walks));
     many = more_many e;
     deeds = no_more e q;
     answers = ap (reads_at s.path) (append-nil log) ∙ x.answers;
@@ -119,37 +128,46 @@ module _ (run : List Mark) (root : Task) (log : List Mark) (s : Seat) (t : Live)
   }
 
   -- the task at its deed
-  at_course : (c : Course) → t.doing.course ≡ c → t.doing.pending ≡ [] → Walks (task_of w) w.answers x.done (record { pending = []; spec = t.doing.spec; plan = t.doing.plan; steps = t.doing.steps; course = c })
-  at_course c is p = subst (λ (z : Course). Walks (task_of w) w.answers x.done (record t.doing { pending = []; course = z })) is (subst (λ (y : List Event). Walks (task_of w) w.answers x.done (record t.doing { pending = y })) p x.walks)
+  at_course : (c : Course) → t.doing.course ≡ c → t.doing.pending ≡ []
+      → Walks (task_of w) w.answers x.done (record { pending = []; spec = t.doing.spec; plan = t.doing.plan; steps = t.doing.steps; course = c })
+  at_course c is p = subst (λ (z : Course). Walks (task_of w) w.answers x.done (record t.doing {
+    pending = [];
+    course =
+        z;
+  })) is (subst (λ (y : List Event). Walks (task_of w) w.answers x.done (record t.doing { pending = y })) p x.walks)
 
-  module _ (value : (o c : ℕ) (on : ℤ → Course) → t.doing.course ≡ Reads o c on → t.doing.pending ≡ [] → value_at o c s.path ss ≡ value_in (content_for t o (f o)) c) (unborn : deeds_at (t.path ++ t.part ∷ []) log ≡ []) where
-    deed_follows : (c : Course) → t.doing.course ≡ c → t.doing.pending ≡ [] → ((m : Mark) → (deed_done c f t).marks ≡ m ∷ [] → Among run m) → (e : Event) → First (from_deed c t.doing.spec t.doing.plan t.doing.steps []) (λ y. y ≡ e) → Does e s ss new ss' → Beside (Follows run root (log ++ (deed_done c f t).marks)) new (deed_done c f t).tasks
+  module _ (value : (o c : ℕ) (on : ℤ → Course) → t.doing.course ≡ Reads o c on → t.doing.pending ≡ [] → value_at o c s.path ss
+      ≡ value_in (content_for t o (f o)) c) (unborn : deeds_at (t.path ++ t.part ∷ []) log ≡ []) where
+    deed_follows : (c : Course) → t.doing.course ≡ c → t.doing.pending ≡ [] → ((m : Mark) → (deed_done c f t).marks ≡ m ∷ [] → Among run m) → (e : Event)
+        → First (from_deed c t.doing.spec t.doing.plan t.doing.steps []) (λ y. y ≡ e) → Does e s ss new ss'
+        → Beside (Follows run root (log ++ (deed_done c f t).marks)) new (deed_done c f t).tasks
     deed_follows (Reads o c on) is p inside e first does =
         let d = subst (λ y. Does y s ss new ss') (sym first) does in
         let v = value_in (content_for t o (f o)) c in
         let u = going_on (on v) t.doing.steps t in
         let deed = DidRead o c v in
         let mine : Follows run root (log ++ mark t deed ∷ []) (seat_after (Some v) s) u = record {
-              done = x.done ++ TouchRead o c v ∷ [];
-              walks = walks_read (task_of w) w.answers x.done t.doing.spec t.doing.plan t.doing.steps o c on v (at_course (Reads o c on) is p);
-              many = more_many (TouchRead o c v);
-              deeds = more_deeds (TouchRead o c v) deed refl;
-              answers = more_reads deed;
-              task = x.task;
-            } in
-        subst (λ z. Beside (Follows run root (log ++ mark t deed ∷ [])) z (u ∷ [])) (sym (d.0 ∙ ap (λ z. seat_after (Some z) s ∷ []) (value o c on is p))) (mine, tt)
+          done = x.done ++ TouchRead o c v ∷ [];
+          walks = walks_read (task_of w) w.answers x.done t.doing.spec t.doing.plan t.doing.steps o c on v (at_course (Reads o c on) is p);
+          many = more_many (TouchRead o c v);
+          deeds = more_deeds (TouchRead o c v) deed refl;
+          answers = more_reads deed;
+          task = x.task;
+        } in
+        subst (λ z. Beside (Follows run root (log ++ mark t deed ∷ [])) z (u ∷ [])) (sym (d.0
+        ∙ ap (λ z. seat_after (Some z) s ∷ []) (value o c on is p))) (mine, tt)
     deed_follows (Writes o c v on) is p inside e first does =
         let d = subst (λ y. Does y s ss new ss') (sym first) does in
         let u : Live = going_on on t.doing.steps (record t { place = tt }) in
         let deed = DidWrite o c v in
         let mine : Follows run root (log ++ mark t deed ∷ []) (seat_after None s) u = record {
-              done = x.done ++ TouchWrite o c v ∷ [];
-              walks = walks_write (task_of w) w.answers x.done t.doing.spec t.doing.plan t.doing.steps o c v on (at_course (Writes o c v on) is p);
-              many = more_many (TouchWrite o c v);
-              deeds = more_deeds (TouchWrite o c v) deed refl;
-              answers = more_reads deed ∙ append-nil w.answers;
-              task = x.task;
-            } in
+          done = x.done ++ TouchWrite o c v ∷ [];
+          walks = walks_write (task_of w) w.answers x.done t.doing.spec t.doing.plan t.doing.steps o c v on (at_course (Writes o c v on) is p);
+          many = more_many (TouchWrite o c v);
+          deeds = more_deeds (TouchWrite o c v) deed refl;
+          answers = more_reads deed ∙ append-nil w.answers;
+          task = x.task;
+        } in
         subst (λ z. Beside (Follows run root (log ++ mark t deed ∷ [])) z (u ∷ [])) (sym d.0) (mine, tt)
     deed_follows (Creates child body on) is p inside e first does =
         let d = subst (λ y. Does y s ss new ss') (sym first) does in
@@ -162,23 +180,28 @@ module _ (run : List Mark) (root : Task) (log : List Mark) (s : Seat) (t : Live)
         let walk = d.0 in
         let born = d.1 in
         let mine : Follows run root (log ++ m ∷ []) (record s { walker = moved None s.walker; children = suc s.children }) u = record {
-              done = x.done ++ Enroll kid_task t.doing.steps ∷ [];
-              walks = walks_create (task_of w) w.answers x.done t.doing.spec t.doing.plan t.doing.steps child body on (at_course (Creates child body on) is p);
-              many = more_many (Enroll kid_task t.doing.steps);
-              deeds = more_deeds (Enroll kid_task t.doing.steps) deed refl;
-              answers = more_reads deed ∙ append-nil w.answers;
-              task = x.task;
-            } in
-        let path : s.path ++ s.children ∷ [] ≡ t.path ++ t.part ∷ [] = ap (λ q. q ++ s.children ∷ []) (sym sits.path) ∙ ap (λ k. t.path ++ k ∷ []) (sym sits.part) in
-        let none : deeds_at (s.path ++ s.children ∷ []) (log ++ m ∷ []) ≡ [] = ap (λ q. deeds_at q (log ++ m ∷ [])) path ∙ deeds_both (t.path ++ t.part ∷ []) log (m ∷ []) ∙ ap (λ ds. ds ++ deeds_at (t.path ++ t.part ∷ []) (m ∷ [])) unborn ∙ none_there (t.path ++ t.part ∷ []) (m ∷ []) (λ q. longer t.path t.part q, tt) in
+          done = x.done ++ Enroll kid_task t.doing.steps ∷ [];
+          walks = walks_create (task_of w) w.answers x.done t.doing.spec t.doing.plan t.doing.steps child body on (at_course (Creates child body on) is p);
+          many = more_many (Enroll kid_task t.doing.steps);
+          deeds = more_deeds (Enroll kid_task t.doing.steps) deed refl;
+          answers = more_reads deed ∙ append-nil w.answers;
+          task = x.task;
+        } in
+        let path : s.path ++ s.children ∷ [] ≡ t.path ++ t.part ∷ [] = ap (λ q. q ++ s.children ∷ []) (sym sits.path)
+        ∙ ap (λ k. t.path ++ k ∷ []) (sym sits.part) in
+        let none : deeds_at (s.path ++ s.children ∷ []) (log ++ m ∷ []) ≡ [] = ap (λ q. deeds_at q (log ++ m ∷ [])) path
+        ∙ deeds_both (t.path ++ t.part ∷ []) log (m ∷ []) ∙ ap (λ ds. ds ++ deeds_at (t.path ++ t.part ∷ []) (m ∷ [])) unborn
+        ∙ none_there (t.path ++ t.part ∷ []) (m ∷ []) (λ q. longer t.path t.part q, tt) in
         let young : Follows run root (log ++ m ∷ []) (record { path = s.path ++ s.children ∷ []; walker = walk; children = 0 }) kid = record {
-              done = [];
-              walks = subst (λ z. Walks z walk.answers [] kid.doing) (sym born.task) (subst (λ z. Walks kid_task z [] kid.doing) (sym born.answers) (walks_start kid_task));
-              many = sym born.done;
-              deeds = sym none;
-              answers = ap (filter_map read_of) none ∙ sym born.answers;
-              task = subst (IsTask run root (s.path ++ s.children ∷ [])) (sym born.task) (is_created t.path t.part t.doing.steps among.front among.back path among.is);
-            } in
+          done = [];
+          walks = subst (λ z. Walks z walk.answers [] kid.doing) (sym born.task)
+              (subst (λ z. Walks kid_task z [] kid.doing) (sym born.answers) (walks_start kid_task));
+          many = sym born.done;
+          deeds = sym none;
+          answers = ap (filter_map read_of) none ∙ sym born.answers;
+          task = subst (IsTask run root (s.path ++ s.children ∷ [])) (sym born.task)
+              (is_created t.path t.part t.doing.steps among.front among.back path among.is);
+        } in
         subst (λ z. Beside (Follows run root (log ++ m ∷ [])) z (kid ∷ (u ∷ []))) (sym d.2) (young, (mine, tt))
       where
         longer : (p : Path) (k : ℕ) → p ≡ p ++ k ∷ [] → ⊥
@@ -190,7 +213,10 @@ module _ (run : List Mark) (root : Task) (log : List Mark) (s : Seat) (t : Live)
     deed_follows (Steps on) is p inside e first does = absurd first
     deed_follows (Changes c on) is p inside e first does = absurd first
 
-    pub event_follows : (es : List Event) → t.doing.pending ≡ es → Orderly t.doing.spec t.doing.plan t.doing.course es t.rights t.held → ((m : Mark) → (event_done es f t).marks ≡ m ∷ [] → Among run m) → (e : Event) → First (es ++ from_deed t.doing.course t.doing.spec t.doing.plan t.doing.steps []) (λ y. y ≡ e) → Does e s ss new ss' → Beside (Follows run root (log ++ (event_done es f t).marks)) new (event_done es f t).tasks
+    pub event_follows : (es : List Event) → t.doing.pending ≡ es → Orderly t.doing.spec t.doing.plan t.doing.course es t.rights t.held
+        → ((m : Mark) → (event_done es f t).marks ≡ m ∷ [] → Among run m) → (e : Event)
+        → First (es ++ from_deed t.doing.course t.doing.spec t.doing.plan t.doing.steps []) (λ y. y ≡ e) → Does e s ss new ss'
+        → Beside (Follows run root (log ++ (event_done es f t).marks)) new (event_done es f t).tasks
     event_follows [] is order inside e first does = deed_follows t.doing.course refl is inside e first does
     event_follows (Take o m ∷ es) is order inside e first does =
         let d = subst (λ y. Does y s ss new ss') (sym first) does in

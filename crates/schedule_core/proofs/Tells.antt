@@ -1,10 +1,11 @@
 -- What the plain layer tells, from the sound state that it shows.
-use Rattle.std.proofs.Common.{◌≡◌, ◌≢◌, ◌⊎◌, inl, inr, ℕ, zero, suc, Bool, true, false, not, ◌&&◌, ◌||◌, List, [], ◌∷◌, ◌++◌, map, refl, sym, ap, ◌∙◌, subst, Option, Some, None, append-nil, append_assoc, arith}
+use Rattle.std.proofs.Common.{◌≡◌, ◌≢◌, ◌⊎◌, inl, inr, ℕ, zero, suc, Bool, true, false, not, ◌&&◌, ◌||◌, List, [], ◌∷◌, ◌++◌, map, refl, sym, ap, ◌∙◌, subst}
+use Rattle.std.proofs.Common.{Option, Some, None, append-nil, append_assoc, arith}
 use Rattle.std.specs.Prelude.{ℤ, slice_get, is_some, is_none, if◌then◌else◌}
 use Rattle.jade_base.specs.declared.rights.Rights.{Rights}
 use Rattle.jade_base.specs.declared.rights.Mode.{Mode}
 use Rattle.jade_base.specs.declared.rights.Mode.TheVariants.{Reading, Writing, Commuting}
-use Rattle.jade_base.specs.Rights.{is_there, has_rights, no_rights}
+use Rattle.jade_base.specs.Rights.{is_there}
 use Rattle.jade_syntax.specs.Image.{program}
 use Rattle.jade_syntax.specs.Objects.{sizes}
 use Rattle.jade_meaning.specs.Specification.{rights_on}
@@ -15,13 +16,11 @@ use Rattle.object_shelf.specs.declared.queue.Entry.{Entry}
 use Rattle.object_shelf.specs.Views.{ObjectView}
 use Rattle.object_shelf.specs.Shelves.{same_path, find, takes_out}
 use Rattle.schedule_core.specs.declared.steps.Seat.{Seat}
-use Rattle.schedule_core.specs.declared.notes.PartNote.{PartNote}
+use Rattle.task_roll.specs.declared.note.PartNote.{PartNote}
 use Rattle.schedule_core.specs.Core.{Cells, changes, touches, enters_still, handed_on, quiet, is_writing}
 use Rattle.schedule_core.specs.Unplaced.{Live}
 use Rattle.schedule_core.specs.Sited as sited
 use Rattle.schedule_core.specs.Sound.{Apart, Pairs, Fit, Before, Within, may}
-use Rattle.schedule_core.specs.Laws.{SoundSomewhere}
-use Rattle.schedule_core.specs.Plain.{Reached}
 use Rattle.schedule_core.specs.Shown.{slot, born_slots, slots, line, shelf_at, Seated}
 use Rattle.schedule_core.specs.Mirror.{CoreShows, Mirror}
 use Rattle.schedule_core.proofs.Showing.{path_same}
@@ -33,9 +32,10 @@ use Rattle.object_shelf.specs.Whole.{is_out}
 use Rattle.object_shelf.proofs.Order.{same-is as same_is}
 use Rattle.jade_meaning.specs.Talk.{Event, Enter, Enroll, Take, TouchRead, TouchWrite, Wants, Give, Leave, Shift, Resign}
 use Rattle.jade_meaning.specs.Walk.{upcoming, First}
+use Rattle.jade_meaning.specs.Doing.{from_deed, to_come}
 use Rattle.jade_syntax.specs.declared.tree.Program.{Program}
 use Rattle.schedule_core.specs.Core.{all_allow, allows}
-use Rattle.schedule_core.specs.Shown.{from_deed, to_come, Sits}
+use Rattle.schedule_core.specs.Shown.{Sits}
 use Rattle.schedule_core.specs.Sound.{Orderly, Ready}
 use Rattle.schedule_core.proofs.Showing.{Away, Elsewhere, born_away, slot_away, slots_away, before_away, line_away, line_both, at_away, free_is, keeper_none}
 use Rattle.schedule_core.proofs.Moves.{ahead_is}
@@ -64,15 +64,32 @@ unlike x y s t p c q d far =
     let own : Within s.path s.part s.path = record { rest = []; is = sym (append-nil s.path); from = tt } in
     let other : Within t.path t.part t.path = record { rest = []; is = sym (append-nil t.path); from = tt } in
     let n : x.path ≡ y.path → ⊥ = λ e. far s.path own (record { rest = []; is = p ∙ e ∙ sym q ∙ sym (append-nil t.path); from = tt }) in
-    let kid_t : x.path ≡ y.path ++ y.children ∷ [] → ⊥ = λ e. far s.path own (record { rest = t.part ∷ []; is = p ∙ e ∙ ap (λ z. z ++ y.children ∷ []) (sym q) ∙ ap (λ z. t.path ++ z ∷ []) (sym d); from = omega arith }) in
-    let kid_s : y.path ≡ x.path ++ x.children ∷ [] → ⊥ = λ e. far t.path (record { rest = s.part ∷ []; is = q ∙ e ∙ ap (λ z. z ++ x.children ∷ []) (sym p) ∙ ap (λ z. s.path ++ z ∷ []) (sym c); from = omega arith }) other in
-    record { there = not_same x.path y.path n; back = not_same y.path x.path (λ e. n (sym e)); kid = not_same x.path (y.path ++ y.children ∷ []) kid_t; kid_back = not_same y.path (x.path ++ x.children ∷ []) kid_s }
+    let kid_t : x.path ≡ y.path ++ y.children ∷ [] → ⊥ = λ e. far s.path own (record {
+      rest = t.part ∷ [];
+      is = p ∙ e ∙ ap (λ z. z ++ y.children ∷ []) (sym q)
+          ∙ ap (λ z. t.path ++ z ∷ []) (sym d);
+      from = omega arith;
+    }) in
+    let kid_s : y.path ≡ x.path ++ x.children ∷ [] → ⊥ = λ e. far t.path (record {
+      rest = s.part ∷ [];
+      is = q ∙ e ∙ ap (λ z. z ++ x.children ∷ []) (sym p)
+          ∙ ap (λ z. s.path ++ z ∷ []) (sym c);
+      from = omega arith;
+    }) other in
+    record {
+      there = not_same x.path y.path n;
+      back = not_same y.path x.path (λ e. n (sym e));
+      kid =
+          not_same x.path (y.path ++ y.children ∷ []) kid_t;
+      kid_back = not_same y.path (x.path ++ x.children ∷ []) kid_s;
+    }
 
 abbrev AllUnlike : List Seat → Type 0
 AllUnlike [] = Unit {0}
 AllUnlike (s ∷ ss) = Every (Unlike s) ss × AllUnlike ss
 
-each_unlike : (s : Seat) (t : Live) (ss : List Seat) (ts : List Live) → t.path ≡ s.path → t.part ≡ s.children → Seated ss ts → Every (Apart t) ts → Every (Unlike s) ss
+each_unlike : (s : Seat) (t : Live) (ss : List Seat) (ts : List Live) → t.path ≡ s.path → t.part ≡ s.children → Seated ss ts → Every (Apart t) ts
+    → Every (Unlike s) ss
 each_unlike s t [] [] e c h far = tt
 each_unlike s t (x ∷ ss) [] e c h far = absurd h
 each_unlike s t [] (u ∷ ts) e c h far = absurd h
@@ -92,18 +109,22 @@ every_get P [] i s h e = absurd (cc)
 every_get P (x ∷ ss) zero s h e = subst P (some_seat x s e) h.0
 every_get P (x ∷ ss) (suc i) s h e = every_get P ss i s h.1 e
 
-apart_at : (ss : List Seat) → AllUnlike ss → (i j : ℕ) (s t : Seat) → slice_get ss i ≡ Some s → slice_get ss j ≡ Some t → i ≢ j → same_path s.path t.path ≡ false
+apart_at : (ss : List Seat) → AllUnlike ss → (i j : ℕ) (s t : Seat) → slice_get ss i ≡ Some s → slice_get ss j ≡ Some t → i ≢ j → same_path s.path t.path
+    ≡ false
 apart_at [] h i j s t a b ne = absurd (cc)
 apart_at (x ∷ ss) h zero zero s t a b ne = absurd (ne refl)
 apart_at (x ∷ ss) h zero (suc j) s t a b ne = ap (λ (z : Seat). same_path z.path t.path) (sym (some_seat x s a)) ∙ (every_get (Unlike x) ss j t h.0 b).there
 apart_at (x ∷ ss) h (suc i) zero s t a b ne = ap (λ (z : Seat). same_path s.path z.path) (sym (some_seat x t b)) ∙ (every_get (Unlike x) ss i s h.0 a).back
 apart_at (x ∷ ss) h (suc i) (suc j) s t a b ne = apart_at ss h.1 i j s t a b (λ e. ne (ap suc e))
 
-kid_at : (ss : List Seat) → AllUnlike ss → (i j : ℕ) (s t : Seat) → slice_get ss i ≡ Some s → slice_get ss j ≡ Some t → i ≢ j → same_path s.path (t.path ++ t.children ∷ []) ≡ false
+kid_at : (ss : List Seat) → AllUnlike ss → (i j : ℕ) (s t : Seat) → slice_get ss i ≡ Some s → slice_get ss j ≡ Some t → i ≢ j
+    → same_path s.path (t.path ++ t.children ∷ []) ≡ false
 kid_at [] h i j s t a b ne = absurd (cc)
 kid_at (x ∷ ss) h zero zero s t a b ne = absurd (ne refl)
-kid_at (x ∷ ss) h zero (suc j) s t a b ne = ap (λ (z : Seat). same_path z.path (t.path ++ t.children ∷ [])) (sym (some_seat x s a)) ∙ (every_get (Unlike x) ss j t h.0 b).kid
-kid_at (x ∷ ss) h (suc i) zero s t a b ne = ap (λ (z : Seat). same_path s.path (z.path ++ z.children ∷ [])) (sym (some_seat x t b)) ∙ (every_get (Unlike x) ss i s h.0 a).kid_back
+kid_at (x ∷ ss) h zero (suc j) s t a b ne = ap (λ (z : Seat). same_path z.path (t.path ++ t.children ∷ [])) (sym (some_seat x s a))
+    ∙ (every_get (Unlike x) ss j t h.0 b).kid
+kid_at (x ∷ ss) h (suc i) zero s t a b ne = ap (λ (z : Seat). same_path s.path (z.path ++ z.children ∷ [])) (sym (some_seat x t b))
+    ∙ (every_get (Unlike x) ss i s h.0 a).kid_back
 kid_at (x ∷ ss) h (suc i) (suc j) s t a b ne = kid_at ss h.1 i j s t a b (λ e. ne (ap suc e))
 
 -- a live task of the path has the object out
@@ -111,14 +132,15 @@ data HasOut (o : ℕ) (p : Path) : List Live → Type 0 where
   here : (t : Live) (ts : List Live) → t.path ≡ p → is_writing (t.held o) ≡ true → HasOut o p (t ∷ ts)
   later : (t : Live) (ts : List Live) → HasOut o p ts → HasOut o p (t ∷ ts)
 
-some_entry : (d e : Entry) → ◌≡◌ {A = Option Entry} (Some d) (Some e) → d ≡ e
+pub some_entry : (d e : Entry) → ◌≡◌ {A = Option Entry} (Some d) (Some e) → d ≡ e
 some_entry d e q = cc
 
-find_both : (p : Path) (es fs : List Entry) (d : Entry) → find p (es ++ fs) ≡ Some d → (find p es ≡ Some d) ⊎ (find p fs ≡ Some d)
+pub find_both : (p : Path) (es fs : List Entry) (d : Entry) → find p (es ++ fs) ≡ Some d → (find p es ≡ Some d) ⊎ (find p fs ≡ Some d)
 find_both p [] fs d h = inr h
 find_both p (e ∷ es) fs d h = go (find_both p es fs d) (same_path p e.path) refl
   where
-    go : (find p (es ++ fs) ≡ Some d → (find p es ≡ Some d) ⊎ (find p fs ≡ Some d)) → (b : Bool) → same_path p e.path ≡ b → (find p (e ∷ es) ≡ Some d) ⊎ (find p fs ≡ Some d)
+    go : (find p (es ++ fs) ≡ Some d → (find p es ≡ Some d) ⊎ (find p fs ≡ Some d)) → (b : Bool) → same_path p e.path ≡ b → (find p (e ∷ es) ≡ Some d)
+        ⊎ (find p fs ≡ Some d)
     go more true q = inl (ap (λ b. if b then Some e else find p es) q ∙ sym (ap (λ b. if b then Some e else find p (es ++ fs)) q) ∙ h)
     go more false q = turn (more (sym (ap (λ b. if b then Some e else find p (es ++ fs)) q) ∙ h))
       where
@@ -126,13 +148,14 @@ find_both p (e ∷ es) fs d h = go (find_both p es fs d) (same_path p e.path) re
         turn (inl x) = inl (ap (λ b. if b then Some e else find p es) q ∙ x)
         turn (inr x) = inr x
 
-takes_writing : (h : Option Mode) → takes_out h ≡ true → is_writing h ≡ true
+pub takes_writing : (h : Option Mode) → takes_out h ≡ true → is_writing h ≡ true
 takes_writing None e = absurd (cc)
 takes_writing (Some Reading) e = absurd (cc)
 takes_writing (Some Writing) e = refl
 takes_writing (Some Commuting) e = refl
 
-slot_out : (p q : Path) (a : Rights) (h : Option Mode) (v : Option Cells) (d : Entry) → find p (slot q a h v) ≡ Some d → takes_out d.hold ≡ true → (q ≡ p) × (is_writing h ≡ true)
+slot_out : (p q : Path) (a : Rights) (h : Option Mode) (v : Option Cells) (d : Entry) → find p (slot q a h v) ≡ Some d → takes_out d.hold ≡ true → (q ≡ p)
+    × (is_writing h ≡ true)
 slot_out p q a h v d = go (touches a)
   where
     row : Entry
@@ -161,7 +184,8 @@ born_out p (Ends b) o t d f x = absurd (cc)
 slots_out : (p : Path) (o : ℕ) (t : Live) (d : Entry) → find p (slots o t) ≡ Some d → takes_out d.hold ≡ true → (t.path ≡ p) × (is_writing (t.held o) ≡ true)
 slots_out p o t d f x = go (find_both p (born_slots t.doing.course o t) (slot t.path (t.rights o) (t.held o) (t.versions o)) d f)
   where
-    go : (find p (born_slots t.doing.course o t) ≡ Some d) ⊎ (find p (slot t.path (t.rights o) (t.held o) (t.versions o)) ≡ Some d) → (t.path ≡ p) × (is_writing (t.held o) ≡ true)
+    go : (find p (born_slots t.doing.course o t) ≡ Some d) ⊎ (find p (slot t.path (t.rights o) (t.held o) (t.versions o)) ≡ Some d) → (t.path ≡ p)
+        × (is_writing (t.held o) ≡ true)
     go (inl y) = absurd (born_out p t.doing.course o t d y x)
     go (inr y) = slot_out p t.path (t.rights o) (t.held o) (t.versions o) d y x
 
@@ -199,7 +223,11 @@ may_changes (Some Writing) a w m = m
 may_changes (Some Commuting) a w m = m
 
 lone : (o : ℕ) (s t : sited.Live) → Fit s → Before o s t → Lone o (sited.bare s) (sited.bare t)
-lone o s t fit b = record { not_both = λ x y. absurd (let r : false ≡ true = sym (ap (λ z. not z && (not (is_there (s.rights o).reads) || is_some (s.versions o))) (may_changes (s.held o) (s.rights o) x (fit.holds o))) ∙ b.writing y in cc) }
+lone o s t fit b = record {
+  not_both = λ x y. absurd (let r : false ≡ true =
+      sym (ap (λ z. not z && (not (is_there (s.rights o).reads) || is_some (s.versions o))) (may_changes (s.held o) (s.rights o) x (fit.holds o)))
+      ∙ b.writing y in cc);
+}
 
 every_lone : (o : ℕ) (s : sited.Live) (ts : List sited.Live) → Fit s → Every (Before o s) ts → Every (Lone o (sited.bare s)) (map sited.bare ts)
 every_lone o s [] fit h = tt
@@ -210,25 +238,28 @@ pairs_lone o [] fits h = tt
 pairs_lone o (t ∷ ts) fits h = (every_lone o t ts fits.0 h.0, pairs_lone o ts fits.1 h.1)
 
 -- a path is not that of a child
-longer : (p : Path) (k : ℕ) → p ≡ p ++ k ∷ [] → ⊥
+pub longer : (p : Path) (k : ℕ) → p ≡ p ++ k ∷ [] → ⊥
 longer [] k e = absurd (cc)
 longer (i ∷ p) k e = longer p k (let f : p ≡ p ++ k ∷ [] = cc in f)
 
 -- a task's own entry
-own_found : (o : ℕ) (b l : List Live) (t : Live) → Pairs Apart (b ++ (t ∷ l)) → touches (t.rights o) ≡ true
+pub own_found : (o : ℕ) (b l : List Live) (t : Live) → Pairs Apart (b ++ (t ∷ l)) → touches (t.rights o) ≡ true
     → find t.path (line o (b ++ (t ∷ l))) ≡ Some (record { path = t.path; rights = t.rights o; hold = t.held o; version = t.versions o })
 own_found o b l t far x =
-    let front = line_away t.path o b (every_with (λ z. Apart z t) (λ z. Away t.path (slots o z)) (λ z g. before_away o t z g) b (pairs_front Apart b t l far)) in
+    let front = line_away t.path o b (every_with (λ z. Apart z t) (λ z. Away t.path (slots o z)) (λ z g. before_away o t z g) b
+    (pairs_front Apart b t l far)) in
     let born = born_slots t.doing.course o t in
     let mine = slot t.path (t.rights o) (t.held o) (t.versions o) in
-    ap (find t.path) (line_both o b (t ∷ l)) ∙ find_away t.path (line o b) (line o (t ∷ l)) front ∙ ap (find t.path) (append_assoc born mine (line o l)) ∙ find_away t.path born (mine ++ line o l) (born_away t.path t.doing.course o t (longer t.path t.part)) ∙ find_own t.path (t.rights o) (t.held o) (t.versions o) (line o l) x
+    ap (find t.path) (line_both o b (t ∷ l)) ∙ find_away t.path (line o b) (line o (t ∷ l)) front ∙ ap (find t.path) (append_assoc born mine (line o l))
+    ∙ find_away t.path born (mine ++ line o l) (born_away t.path t.doing.course o t (longer t.path t.part))
+    ∙ find_own t.path (t.rights o) (t.held o) (t.versions o) (line o l) x
 
 -- a task's next event is pending
-record Heads (t : Live) (e : Event) : Type 0 where
-  rest : List Event
-  is : t.doing.pending ≡ e ∷ rest
+pub record Heads (t : Live) (e : Event) : Type 0 where
+  pub rest : List Event
+  pub is : t.doing.pending ≡ e ∷ rest
 
-take_heads : (t : Live) (o : ℕ) (m : Mode) → First (to_come t.doing []) (λ x. x ≡ Take o m) → Heads t (Take o m)
+pub take_heads : (t : Live) (o : ℕ) (m : Mode) → First (to_come t.doing []) (λ x. x ≡ Take o m) → Heads t (Take o m)
 take_heads t o m h = go t.doing.pending refl h
   where
     deed : (c : Course) → First (from_deed c t.doing.spec t.doing.plan t.doing.steps []) (λ x. x ≡ Take o m) → Heads t (Take o m)
@@ -239,14 +270,17 @@ take_heads t o m h = go t.doing.pending refl h
     deed (Steps on) h = absurd h
     deed (Changes new on) h = absurd h
 
-    go : (es : List Event) → t.doing.pending ≡ es → First (es ++ from_deed t.doing.course t.doing.spec t.doing.plan t.doing.steps []) (λ x. x ≡ Take o m) → Heads t (Take o m)
+    go : (es : List Event) → t.doing.pending ≡ es → First (es ++ from_deed t.doing.course t.doing.spec t.doing.plan t.doing.steps []) (λ x. x ≡ Take o m)
+        → Heads t (Take o m)
     go [] q h = deed t.doing.course h
     go (e ∷ es) q h = record { rest = es; is = q ∙ ap (λ x. x ∷ es) h }
 
-write_holds : (t : Live) (o c : ℕ) (v : ℤ) → Orderly t.doing.spec t.doing.plan t.doing.course t.doing.pending t.rights t.held → First (to_come t.doing []) (λ x. x ≡ TouchWrite o c v) → is_writing (t.held o) ≡ true
+write_holds : (t : Live) (o c : ℕ) (v : ℤ) → Orderly t.doing.spec t.doing.plan t.doing.course t.doing.pending t.rights t.held
+    → First (to_come t.doing []) (λ x. x ≡ TouchWrite o c v) → is_writing (t.held o) ≡ true
 write_holds t o c v order h = go t.doing.pending t.doing.course order h
   where
-    deed : (c' : Course) → Ready t.held c' → First (from_deed c' t.doing.spec t.doing.plan t.doing.steps []) (λ x. x ≡ TouchWrite o c v) → is_writing (t.held o) ≡ true
+    deed : (c' : Course) → Ready t.held c' → First (from_deed c' t.doing.spec t.doing.plan t.doing.steps []) (λ x. x ≡ TouchWrite o c v) → is_writing (t.held o)
+        ≡ true
     deed (Writes q d w on) r h = let same : q ≡ o = cc in subst (λ z. is_writing (t.held z) ≡ true) same r
     deed (Reads q d on) r h = absurd (cc)
     deed (Creates child body on) r h = absurd (cc)
@@ -254,11 +288,13 @@ write_holds t o c v order h = go t.doing.pending t.doing.course order h
     deed (Steps on) r h = absurd h
     deed (Changes new on) r h = absurd h
 
-    go : (es : List Event) (c' : Course) → Orderly t.doing.spec t.doing.plan c' es t.rights t.held → First (es ++ from_deed c' t.doing.spec t.doing.plan t.doing.steps []) (λ x. x ≡ TouchWrite o c v) → is_writing (t.held o) ≡ true
+    go : (es : List Event) (c' : Course) → Orderly t.doing.spec t.doing.plan c' es t.rights t.held
+        → First (es ++ from_deed c' t.doing.spec t.doing.plan t.doing.steps []) (λ x. x ≡ TouchWrite o c v) → is_writing (t.held o) ≡ true
     go [] c' order h = deed c' order.1 h
     go (e ∷ es) c' order h = absurd (subst (λ x. Orderly t.doing.spec t.doing.plan c' (x ∷ es) t.rights t.held) h order)
 
-read_holds : (t : Live) (o c : ℕ) → Orderly t.doing.spec t.doing.plan t.doing.course t.doing.pending t.rights t.held → First (to_come t.doing []) (λ x. x ≡ Wants o c) → is_some (t.held o) ≡ true
+pub read_holds : (t : Live) (o c : ℕ) → Orderly t.doing.spec t.doing.plan t.doing.course t.doing.pending t.rights t.held
+    → First (to_come t.doing []) (λ x. x ≡ Wants o c) → is_some (t.held o) ≡ true
 read_holds t o c order h = go t.doing.pending t.doing.course order h
   where
     deed : (c' : Course) → Ready t.held c' → First (from_deed c' t.doing.spec t.doing.plan t.doing.steps []) (λ x. x ≡ Wants o c) → is_some (t.held o) ≡ true
@@ -269,7 +305,8 @@ read_holds t o c order h = go t.doing.pending t.doing.course order h
     deed (Steps on) r h = absurd h
     deed (Changes new on) r h = absurd h
 
-    go : (es : List Event) (c' : Course) → Orderly t.doing.spec t.doing.plan c' es t.rights t.held → First (es ++ from_deed c' t.doing.spec t.doing.plan t.doing.steps []) (λ x. x ≡ Wants o c) → is_some (t.held o) ≡ true
+    go : (es : List Event) (c' : Course) → Orderly t.doing.spec t.doing.plan c' es t.rights t.held
+        → First (es ++ from_deed c' t.doing.spec t.doing.plan t.doing.steps []) (λ x. x ≡ Wants o c) → is_some (t.held o) ≡ true
     go [] c' order h = deed c' order.1 h
     go (e ∷ es) c' order h = absurd (subst (λ x. Orderly t.doing.spec t.doing.plan c' (x ∷ es) t.rights t.held) h order)
 
@@ -310,7 +347,8 @@ born_home (Ends b) o t = refl
 line_home : (o : ℕ) (ts : List Live) → Every (λ (t : Live). is_writing (t.held o) ≡ false) ts → is_out (line o ts) ≡ false
 line_home o [] h = refl
 line_home o (t ∷ ts) h =
-    out_both (slots o t) (line o ts) (out_both (born_slots t.doing.course o t) (slot t.path (t.rights o) (t.held o) (t.versions o)) (born_home t.doing.course o t) (slot_home t.path (t.rights o) (t.held o) (t.versions o) (takes_is (t.held o) h.0))) (line_home o ts h.1)
+    out_both (slots o t) (line o ts) (out_both (born_slots t.doing.course o t) (slot t.path (t.rights o) (t.held o) (t.versions o))
+    (born_home t.doing.course o t) (slot_home t.path (t.rights o) (t.held o) (t.versions o) (takes_is (t.held o) h.0))) (line_home o ts h.1)
 
 -- a task that does not conflict has nothing out
 is_not : (b : Bool) → (b ≡ true → ⊥) → b ≡ false
@@ -318,15 +356,18 @@ is_not true f = absurd (f refl)
 is_not false f = refl
 
 allows_home : (o : ℕ) (m : Mode) (t : Live) → (m ≡ Commuting → ⊥) → Fit t → allows o m t ≡ true → is_writing (t.held o) ≡ false
-allows_home o Reading t n fit h = is_not (is_writing (t.held o)) (λ w. let x = may_changes (t.held o) (t.rights o) w (fit.holds o) in let y : false ≡ true = sym (ap not x) ∙ h in absurd (let z = y in cc))
-allows_home o Writing t n fit h = is_not (is_writing (t.held o)) (λ w. let x = may_changes (t.held o) (t.rights o) w (fit.holds o) in let y : false ≡ true = sym (ap (λ b. not b && (not (is_there (t.rights o).reads) || is_some (t.versions o))) x) ∙ h in absurd (let z = y in cc))
+allows_home o Reading t n fit h = is_not (is_writing (t.held o)) (λ w. let x = may_changes (t.held o) (t.rights o) w (fit.holds o) in let y : false ≡ true =
+    sym (ap not x) ∙ h in absurd (let z = y in cc))
+allows_home o Writing t n fit h = is_not (is_writing (t.held o)) (λ w. let x = may_changes (t.held o) (t.rights o) w (fit.holds o) in let y : false ≡ true =
+    sym (ap (λ b. not b && (not (is_there (t.rights o).reads) || is_some (t.versions o))) x) ∙ h in absurd (let z = y in cc))
 allows_home o Commuting t n fit h = absurd (n refl)
 
 both_true : (a b : Bool) → a && b ≡ true → (a ≡ true) × (b ≡ true)
 both_true true b h = (refl, h)
 both_true false b h = absurd (cc)
 
-all_home : (o : ℕ) (m : Mode) (ts : List Live) → (m ≡ Commuting → ⊥) → Every Fit ts → all_allow o m ts ≡ true → Every (λ (t : Live). is_writing (t.held o) ≡ false) ts
+all_home : (o : ℕ) (m : Mode) (ts : List Live) → (m ≡ Commuting → ⊥) → Every Fit ts → all_allow o m ts ≡ true
+    → Every (λ (t : Live). is_writing (t.held o) ≡ false) ts
 all_home o m [] n fits h = tt
 all_home o m (t ∷ ts) n fits h =
     let r = both_true (allows o m t) (all_allow o m ts) h in
@@ -356,7 +397,8 @@ none_of : (x : Option Cells) → (is_some x ≡ true → ⊥) → x ≡ None
 none_of None f = refl
 none_of (Some y) f = absurd (f refl)
 
-may_take : (o : ℕ) (m : Mode) (b l : List Live) (t : Live) → Pairs Apart (b ++ (t ∷ l)) → Pairs (Before o) (b ++ (t ∷ l)) → Every Fit (b ++ (t ∷ l)) → First (to_come t.doing []) (λ x. x ≡ Take o m) → keeper_in t.path m (line o (b ++ (t ∷ l))) ≡ None → MayTake m t.path (line o (b ++ (t ∷ l)))
+may_take : (o : ℕ) (m : Mode) (b l : List Live) (t : Live) → Pairs Apart (b ++ (t ∷ l)) → Pairs (Before o) (b ++ (t ∷ l)) → Every Fit (b ++ (t ∷ l))
+    → First (to_come t.doing []) (λ x. x ≡ Take o m) → keeper_in t.path m (line o (b ++ (t ∷ l))) ≡ None → MayTake m t.path (line o (b ++ (t ∷ l)))
 may_take o m b l t far behind fits first clear =
     let back = every_back Fit b (t ∷ l) fits in
     let fit = back.0 in
@@ -369,7 +411,11 @@ may_take o m b l t far behind fits first clear =
       entry = record { path = t.path; rights = t.rights o; hold = t.held o; version = t.versions o };
       there = own_found o b l t far (may_some (Some m) (t.rights o) refl w);
       free = order.0;
-      home = λ v. line_home o (b ++ (t ∷ l)) (every_join (λ u. is_writing (u.held o) ≡ false) b (t ∷ l) (all_home o m b n (every_front Fit b (t ∷ l) fits) front) (ap is_writing order.0, behind_home o t l (unquiet o m t n w v) (pairs_back (Before o) b t l behind)));
+      home = λ v. line_home o (b ++ (t ∷ l)) (every_join (λ u. is_writing (u.held o)
+          ≡ false) b (t ∷ l) (all_home o m b n (every_front Fit b (t ∷ l) fits) front) (
+            ap is_writing order.0,
+            behind_home o t l (unquiet o m t n w v) (pairs_back (Before o) b t l behind),
+          ));
       versionless = λ r. none_of (t.versions o) (λ x. keeps m r w order.0 (fit.keeps o x));
     }
   where
@@ -378,7 +424,8 @@ may_take o m b l t far behind fits first clear =
     keeps Writing r w e f = absurd (let g : ◌≡◌ {A = Option Mode} None (Some Reading) = sym e ∙ f w in cc)
     keeps Commuting r w e f = absurd (let g : ◌≡◌ {A = Option Mode} None (Some Reading) = sym e ∙ f w in cc)
 
-may_write : (o c : ℕ) (v : ℤ) (b l : List Live) (t : Live) → Pairs Apart (b ++ (t ∷ l)) → Every Fit (b ++ (t ∷ l)) → First (to_come t.doing []) (λ x. x ≡ TouchWrite o c v) → Holding takes_out t.path (line o (b ++ (t ∷ l)))
+may_write : (o c : ℕ) (v : ℤ) (b l : List Live) (t : Live) → Pairs Apart (b ++ (t ∷ l)) → Every Fit (b ++ (t ∷ l))
+    → First (to_come t.doing []) (λ x. x ≡ TouchWrite o c v) → Holding takes_out t.path (line o (b ++ (t ∷ l)))
 may_write o c v b l t far fits first =
     let fit = (every_back Fit b (t ∷ l) fits).0 in
     let out = write_holds t o c v fit.orderly first in
@@ -401,7 +448,8 @@ may_write o c v b l t far fits first =
     held_touches : (h : Option Mode) (a : Rights) → is_some h ≡ true → may h a ≡ true → touches a ≡ true
     held_touches h a s w = may_some h a s w
 
-may_read : (o c : ℕ) (b l : List Live) (t : Live) → Pairs Apart (b ++ (t ∷ l)) → Every Fit (b ++ (t ∷ l)) → First (to_come t.doing []) (λ x. x ≡ Wants o c) → Holding (λ h. is_some h) t.path (line o (b ++ (t ∷ l)))
+may_read : (o c : ℕ) (b l : List Live) (t : Live) → Pairs Apart (b ++ (t ∷ l)) → Every Fit (b ++ (t ∷ l)) → First (to_come t.doing []) (λ x. x ≡ Wants o c)
+    → Holding (λ h. is_some h) t.path (line o (b ++ (t ∷ l)))
 may_read o c b l t far fits first =
     let fit = (every_back Fit b (t ∷ l) fits).0 in
     let held = read_holds t o c fit.orderly first in
@@ -424,7 +472,7 @@ no_deed (Leave o) = true
 no_deed (Shift o a) = true
 no_deed (Resign b n) = false
 
-heads : (t : Live) (e : Event) → no_deed e ≡ true → First (to_come t.doing []) (λ x. x ≡ e) → Heads t e
+pub heads : (t : Live) (e : Event) → no_deed e ≡ true → First (to_come t.doing []) (λ x. x ≡ e) → Heads t e
 heads t e quiet h = go t.doing.pending refl h
   where
     never : (x : Event) → no_deed x ≡ false → x ≡ e → Heads t e
@@ -443,22 +491,33 @@ heads t e quiet h = go t.doing.pending refl h
     go (x ∷ es) q h = record { rest = es; is = q ∙ ap (λ y. y ∷ es) h }
 
 -- once its holder has given it up, an object's content is at home
-after_give : (o : ℕ) (b l : List Live) (t : Live) → Pairs Apart (b ++ (t ∷ l)) → Pairs (Lone o) (b ++ (t ∷ l)) → touches (t.rights o) ≡ true → is_writing (t.held o) ≡ true
+after_give : (o : ℕ) (b l : List Live) (t : Live) → Pairs Apart (b ++ (t ∷ l)) → Pairs (Lone o) (b ++ (t ∷ l)) → touches (t.rights o) ≡ true
+    → is_writing (t.held o) ≡ true
     → is_out (at t.path released (line o (b ++ (t ∷ l)))) ≡ false
 after_give o b l t far lone x w =
     let born = born_slots t.doing.course o t in
     let mine = slot t.path (t.rights o) (t.held o) (t.versions o) in
     let own : Entry = record { path = t.path; rights = t.rights o; hold = t.held o; version = t.versions o } in
     let list : Bool → List Entry = λ b. if b then own ∷ [] else [] in
-    let front = line_away t.path o b (every_with (λ z. Apart z t) (λ z. Away t.path (slots o z)) (λ z g. before_away o t z g) b (pairs_front Apart b t l far)) in
-    let split : line o (b ++ (t ∷ l)) ≡ line o b ++ (born ++ (mine ++ line o l)) = line_both o b (t ∷ l) ∙ ap (λ es. line o b ++ es) (append_assoc born mine (line o l)) in
-    let last : at t.path released (mine ++ line o l) ≡ released own ∷ line o l = ap (λ b. at t.path released (list b ++ line o l)) x ∙ ap (λ b. if b then released own ∷ line o l else own ∷ at t.path released (line o l)) (path_same t.path) in
-    let whole : at t.path released (line o (b ++ (t ∷ l))) ≡ line o b ++ (born ++ (released own ∷ line o l)) = ap (at t.path released) split ∙ at_away t.path released (line o b) (born ++ (mine ++ line o l)) front ∙ ap (λ es. line o b ++ es) (at_away t.path released born (mine ++ line o l) (born_away t.path t.doing.course o t (longer t.path t.part)) ∙ ap (λ es. born ++ es) last) in
-    let before = line_home o b (every_with (λ u. Lone o u t) (λ (u : Live). is_writing (u.held o) ≡ false) (λ u g. is_not (is_writing (u.held o)) (λ y. g.not_both y w)) b (pairs_front (Lone o) b t l lone)) in
-    let behind = line_home o l (every_with (Lone o t) (λ (u : Live). is_writing (u.held o) ≡ false) (λ u g. is_not (is_writing (u.held o)) (λ y. g.not_both w y)) l (pairs_back (Lone o) b t l lone)) in
-    ap is_out whole ∙ out_both (line o b) (born ++ (released own ∷ line o l)) before (out_both born (released own ∷ line o l) (born_home t.doing.course o t) behind)
+    let front = line_away t.path o b (every_with (λ z. Apart z t) (λ z. Away t.path (slots o z)) (λ z g. before_away o t z g) b
+    (pairs_front Apart b t l far)) in
+    let split : line o (b ++ (t ∷ l)) ≡ line o b ++ (born ++ (mine ++ line o l)) = line_both o b (t ∷ l)
+    ∙ ap (λ es. line o b ++ es) (append_assoc born mine (line o l)) in
+    let last : at t.path released (mine ++ line o l) ≡ released own ∷ line o l = ap (λ b. at t.path released (list b ++ line o l)) x
+    ∙ ap (λ b. if b then released own ∷ line o l else own ∷ at t.path released (line o l)) (path_same t.path) in
+    let whole : at t.path released (line o (b ++ (t ∷ l))) ≡ line o b ++ (born ++ (released own ∷ line o l)) = ap (at t.path released) split
+    ∙ at_away t.path released (line o b) (born ++ (mine ++ line o l)) front
+    ∙ ap (λ es. line o b ++ es) (at_away t.path released born (mine ++ line o l) (born_away t.path t.doing.course o t (longer t.path t.part))
+    ∙ ap (λ es. born ++ es) last) in
+    let before = line_home o b (every_with (λ u. Lone o u t) (λ (u : Live). is_writing (u.held o)
+    ≡ false) (λ u g. is_not (is_writing (u.held o)) (λ y. g.not_both y w)) b (pairs_front (Lone o) b t l lone)) in
+    let behind = line_home o l (every_with (Lone o t) (λ (u : Live). is_writing (u.held o)
+    ≡ false) (λ u g. is_not (is_writing (u.held o)) (λ y. g.not_both w y)) l (pairs_back (Lone o) b t l lone)) in
+    ap is_out whole ∙ out_both (line o b) (born ++ (released own ∷ line o l)) before
+    (out_both born (released own ∷ line o l) (born_home t.doing.course o t) behind)
 
-may_give : (o : ℕ) (b l : List Live) (t : Live) → Pairs Apart (b ++ (t ∷ l)) → Pairs (Lone o) (b ++ (t ∷ l)) → Every Fit (b ++ (t ∷ l)) → First (to_come t.doing []) (λ x. x ≡ Give o) → MayGive t.path (line o (b ++ (t ∷ l)))
+may_give : (o : ℕ) (b l : List Live) (t : Live) → Pairs Apart (b ++ (t ∷ l)) → Pairs (Lone o) (b ++ (t ∷ l)) → Every Fit (b ++ (t ∷ l))
+    → First (to_come t.doing []) (λ x. x ≡ Give o) → MayGive t.path (line o (b ++ (t ∷ l)))
 may_give o b l t far lone fits first =
     let fit = (every_back Fit b (t ∷ l) fits).0 in
     let head = heads t (Give o) refl first in
@@ -472,41 +531,56 @@ may_give o b l t far lone fits first =
     }
 
 -- no entry of the next child
-find_none : (p : Path) (es : List Entry) → Away p es → find p es ≡ None
+pub find_none : (p : Path) (es : List Entry) → Away p es → find p es ≡ None
 find_none p [] h = refl
 find_none p (e ∷ es) h = ap (λ b. if b then Some e else find p es) h.0.there ∙ find_none p es h.1
 
-kid_before : (o : ℕ) (t s : Live) → Apart s t → Away (t.path ++ t.part ∷ []) (slots o s)
+pub kid_before : (o : ℕ) (t s : Live) → Apart s t → Away (t.path ++ t.part ∷ []) (slots o s)
 kid_before o t s far =
     let kid = t.path ++ t.part ∷ [] in
     let mine : Within t.path t.part kid = record { rest = t.part ∷ []; is = refl; from = omega arith } in
-    slots_away kid o s (λ e. far kid (record { rest = []; is = e ∙ sym (append-nil s.path); from = tt }) mine) (λ e. far kid (record { rest = s.part ∷ []; is = e; from = omega arith }) mine)
+    slots_away kid o s (λ e. far kid (record { rest = []; is = e ∙ sym (append-nil s.path); from = tt }) mine) (λ e. far kid (record {
+      rest = s.part ∷ [];
+      is =
+          e;
+      from = omega arith;
+    }) mine)
 
-kid_after : (o : ℕ) (t u : Live) → Apart t u → Away (t.path ++ t.part ∷ []) (slots o u)
+pub kid_after : (o : ℕ) (t u : Live) → Apart t u → Away (t.path ++ t.part ∷ []) (slots o u)
 kid_after o t u far =
     let kid = t.path ++ t.part ∷ [] in
     let mine : Within t.path t.part kid = record { rest = t.part ∷ []; is = refl; from = omega arith } in
-    slots_away kid o u (λ e. far kid mine (record { rest = []; is = e ∙ sym (append-nil u.path); from = tt })) (λ e. far kid mine (record { rest = u.part ∷ []; is = e; from = omega arith }))
+    slots_away kid o u (λ e. far kid mine (record { rest = []; is = e ∙ sym (append-nil u.path); from = tt })) (λ e. far kid mine (record {
+      rest =
+          u.part ∷ [];
+      is = e;
+      from = omega arith;
+    }))
 
 unborn : (p : Path) (c : Course) (o : ℕ) (t : Live) → enters_still o t.doing.pending ≡ true → Away p (born_slots c o t)
-unborn p (Creates child body on) o t e = subst (λ b. Away p (if b then [] else slot (t.path ++ t.part ∷ []) (rights_on child o) None (handed_on t o))) (sym e) tt
+unborn p (Creates child body on) o t e = subst (λ b. Away p (if b then [] else slot (t.path ++ t.part ∷ []) (rights_on child o) None (handed_on t o))) (sym e)
+    tt
 unborn p (Reads q c on) o t e = tt
 unborn p (Writes q c v on) o t e = tt
 unborn p (Steps on) o t e = tt
 unborn p (Changes new on) o t e = tt
 unborn p (Ends b) o t e = tt
 
-kid_away : (o : ℕ) (b l : List Live) (t : Live) → Pairs Apart (b ++ (t ∷ l)) → enters_still o t.doing.pending ≡ true → Away (t.path ++ t.part ∷ []) (line o (b ++ (t ∷ l)))
+kid_away : (o : ℕ) (b l : List Live) (t : Live) → Pairs Apart (b ++ (t ∷ l)) → enters_still o t.doing.pending ≡ true
+    → Away (t.path ++ t.part ∷ []) (line o (b ++ (t ∷ l)))
 kid_away o b l t far e =
     let kid = t.path ++ t.part ∷ [] in
     let born = born_slots t.doing.course o t in
     let mine = slot t.path (t.rights o) (t.held o) (t.versions o) in
     let front = line_away kid o b (every_with (λ z. Apart z t) (λ z. Away kid (slots o z)) (λ z g. kid_before o t z g) b (pairs_front Apart b t l far)) in
     let back = line_away kid o l (every_with (Apart t) (λ u. Away kid (slots o u)) (λ u g. kid_after o t u g) l (pairs_back Apart b t l far)) in
-    let own = every_append (Elsewhere kid) born mine (unborn kid t.doing.course o t e) (slot_away kid t.path (t.rights o) (t.held o) (t.versions o) (λ q. longer t.path t.part (sym q))) in
-    subst (Away kid) (sym (line_both o b (t ∷ l))) (every_append (Elsewhere kid) (line o b) (slots o t ++ line o l) front (every_append (Elsewhere kid) (slots o t) (line o l) own back))
+    let own = every_append (Elsewhere kid) born mine (unborn kid t.doing.course o t e)
+    (slot_away kid t.path (t.rights o) (t.held o) (t.versions o) (λ q. longer t.path t.part (sym q))) in
+    subst (Away kid) (sym (line_both o b (t ∷ l))) (every_append (Elsewhere kid) (line o b) (slots o t ++ line o l) front
+    (every_append (Elsewhere kid) (slots o t) (line o l) own back))
 
-may_enter : (o : ℕ) (a : Rights) (b l : List Live) (t : Live) → Pairs Apart (b ++ (t ∷ l)) → Every Fit (b ++ (t ∷ l)) → First (to_come t.doing []) (λ x. x ≡ Enter o a) → MayEnter t.path (t.path ++ t.part ∷ []) a (line o (b ++ (t ∷ l)))
+may_enter : (o : ℕ) (a : Rights) (b l : List Live) (t : Live) → Pairs Apart (b ++ (t ∷ l)) → Every Fit (b ++ (t ∷ l))
+    → First (to_come t.doing []) (λ x. x ≡ Enter o a) → MayEnter t.path (t.path ++ t.part ∷ []) a (line o (b ++ (t ∷ l)))
 may_enter o a b l t far fits first =
     let fit = (every_back Fit b (t ∷ l) fits).0 in
     let head = heads t (Enter o a) refl first in
@@ -520,7 +594,8 @@ may_enter o a b l t far fits first =
       less = order.0;
     }
 
-may_shift : (o : ℕ) (a : Rights) (b l : List Live) (t : Live) → Pairs Apart (b ++ (t ∷ l)) → Every Fit (b ++ (t ∷ l)) → First (to_come t.doing []) (λ x. x ≡ Shift o a) → MayShift t.path a (line o (b ++ (t ∷ l)))
+may_shift : (o : ℕ) (a : Rights) (b l : List Live) (t : Live) → Pairs Apart (b ++ (t ∷ l)) → Every Fit (b ++ (t ∷ l))
+    → First (to_come t.doing []) (λ x. x ≡ Shift o a) → MayShift t.path a (line o (b ++ (t ∷ l)))
 may_shift o a b l t far fits first =
     let fit = (every_back Fit b (t ∷ l) fits).0 in
     let head = heads t (Shift o a) refl first in
@@ -533,7 +608,8 @@ may_shift o a b l t far fits first =
       fits = order.1;
     }
 
-may_leave : (o : ℕ) (b l : List Live) (t : Live) → Pairs Apart (b ++ (t ∷ l)) → Every Fit (b ++ (t ∷ l)) → First (to_come t.doing []) (λ x. x ≡ Leave o) → MayLeave t.path (line o (b ++ (t ∷ l)))
+may_leave : (o : ℕ) (b l : List Live) (t : Live) → Pairs Apart (b ++ (t ∷ l)) → Every Fit (b ++ (t ∷ l)) → First (to_come t.doing []) (λ x. x ≡ Leave o)
+    → MayLeave t.path (line o (b ++ (t ∷ l)))
 may_leave o b l t far fits first =
     let fit = (every_back Fit b (t ∷ l) fits).0 in
     let head = heads t (Leave o) refl first in
@@ -551,10 +627,12 @@ module _ (prog : Program) (ns : List ℤ) (limit : ℕ) (shows : CoreShows prog 
   lone_of : (roll : List Seat) (ss : List ObjectView) (m : Mirror prog ns limit roll ss) (o : ℕ) → Pairs (Lone o) m.state.roll
   lone_of roll ss m o = subst (λ st. Pairs (Lone o) st.roll) m.sound.same (pairs_lone o m.sound.placed.roll m.sound.sound.fits (m.sound.sound.before o))
 
-  alone_of : (roll : List Seat) (ss : List ObjectView) → Mirror prog ns limit roll ss → (o : ℕ) (p q : List ℕ) (d e : Entry) → find p (shelf_at ss o).queue ≡ Some d → takes_out d.hold ≡ true → find q (shelf_at ss o).queue ≡ Some e → takes_out e.hold ≡ true → same_path p q ≡ true
+  alone_of : (roll : List Seat) (ss : List ObjectView) → Mirror prog ns limit roll ss → (o : ℕ) (p q : List ℕ) (d e : Entry) → find p (shelf_at ss o).queue
+      ≡ Some d → takes_out d.hold ≡ true → find q (shelf_at ss o).queue ≡ Some e → takes_out e.hold ≡ true → same_path p q ≡ true
   alone_of roll ss m o p q d e a x b y =
       let rows : (shelf_at ss o).queue ≡ line o m.state.roll = ap (λ (s : ObjectView). s.queue) (m.shown.shelves o) in
-      ap (same_path p) (sym (one_out o p q m.state.roll (lone_of roll ss m o) (line_out p o m.state.roll d (ap (find p) (sym rows) ∙ a) x) (line_out q o m.state.roll e (ap (find q) (sym rows) ∙ b) y))) ∙ path_same p
+      ap (same_path p) (sym (one_out o p q m.state.roll (lone_of roll ss m o) (line_out p o m.state.roll d (ap (find p) (sym rows)
+      ∙ a) x) (line_out q o m.state.roll e (ap (find q) (sym rows) ∙ b) y))) ∙ path_same p
 
   -- a live task in the state that its seat shows
   record Placed_in (roll : List Seat) (ss : List ObjectView) (i : ℕ) (s : Seat) : Type 0 where
@@ -584,21 +662,25 @@ module _ (prog : Program) (ns : List ℤ) (limit : ℕ) (shows : CoreShows prog 
         rows = λ o. ap (λ (x : ObjectView). x.queue) (m.shown.shelves o) ∙ ap (line o) at.is;
       }
 
-  takes_of : (roll : List Seat) (ss : List ObjectView) → Mirror prog ns limit roll ss → (i : ℕ) (s : Seat) → slice_get roll i ≡ Some s → (o : ℕ) (m : Mode) → First (upcoming s.walker) (λ x. x ≡ Take o m) → keeper_in s.path m (shelf_at ss o).queue ≡ None → MayTake m s.path (shelf_at ss o).queue
+  takes_of : (roll : List Seat) (ss : List ObjectView) → Mirror prog ns limit roll ss → (i : ℕ) (s : Seat) → slice_get roll i ≡ Some s → (o : ℕ) (m : Mode)
+      → First (upcoming s.walker) (λ x. x ≡ Take o m) → keeper_in s.path m (shelf_at ss o).queue ≡ None → MayTake m s.path (shelf_at ss o).queue
   takes_of roll ss mirror i s e o m first clear =
       let x = placed_in roll ss mirror i s e in
       let q = x.rows o in
-      let k : keeper_in x.task.path m (line o (x.front ++ (x.task ∷ x.back))) ≡ None = ap (λ p. keeper_in p m (line o (x.front ++ (x.task ∷ x.back)))) x.sits.path ∙ ap (keeper_in s.path m) (sym q) ∙ clear in
+      let k : keeper_in x.task.path m (line o (x.front ++ (x.task ∷ x.back))) ≡ None =
+      ap (λ p. keeper_in p m (line o (x.front ++ (x.task ∷ x.back)))) x.sits.path ∙ ap (keeper_in s.path m) (sym q) ∙ clear in
       let r = may_take o m x.front x.back x.task x.apart (x.before o) x.fits (ahead_is s x.task (λ y. y ≡ Take o m) x.sits first) k in
       subst (λ p. MayTake m p (shelf_at ss o).queue) x.sits.path (subst (λ es. MayTake m x.task.path es) (sym q) r)
 
-  writes_of : (roll : List Seat) (ss : List ObjectView) → Mirror prog ns limit roll ss → (i : ℕ) (s : Seat) → slice_get roll i ≡ Some s → (o c : ℕ) (v : ℤ) → First (upcoming s.walker) (λ x. x ≡ TouchWrite o c v) → Holding takes_out s.path (shelf_at ss o).queue
+  writes_of : (roll : List Seat) (ss : List ObjectView) → Mirror prog ns limit roll ss → (i : ℕ) (s : Seat) → slice_get roll i ≡ Some s → (o c : ℕ) (v : ℤ)
+      → First (upcoming s.walker) (λ x. x ≡ TouchWrite o c v) → Holding takes_out s.path (shelf_at ss o).queue
   writes_of roll ss mirror i s e o c v first =
       let x = placed_in roll ss mirror i s e in
       let r = may_write o c v x.front x.back x.task x.apart x.fits (ahead_is s x.task (λ y. y ≡ TouchWrite o c v) x.sits first) in
       subst (λ p. Holding takes_out p (shelf_at ss o).queue) x.sits.path (subst (λ es. Holding takes_out x.task.path es) (sym (x.rows o)) r)
 
-  reads_of : (roll : List Seat) (ss : List ObjectView) → Mirror prog ns limit roll ss → (i : ℕ) (s : Seat) → slice_get roll i ≡ Some s → (o c : ℕ) → First (upcoming s.walker) (λ x. x ≡ Wants o c) → Holding (λ h. is_some h) s.path (shelf_at ss o).queue
+  reads_of : (roll : List Seat) (ss : List ObjectView) → Mirror prog ns limit roll ss → (i : ℕ) (s : Seat) → slice_get roll i ≡ Some s → (o c : ℕ)
+      → First (upcoming s.walker) (λ x. x ≡ Wants o c) → Holding (λ h. is_some h) s.path (shelf_at ss o).queue
   reads_of roll ss mirror i s e o c first =
       let x = placed_in roll ss mirror i s e in
       let r = may_read o c x.front x.back x.task x.apart x.fits (ahead_is s x.task (λ y. y ≡ Wants o c) x.sits first) in
@@ -614,26 +696,31 @@ module _ (prog : Program) (ns : List ℤ) (limit : ℕ) (shows : CoreShows prog 
     reads = λ k roll ss notes r. reads_of roll ss (shows.mirror k roll ss notes r);
   }
 
-  gives_of : (roll : List Seat) (ss : List ObjectView) → Mirror prog ns limit roll ss → (i : ℕ) (s : Seat) → slice_get roll i ≡ Some s → (o : ℕ) → First (upcoming s.walker) (λ x. x ≡ Give o) → MayGive s.path (shelf_at ss o).queue
+  gives_of : (roll : List Seat) (ss : List ObjectView) → Mirror prog ns limit roll ss → (i : ℕ) (s : Seat) → slice_get roll i ≡ Some s → (o : ℕ)
+      → First (upcoming s.walker) (λ x. x ≡ Give o) → MayGive s.path (shelf_at ss o).queue
   gives_of roll ss mirror i s e o first =
       let x = placed_in roll ss mirror i s e in
       let r = may_give o x.front x.back x.task x.apart (x.lone o) x.fits (ahead_is s x.task (λ y. y ≡ Give o) x.sits first) in
       subst (λ p. MayGive p (shelf_at ss o).queue) x.sits.path (subst (λ es. MayGive x.task.path es) (sym (x.rows o)) r)
 
-  enters_of : (roll : List Seat) (ss : List ObjectView) → Mirror prog ns limit roll ss → (i : ℕ) (s : Seat) → slice_get roll i ≡ Some s → (o : ℕ) (a : Rights) → First (upcoming s.walker) (λ x. x ≡ Enter o a) → MayEnter s.path (s.path ++ s.children ∷ []) a (shelf_at ss o).queue
+  enters_of : (roll : List Seat) (ss : List ObjectView) → Mirror prog ns limit roll ss → (i : ℕ) (s : Seat) → slice_get roll i ≡ Some s → (o : ℕ) (a : Rights)
+      → First (upcoming s.walker) (λ x. x ≡ Enter o a) → MayEnter s.path (s.path ++ s.children ∷ []) a (shelf_at ss o).queue
   enters_of roll ss mirror i s e o a first =
       let x = placed_in roll ss mirror i s e in
       let r = may_enter o a x.front x.back x.task x.apart x.fits (ahead_is s x.task (λ y. y ≡ Enter o a) x.sits first) in
       let here = subst (λ es. MayEnter x.task.path (x.task.path ++ x.task.part ∷ []) a es) (sym (x.rows o)) r in
-      subst (λ k. MayEnter s.path (s.path ++ k ∷ []) a (shelf_at ss o).queue) x.sits.part (subst (λ p. MayEnter p (p ++ x.task.part ∷ []) a (shelf_at ss o).queue) x.sits.path here)
+      subst (λ k. MayEnter s.path (s.path ++ k ∷ []) a (shelf_at ss o).queue) x.sits.part
+      (subst (λ p. MayEnter p (p ++ x.task.part ∷ []) a (shelf_at ss o).queue) x.sits.path here)
 
-  shifts_of : (roll : List Seat) (ss : List ObjectView) → Mirror prog ns limit roll ss → (i : ℕ) (s : Seat) → slice_get roll i ≡ Some s → (o : ℕ) (a : Rights) → First (upcoming s.walker) (λ x. x ≡ Shift o a) → MayShift s.path a (shelf_at ss o).queue
+  shifts_of : (roll : List Seat) (ss : List ObjectView) → Mirror prog ns limit roll ss → (i : ℕ) (s : Seat) → slice_get roll i ≡ Some s → (o : ℕ) (a : Rights)
+      → First (upcoming s.walker) (λ x. x ≡ Shift o a) → MayShift s.path a (shelf_at ss o).queue
   shifts_of roll ss mirror i s e o a first =
       let x = placed_in roll ss mirror i s e in
       let r = may_shift o a x.front x.back x.task x.apart x.fits (ahead_is s x.task (λ y. y ≡ Shift o a) x.sits first) in
       subst (λ p. MayShift p a (shelf_at ss o).queue) x.sits.path (subst (λ es. MayShift x.task.path a es) (sym (x.rows o)) r)
 
-  leaves_of : (roll : List Seat) (ss : List ObjectView) → Mirror prog ns limit roll ss → (i : ℕ) (s : Seat) → slice_get roll i ≡ Some s → (o : ℕ) → First (upcoming s.walker) (λ x. x ≡ Leave o) → MayLeave s.path (shelf_at ss o).queue
+  leaves_of : (roll : List Seat) (ss : List ObjectView) → Mirror prog ns limit roll ss → (i : ℕ) (s : Seat) → slice_get roll i ≡ Some s → (o : ℕ)
+      → First (upcoming s.walker) (λ x. x ≡ Leave o) → MayLeave s.path (shelf_at ss o).queue
   leaves_of roll ss mirror i s e o first =
       let x = placed_in roll ss mirror i s e in
       let r = may_leave o x.front x.back x.task x.apart x.fits (ahead_is s x.task (λ y. y ≡ Leave o) x.sits first) in

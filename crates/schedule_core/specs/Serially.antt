@@ -1,11 +1,11 @@
 -- Where live tasks stand in the serial run, and what they have of it, in words of plain data alone.
-use Rattle.std.specs.Prelude.{◌≡◌, ℕ, zero, suc, true, List, [], ◌∷◌, ◌++◌, length, take, Option, Some, None, ℤ, slice_get, is_some, if◌then◌else◌}
+use Rattle.std.specs.Prelude.{◌≡◌, ℕ, zero, suc, true, List, [], ◌∷◌, ◌++◌, length, take, Some, None, ℤ, slice_get, is_some, if◌then◌else◌}
 use Rattle.jade_base.specs.declared.rights.Mode.{Mode}
 use Rattle.jade_syntax.specs.declared.tree.Program.{Program}
 use Rattle.jade_syntax.specs.Image.{program}
 use Rattle.jade_syntax.specs.Objects.{sizes}
 use Rattle.jade_meaning.specs.Talk.{Task, Event, Take, Wants, talk}
-use Rattle.jade_meaning.specs.Serial.{Path, Store, Mark, Deed, DidCreate, done_to, same_path, at_object, cell, serial_run, zeros, reads_at}
+use Rattle.jade_meaning.specs.Serial.{Path, Store, Mark, DidCreate, done_to, same_path, at_object, cell, serial_run, zeros, reads_at}
 use Rattle.jade_meaning.specs.Laws.{deeds, child_path, root_task}
 use Rattle.jade_meaning.specs.Walks.{Walk}
 use Rattle.jade_meaning.specs.Walk.{upcoming, First, task_of}
@@ -13,9 +13,9 @@ use Rattle.object_shelf.specs.declared.queue.Entry.{Entry}
 use Rattle.object_shelf.specs.Views.{ObjectView}
 use Rattle.object_shelf.specs.Shelves.{find, keeper_in, content_for}
 use Rattle.schedule_core.specs.declared.steps.Seat.{Seat}
-use Rattle.schedule_core.specs.declared.notes.PartNote.{PartNote}
+use Rattle.task_roll.specs.declared.note.PartNote.{PartNote}
 use Rattle.schedule_core.specs.Plain.{Reached, value_at}
-use Rattle.schedule_core.specs.Shown.{shelf_at}
+use Rattle.schedule_core.specs.ByNumber.{shelf_at}
 
 -- the store of the serial run just before the task of the path does its deed of this number, counted from 0
 abbrev pub at_deed : Path → ℕ → List Mark → Store → Store

@@ -12,10 +12,10 @@ use Rattle.object_shelf.specs.Views.{ObjectView}
 use Rattle.object_shelf.specs.Shelves.{same_path, find, at, released, takes_out, keeper_in}
 use Rattle.object_shelf.specs.Whole.{is_out}
 use Rattle.schedule_core.specs.declared.steps.Seat.{Seat}
-use Rattle.schedule_core.specs.declared.notes.PartNote.{PartNote}
+use Rattle.task_roll.specs.declared.note.PartNote.{PartNote}
 use Rattle.schedule_core.specs.Fitting.{Lessened, may}
 use Rattle.schedule_core.specs.Plain.{Reached}
-use Rattle.schedule_core.specs.Shown.{shelf_at}
+use Rattle.schedule_core.specs.ByNumber.{shelf_at}
 
 -- a path's entry, with a hold of this kind
 pub record Holding (kind : Option Mode → Bool) (p : List ℕ) (es : List Entry) : Type 0 where

@@ -1,5 +1,6 @@
 -- The loops that look for a broken rule.
-use Rattle.std.proofs.Common.{◌≡◌, ℕ, zero, suc, ◌+◌, ◌-◌, ◌<◌, ◌≤◌, ◌⊎◌, inl, inr, List, [], ◌∷◌, Bool, true, false, ◌&&◌, ◌||◌, Option, Some, None, refl, sym, ap, ◌∙◌, length, arith}
+use Rattle.std.proofs.Common.{◌≡◌, ℕ, suc, ◌+◌, ◌-◌, ◌<◌, ◌≤◌, ◌⊎◌, inl, inr, List, Bool, true, false, ◌&&◌, ◌||◌, Some, refl, sym}
+use Rattle.std.proofs.Common.{ap, ◌∙◌, length, arith}
 use Rattle.std.specs.Prelude.{slice_get, nat_lt}
 use Rattle.std.proofs.lemmas.Bool.{cases_eq, cases_lt, lt-ltb}
 use Rattle.std.proofs.lemmas.Option.{slice_get-get_or, slice_get_past}
@@ -10,7 +11,8 @@ use Rattle.task_code.specs.Rules.{TaskCode, is_size, have_size, keeps, keeps_if,
 use Rattle.task_code.specs.Checking.{FirstIs, NoneBroken}
 
 -- an object of the family has the size
-pub size_more : (sizes : List ℕ) (first count i size : ℕ) → i < count → is_size size (slice_get sizes (first + i)) ≡ true → have_size sizes (first + i) (count - i) size ≡ have_size sizes (first + (i + 1)) (count - (i + 1)) size
+pub size_more : (sizes : List ℕ) (first count i size : ℕ) → i < count → is_size size (slice_get sizes (first + i)) ≡ true
+    → have_size sizes (first + i) (count - i) size ≡ have_size sizes (first + (i + 1)) (count - (i + 1)) size
 size_more sizes first count i size lt h =
     let e : count - i ≡ suc (count - (i + 1)) = omega (arith, lt) in
     let n : suc (first + i) ≡ first + (i + 1) = omega arith in
@@ -19,7 +21,8 @@ size_more sizes first count i size lt h =
     ∙ ap (λ k. have_size sizes k (count - (i + 1)) size) n
 
 -- it has not
-pub size_not : (sizes : List ℕ) (first count i size : ℕ) → i < count → is_size size (slice_get sizes (first + i)) ≡ false → have_size sizes (first + i) (count - i) size ≡ false
+pub size_not : (sizes : List ℕ) (first count i size : ℕ) → i < count → is_size size (slice_get sizes (first + i)) ≡ false
+    → have_size sizes (first + i) (count - i) size ≡ false
 size_not sizes first count i size lt h =
     let e : count - i ≡ suc (count - (i + 1)) = omega (arith, lt) in
     ap (λ k. have_size sizes (first + i) k size) e ∙ ap (λ b. b && have_size sizes (suc (first + i)) (count - (i + 1)) size) h
@@ -52,7 +55,8 @@ pub record NoneBefore (r : TaskCode) (own : ℕ) (b : Body) (place : ℕ) : Type
 abbrev pub Judged : TaskCode → (own : ℕ) → Body → (place : ℕ) → Bool → Type 0
 Judged r own b place k = (x : Instruction) → slice_get b.code place ≡ Some x → k ≡ keeps r own b place x
 
-judged : (r : TaskCode) (own : ℕ) (b : Body) (place : ℕ) (k : Bool) → place < length b.code → begins r own b ≡ true → Judged r own b place k → fine_in r own (Some b) place ≡ k
+judged : (r : TaskCode) (own : ℕ) (b : Body) (place : ℕ) (k : Bool) → place < length b.code → begins r own b ≡ true → Judged r own b place k
+    → fine_in r own (Some b) place ≡ k
 judged r own b place k lt h j =
     let at = slice_get-get_or b.code place instr.Step lt in
     fine_begun r own b place h ∙ ap (keeps_if r own b place) at ∙ sym (j _ at)
@@ -60,14 +64,16 @@ judged r own b place k lt h j =
 pub none_before : (r : TaskCode) (own : ℕ) (b : Body) → begins r own b ≡ true → NoneBefore r own b 0
 none_before r own b h = record { begun = h; earlier = λ p lt. absurd (omega (arith, lt)) }
 
-pub one_kept : (r : TaskCode) (own : ℕ) (b : Body) (place : ℕ) (k : Bool) → place < length b.code → NoneBefore r own b place → Judged r own b place k → k ≡ true → NoneBefore r own b (place + 1)
+pub one_kept : (r : TaskCode) (own : ℕ) (b : Body) (place : ℕ) (k : Bool) → place < length b.code → NoneBefore r own b place → Judged r own b place k → k ≡ true
+    → NoneBefore r own b (place + 1)
 one_kept r own b place k lt h j e = record { begun = h.begun; earlier = λ p le. by_case p le (cases_eq p place) }
   where
     by_case : (p : ℕ) → p < place + 1 → (p ≡ place) ⊎ (p ≡ place → ⊥) → fine_in r own (Some b) p ≡ true
     by_case p le (inl same) = ap (fine_in r own (Some b)) same ∙ judged r own b place k lt h.begun j ∙ e
     by_case p le (inr ne) = h.earlier p (not_equal p place le ne)
 
-pub one_broken : (r : TaskCode) (own : ℕ) (b : Body) (place : ℕ) (k : Bool) → place < length b.code → NoneBefore r own b place → Judged r own b place k → k ≡ false → FirstIs r own b place
+pub one_broken : (r : TaskCode) (own : ℕ) (b : Body) (place : ℕ) (k : Bool) → place < length b.code → NoneBefore r own b place → Judged r own b place k → k
+    ≡ false → FirstIs r own b place
 one_broken r own b place k lt h j e = record { broken = judged r own b place k lt h.begun j ∙ e; earlier = h.earlier; near = omega (arith, lt) }
 
 pub not_begun : (r : TaskCode) (own : ℕ) (b : Body) → begins r own b ≡ false → FirstIs r own b 0

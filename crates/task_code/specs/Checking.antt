@@ -1,5 +1,5 @@
 -- What the search for a broken rule comes to.
-use Rattle.std.specs.Prelude.{◌≡◌, ℕ, ◌<◌, ◌≤◌, ◌^◌, true, false, Option, Some, None, length, slice_get}
+use Rattle.std.specs.Prelude.{◌≡◌, ℕ, ◌<◌, ◌≤◌, true, false, Option, Some, None, length}
 use Rattle.task_code.specs.declared.valid.Bad.{Bad}
 use Rattle.code_meaning.specs.Meaning.{Body}
 use Rattle.task_code.specs.Rules.{TaskCode, fine_in, Valid, BadAt}

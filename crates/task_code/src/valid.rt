@@ -3,7 +3,8 @@
 ghost use Rattle.std.specs.Prelude.{◌≡◌, ◌<◌, ◌≤◌, ◌^◌, Some, true, false, length, slice_get, MatchResult};
 ghost use Rattle.code_meaning.specs.declared.code.Instruction.{Instruction as InstructionOf};
 ghost use Rattle.task_code.specs.Checking.{FirstBad, AnyBad};
-ghost use Rattle.task_code.specs.Rules.{Valid, BadAt, IsSmall, is_there, are_there, slots_are_there, is_turn, places_are_there, is_size, have_size, objects_are_there, is_given, body_is_there, keeps, begins, fine};
+ghost use Rattle.task_code.specs.Rules.{Valid, BadAt, IsSmall, is_there, are_there, slots_are_there, is_turn, places_are_there, is_size, have_size, is_object};
+ghost use Rattle.task_code.specs.Rules.{objects_are_there, is_given, body_is_there, keeps, begins, fine};
 
 use code_meaning::code::{Body, Instruction, Operand};
 use std::marker::Model;
@@ -157,6 +158,17 @@ fn have_size(sizes: &[u32], first: u32, count: u32, size: u32) -> bool
     true
 }
 
+// Whether an operand that is itself the number of an object is that of one that is there.
+fn is_object(objects: usize, operand: Operand) -> bool
+    ensures { result ≡ is_object objects operand }
+{
+    match operand {
+        Operand::Slot(_) => true,
+        Operand::Whole(number) => number >= 0 && (number as u64) < (objects as u64),
+        Operand::Truth(_) => false,
+    }
+}
+
 // Whether the objects that an instruction names are there, with their sizes.
 fn objects_are_there(sizes: &[u32], instruction: Instruction) -> bool
     ensures { result ≡ objects_are_there sizes.now instruction }
@@ -179,6 +191,8 @@ fn objects_are_there(sizes: &[u32], instruction: Instruction) -> bool
         } => 0 < count && have_size(sizes, first, count, size),
         Instruction::ReadOf { object, size, .. } => is_size(sizes, object as usize, size),
         Instruction::WriteOf { object, .. } => (object as usize) < sizes.len(),
+        Instruction::Within { size, .. } | Instruction::Read { size, .. } => sizes.contains(&size),
+        Instruction::Declare(_, object, _) => is_object(sizes.len(), object),
         Instruction::Fresh(count) => count as usize == sizes.len(),
         _ => true,
     }
@@ -329,7 +343,8 @@ pub fn validate(raw: Raw) -> Result<Code, Bad>
 #[cfg(test)]
 mod tests {
     use super::*;
-    use jade_base::Memory;
+    use jade_base::{Memory, Pos};
+    use jade_syntax::tree::DeclareWord;
     use std::alloc::Global;
 
     /// One body of so many slots, without inputs or objects.
@@ -365,6 +380,12 @@ mod tests {
     fn answers_the_first_place(rt: HostRuntime) -> Result<(), Memory> {
         let alloc = rt.alloc();
         let begin = Some(At { body: 0, place: 0 });
+        let pos = Pos { line: 1, column: 1 };
+        let within = Instruction::Within {
+            size: 1,
+            index: Operand::Whole(0),
+            pos,
+        };
         let cases = [
             (0, Instruction::Finish, None),
             (0, Instruction::Step, None),
@@ -377,6 +398,17 @@ mod tests {
             (3, Instruction::Turn(0, 0), None),
             (3, Instruction::Next(0, 0), begin),
             (0, Instruction::Fresh(1), begin),
+            (
+                0,
+                Instruction::Declare(DeclareWord::Rd, Operand::Whole(0), pos),
+                begin,
+            ),
+            (
+                1,
+                Instruction::Declare(DeclareWord::Rd, Operand::Slot(0), pos),
+                None,
+            ),
+            (0, within, begin),
         ];
         for i in 0..cases.len() {
             let (slots, first, at) = cases[i];

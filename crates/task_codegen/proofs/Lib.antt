@@ -1,4 +1,3 @@
-mod Ranging
 mod Newest
 mod Patching
 mod Opening

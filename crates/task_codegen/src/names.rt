@@ -4,8 +4,8 @@ ghost use Rattle.std.specs.Prelude.{◌≡◌, [], ◌∷◌, ◌+◌, ◌-◌, 
 ghost use Rattle.task_translation.specs.Compile.{slot_of, entry, inputs_in, given_scope};
 ghost use Rattle.task_codegen.specs.Compiled.{created};
 
-use crate::ranges::Ranges;
 use jade_base::Memory;
+use jade_meaning::resolve::DeclaredItems;
 use jade_syntax::Name;
 use jade_syntax::name::same_name;
 use jade_syntax::tree::{Item, NameList};
@@ -24,7 +24,7 @@ struct Variable<'p> {
 #[derive(Drop)]
 pub(crate) struct Names<'m, 'p> {
     variables: Vec<Variable<'p>>,
-    ranges: &'m Ranges<'p>,
+    ranges: &'m DeclaredItems<'p>,
     next: u32,
 }
 
@@ -39,7 +39,7 @@ impl<'m, 'p> Model for Names<'m, 'p> {
 
 impl<'m, 'p> Names<'m, 'p> {
     /// A body with no variables. It takes no memory.
-    fn none(alloc: Global, ranges: &'m Ranges<'p>) -> Names<'m, 'p>
+    fn none(alloc: Global, ranges: &'m DeclaredItems<'p>) -> Names<'m, 'p>
         ensures { result ≡ record { items = ranges.now; scope = []; next = 0 } }
     {
         Names {
@@ -64,7 +64,7 @@ impl<'m, 'p> Names<'m, 'p> {
     }
 
     /// The objects that a name stands for.
-    pub(crate) fn ranges(&self) -> &'m Ranges<'p>
+    pub(crate) fn ranges(&self) -> &'m DeclaredItems<'p>
         ensures { result.now ≡ self.now.items }
     {
         self.ranges
@@ -104,7 +104,7 @@ impl<'m, 'p> Names<'m, 'p> {
     }
 
     /// The inputs are in scope.
-    fn given(alloc: Global, ranges: &'m Ranges<'p>) -> Result<Names<'m, 'p>, Memory>
+    fn given(alloc: Global, ranges: &'m DeclaredItems<'p>) -> Result<Names<'m, 'p>, Memory>
         ensures { IfOk result (λ b. b ≡ record { items = ranges.now; scope = given_scope ranges.now; next = inputs_in ranges.now }) }
     {
         let mut body = Names::none(alloc, ranges);
@@ -130,7 +130,7 @@ impl<'m, 'p> Names<'m, 'p> {
     /// The body of a task that is created with these names.
     pub(crate) fn created(
         alloc: Global,
-        ranges: &'m Ranges<'p>,
+        ranges: &'m DeclaredItems<'p>,
         names: &'p NameList,
     ) -> Result<Names<'m, 'p>, Memory>
         ensures { IfOk result (λ b. b ≡ created ranges.now (map (λ n. n.name) names.now)) }

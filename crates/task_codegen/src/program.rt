@@ -1,16 +1,17 @@
 //! The code of a program.
 
 ghost use Rattle.std.specs.Prelude.{◌≡◌, ◌≤◌, ℕ, length, IfOk};
+ghost use Rattle.jade_syntax.specs.declared.objects.TheConstants.{OBJECT_LIMIT};
 ghost use Rattle.jade_syntax.specs.Image.{program as abstracted};
 ghost use Rattle.jade_syntax.specs.Objects.{sizes};
 ghost use Rattle.task_translation.specs.Compile.{compiled, inputs_in};
 ghost use Rattle.task_translation.specs.Correct.{Follows};
 
-use crate::ranges::Ranges;
 use crate::slots::size;
 use crate::statements::task;
 use code_meaning::code::Body;
 use jade_base::Memory;
+use jade_meaning::resolve::DeclaredItems;
 use jade_syntax::Checked;
 use jade_syntax::tree::{NameList, Program};
 use std::alloc::Global;
@@ -67,11 +68,11 @@ impl Compiled {
 /// The bodies of a program, the first of which is that of `main`. The error is want of memory, or
 /// that a number is too large for an instruction.
 fn bodies_of(alloc: Global, program: &Program, inputs: u32) -> Result<Vec<Body>, Memory>
-    requires objects { length (sizes program.now.items) ≤ 4096 }
+    requires objects { length (sizes program.now.items) ≤ OBJECT_LIMIT }
     requires inputs { inputs ≡ inputs_in program.now.items }
     ensures { IfOk result (λ bodies. bodies.items ≡ compiled (abstracted program.now)) }
 {
-    let ranges = Ranges::of(&program.items);
+    let ranges = DeclaredItems::of(&program.items);
     let none = NameList::empty(alloc);
     let mut bodies = Vec::new(alloc);
     task(

@@ -1,10 +1,11 @@
 -- The code of expressions does what they do.
 use Rattle.std.proofs.Common.{◌≡◌, ℕ, ◌+◌, List, [], ◌∷◌, length, Option, Some, None, refl, sym, ap, ap₂, ◌∙◌, arith, length-append}
-use Rattle.std.specs.Prelude.{slice_get}
+use Rattle.std.specs.Prelude.{ℤ, pos, slice_get}
 use Rattle.std.proofs.lemmas.Option.{same_Some, none-some}
 use Rattle.jade_base.specs.declared.place.Pos.{Pos}
 use Rattle.jade_base.specs.declared.report.FaultKind.TheVariants.{Index, Object}
-use Rattle.jade_syntax.specs.Abstract.{Or, And, Relates, Adds, Multiplies, Expression, Whole, Truth, Variable, Group, Signed, Chain, Cell, Links, Last, Link, Place, Alone, Member}
+use Rattle.jade_syntax.specs.Abstract.{Or, And, Relates, Adds, Multiplies, Expression, Whole, Truth, Variable, Group, Signed, Chain, Cell, Links, Last, Link}
+use Rattle.jade_syntax.specs.Abstract.{Place, Alone, Member}
 use Rattle.jade_meaning.specs.declared.values.Value.{Value}
 use Rattle.jade_meaning.specs.declared.values.Value.TheVariants.{IntOf, BoolOf}
 use Rattle.jade_meaning.specs.declared.resolve.ResolvedObject.{ResolvedObject}
@@ -13,15 +14,18 @@ use Rattle.jade_meaning.specs.Values.{operated, decides, signed, whole, is_index
 use Rattle.jade_meaning.specs.Specification.{Specification}
 use Rattle.jade_meaning.specs.Course.{Course, Draft, Mine, Setting, choose, given, fault, read_cell, reach, member, value_of, eval, eval_links, find}
 use Rattle.code_meaning.specs.declared.code.BinaryOp.{BinaryOp}
+use Rattle.code_meaning.specs.declared.code.Logic.TheVariants as logic
 use Rattle.code_meaning.specs.declared.code.Operand.{Operand}
 use Rattle.code_meaning.specs.declared.code.Operand.TheVariants as operand
 use Rattle.code_meaning.specs.declared.code.Instruction.{Instruction}
 use Rattle.code_meaning.specs.declared.code.Instruction.TheVariants as i
-use Rattle.code_meaning.specs.Meaning.{Slots, Go, Children, worth, with_slot, own, either, operator, numbered, index_of, cell_at, from_place}
-use Rattle.task_translation.specs.Compile.{Scope, slot_of, variable_at, where_is, brought, operand_of, unless, range_of, member_read, member_reached, code_of, code_of_links, code_at, operand_at, code_of_place, place_at}
+use Rattle.code_meaning.specs.Meaning.{Slots, Go, Children, worth, with_slot, own, either, operator, from_place}
+use Rattle.task_translation.specs.Compile.{Scope, slot_of, variable_at, where_is, brought, operand_of, unless, range_of, member_read, member_reached, code_of}
+use Rattle.task_translation.specs.Compile.{code_of_links, code_at, operand_at, code_of_place, place_at}
 use Rattle.code_meaning.proofs.Stepping.{Spans, split, span_length, fire}
-use Rattle.task_translation.proofs.Scopes.{Matches, Below, Agree, agree_all, agree_on, agree_less, put, slot_same, Low, worth_same, lower, kept_by, value_at, operand_low, known_low}
-use Rattle.task_translation.proofs.Values.{choose_same, either_same, given_same, read_same, or_gives, and_gives}
+use Rattle.task_translation.proofs.Scopes.{Matches, Below, Agree, agree_all, agree_on, agree_less, put, slot_same, Low, worth_same, lower, kept_by, value_at}
+use Rattle.task_translation.proofs.Scopes.{operand_low, known_low}
+use Rattle.task_translation.proofs.Values.{choose_same, either_same, given_too, read_same, signed_whole, operated_whole, decides_whole}
 
 module _ (child : Children) (code : List Instruction) where
   -- what is done from a place
@@ -33,214 +37,293 @@ module _ (child : Children) (code : List Instruction) where
   to_end left pc to e ss spec d = ap (λ p. go left p ss spec d) e
 
   module _ (s : Setting) (m : Mine) (scope : Scope) (left : ℕ) (d : Draft) where
-    -- once a value is in the operand r, and the slots below t are as they were, this follows
+    -- once the number of a value is in the operand r, and the slots below t are as they were, this follows
     abbrev pub Lands : (t : ℕ) (r : Operand) (to : ℕ) → Slots → (Value → Course) → Type 0
-    Lands t r to ss on = (v : Value) (ss' : Slots) → Agree t ss ss' → worth r ss' ≡ v → go left to ss' m.spec d ≡ on v
+    Lands t r to ss on = (v : Value) (ss' : Slots) → Agree t ss ss' → worth r ss' ≡ whole v → go left to ss' m.spec d ≡ on v
 
-    -- an expression that is an operand has its value
-    pub known_is : (e : Expression) (o : Operand) → operand_of scope e ≡ Some o → (ss : Slots) → Matches scope m.env ss → (on : Value → Course) → eval s e m on ≡ on (worth o ss)
-    known_is (Whole z) o is ss mt on = ap (λ p. on (worth p ss)) (same_Some (operand.Whole z) o is)
-    known_is (Truth b) o is ss mt on = ap (λ p. on (worth p ss)) (same_Some (operand.Truth b) o is)
-    known_is (Variable x) o is ss mt on = ap on (value_at x scope m.env ss mt) ∙ ap (λ p. on (worth p ss)) (same_Some (variable_at (slot_of x scope)) o is)
-    known_is (Group e) o is ss mt on = known_is e o is ss mt on
-    known_is (Signed sign at e) o is ss mt on = absurd (none-some o is)
-    known_is (Chain e links) o is ss mt on = absurd (none-some o is)
-    known_is (Cell p e) o is ss mt on = absurd (none-some o is)
+    -- the value of an expression, whose number is in an operand
+    pub record Known (e : Expression) (o : Operand) (ss : Slots) : Type 0 where
+      pub value : Value
+      pub number : worth o ss ≡ whole value
+      pub same : (on : Value → Course) → eval s e m on ≡ on value
+
+    pub known_is : (e : Expression) (o : Operand) → operand_of scope e ≡ Some o → (ss : Slots) → Matches scope m.env ss → Known e o ss
+    known_is (Whole z) o is ss mt = record {
+      value = IntOf z;
+      number = sym (ap (λ p. worth p ss) (same_Some (operand.Whole z) o is));
+      same = λ on. refl;
+    }
+    known_is (Truth b) o is ss mt = record {
+      value = BoolOf b;
+      number = sym (ap (λ p. worth p ss) (same_Some (operand.Truth b) o is));
+      same = λ on. refl;
+    }
+    known_is (Variable x) o is ss mt = record {
+      value = value_of x m.env;
+      number = sym (value_at x scope m.env ss mt ∙ ap (λ p. worth p ss) (same_Some (variable_at (slot_of x scope)) o is));
+      same = λ on. refl;
+    }
+    known_is (Group e) o is ss mt =
+        let k = known_is e o is ss mt in record { value = k.value; number = k.number; same = k.same }
+    known_is (Signed sign at e) o is ss mt = absurd (none-some o is)
+    known_is (Chain e links) o is ss mt = absurd (none-some o is)
+    known_is (Cell p e) o is ss mt = absurd (none-some o is)
 
     -- an operand, where its code does what it does
-    operand_goes : (e : Expression) (t pc to : ℕ) (ss : Slots) → Matches scope m.env ss → Spans code pc (unless (operand_of scope e) (code_of s.items scope t e)) to → (on : Value → Course) → (Spans code pc (code_of s.items scope t e) to → Lands t (operand.Slot t) to ss on → go left pc ss m.spec d ≡ eval s e m on) → Lands t (where_is t (operand_of scope e)) to ss on → go left pc ss m.spec d ≡ eval s e m on
+    operand_goes : (e : Expression) (t pc to : ℕ) (ss : Slots) → Matches scope m.env ss
+        → Spans code pc (unless (operand_of scope e) (code_of s.items scope t e)) to → (on : Value → Course)
+        → (Spans code pc (code_of s.items scope t e) to → Lands t (operand.Slot t) to ss on → go left pc ss m.spec d ≡ eval s e m on)
+        → Lands t (where_is t (operand_of scope e)) to ss on → go left pc ss m.spec d ≡ eval s e m on
     operand_goes e t pc to ss mt h on ih k = by_case (operand_of scope e) refl h k
       where
-        by_case : (o : Option Operand) → operand_of scope e ≡ o → Spans code pc (unless o (code_of s.items scope t e)) to → Lands t (where_is t o) to ss on → go left pc ss m.spec d ≡ eval s e m on
+        by_case : (o : Option Operand) → operand_of scope e ≡ o → Spans code pc (unless o (code_of s.items scope t e)) to → Lands t (where_is t o) to ss on
+            → go left pc ss m.spec d ≡ eval s e m on
         by_case None is h k = ih h k
-        by_case (Some o) is h k = to_end left pc to h ss m.spec d ∙ k (worth o ss) ss (agree_all t ss) refl ∙ sym (known_is e o is ss mt on)
+        by_case (Some o) is h k =
+            let v = known_is e o is ss mt in to_end left pc to h ss m.spec d ∙ k v.value ss (agree_all t ss) v.number ∙ sym (v.same on)
 
     -- a value that is an operand goes to a slot
-    set_goes : (t : ℕ) (o : Operand) (pc to : ℕ) (ss : Slots) → Spans code pc (i.Set t o ∷ []) to → (v : Value) → worth o ss ≡ v → (c : Course) → ((ss' : Slots) → Agree t ss ss' → ss' t ≡ v → go left to ss' m.spec d ≡ c) → go left pc ss m.spec d ≡ c
-    set_goes t o pc to ss h v val c k =
+    set_goes : (t : ℕ) (o : Operand) (pc to : ℕ) (ss : Slots) → Spans code pc (i.Set t o ∷ []) to → (z : ℤ) → worth o ss ≡ z → (c : Course)
+        → ((ss' : Slots) → Agree t ss ss' → ss' t ≡ z → go left to ss' m.spec d ≡ c) → go left pc ss m.spec d ≡ c
+    set_goes t o pc to ss h z val c k =
         fire child code left pc _ h.0 ss m.spec d ∙ to_end left _ to h.1 (with_slot t (worth o ss) ss) m.spec d
         ∙ k (with_slot t (worth o ss) ss) (put t t (worth o ss) ss ss (omega arith) (agree_all t ss)) (slot_same t (worth o ss) ss ∙ val)
 
-    brought_goes : (t : ℕ) (o : Option Operand) (pc to : ℕ) (ss : Slots) → Spans code pc (brought t o) to → (v : Value) → worth (where_is t o) ss ≡ v → (c : Course) → ((ss' : Slots) → Agree t ss ss' → ss' t ≡ v → go left to ss' m.spec d ≡ c) → go left pc ss m.spec d ≡ c
-    brought_goes t None pc to ss h v val c k = to_end left pc to h ss m.spec d ∙ k ss (agree_all t ss) val
-    brought_goes t (Some o) pc to ss h v val c k = set_goes t o pc to ss h v val c k
+    brought_goes : (t : ℕ) (o : Option Operand) (pc to : ℕ) (ss : Slots) → Spans code pc (brought t o) to → (z : ℤ) → worth (where_is t o) ss ≡ z → (c : Course)
+        → ((ss' : Slots) → Agree t ss ss' → ss' t ≡ z → go left to ss' m.spec d ≡ c) → go left pc ss m.spec d ≡ c
+    brought_goes t None pc to ss h z val c k = to_end left pc to h ss m.spec d ∙ k ss (agree_all t ss) val
+    brought_goes t (Some o) pc to ss h z val c k = set_goes t o pc to ss h z val c k
 
     -- an operator on two operands
-    operate_goes : (o : BinaryOp) (t : ℕ) (a b : Operand) (pc to : ℕ) (ss : Slots) (at : Pos) (v w : Value) → slice_get code pc ≡ Some (i.Operate o t a b at) → pc + 1 ≡ to → worth a ss ≡ v → worth b ss ≡ w → (on : Value → Course) → ((u : Value) → go left to (with_slot t u ss) m.spec d ≡ on u) → go left pc ss m.spec d ≡ given (operated (operator o) v w) at m on
+    operate_goes : (o : BinaryOp) (t : ℕ) (a b : Operand) (pc to : ℕ) (ss : Slots) (at : Pos) (v w : Value) → slice_get code pc ≡ Some (i.Operate o t a b at)
+        → pc + 1 ≡ to → worth a ss ≡ whole v → worth b ss ≡ whole w → (on : Value → Course)
+        → ((u : Value) → go left to (with_slot t (whole u) ss) m.spec d ≡ on u) → go left pc ss m.spec d ≡ given (operated (operator o) v w) at m on
     operate_goes o t a b pc to ss at v w h end ea eb on k =
         fire child code left pc _ h ss m.spec d
-        ∙ ap₂ (λ x y. given (operated (operator o) x y) at (own m.spec d) (λ u. go left (pc + 1) (with_slot t u ss) m.spec d)) ea eb
-        ∙ given_same (operated (operator o) v w) at (own m.spec d) m (λ u. go left (pc + 1) (with_slot t u ss) m.spec d) on (λ u. to_end left _ to end (with_slot t u ss) m.spec d ∙ k u)
+        ∙ ap₂ (λ x y. given (operated (operator o) (IntOf x) (IntOf y)) at (own m.spec d) (λ u. go left (pc + 1) (with_slot t (whole u) ss) m.spec d)) ea eb
+        ∙ given_too (operated (operator o) (IntOf (whole v)) (IntOf (whole w))) (operated (operator o) v w) at (own m.spec d) m
+        (λ u. go left (pc + 1) (with_slot t (whole u) ss) m.spec d) on (operated_whole o v w)
+        (λ u. to_end left _ to end (with_slot t (whole u) ss) m.spec d ∙ k u)
 
     -- what is done from a place, where an expression is brought to the slot t there
     abbrev Brings : (e : Expression) (t : ℕ) → Type 0
-    Brings e t = (pc to : ℕ) (ss : Slots) → Matches scope m.env ss → Spans code pc (code_of s.items scope t e) to → (on : Value → Course) → Lands t (operand.Slot t) to ss on → go left pc ss m.spec d ≡ eval s e m on
+    Brings e t = (pc to : ℕ) (ss : Slots) → Matches scope m.env ss → Spans code pc (code_of s.items scope t e) to → (on : Value → Course)
+        → Lands t (operand.Slot t) to ss on → go left pc ss m.spec d ≡ eval s e m on
 
     -- a cell of a member is read, once the index of the member is found
-    member_read_goes : (g : Range) (t : ℕ) (j : Operand) (e : Expression) (at : Pos) (pc to : ℕ) (ss s1 : Slots) → Below t scope → Matches scope m.env s1 → Agree t ss s1 → (v : Value) → worth j s1 ≡ v → (o : Option Operand) → operand_of scope e ≡ o → Spans code pc (member_read g t j o (code_of s.items scope (t + 1) e) at) to → (on : Value → Course) → Lands t (operand.Slot t) to ss on → Brings e (t + 1)
-        → go left pc s1 m.spec d ≡ member g (whole v) at m (λ f. eval s e m (λ y. reach f (whole y) at m (λ c. read_cell f.number c at m on)))
-    member_read_goes g t j e at pc to ss s1 low mt ag v val (Some c) is h on k ih =
-        let K : Value → Course = λ w. go left (pc + 1) (with_slot t w s1) m.spec d in
-        let o = g.first + index_of v in
+    member_read_goes : (g : Range) (t : ℕ) (j : Operand) (e : Expression) (at : Pos) (pc to : ℕ) (ss s1 : Slots) → Below t scope → Matches scope m.env s1
+        → Agree t ss s1 → (z : ℤ) → worth j s1 ≡ z → (o : Option Operand) → operand_of scope e ≡ o
+        → Spans code pc (member_read g t j o (code_of s.items scope (t + 1) e) at) to → (on : Value → Course) → Lands t (operand.Slot t) to ss on
+        → Brings e (t + 1)
+        → go left pc s1 m.spec d ≡ member g z at m (λ f. eval s e m (λ y. reach f (whole y) at m (λ c. read_cell f.number c at m on)))
+    member_read_goes g t j e at pc to ss s1 low mt ag z val (Some c) is h on k ih =
+        let K : Value → Course = λ w. go left (pc + 1) (with_slot t (whole w) s1) m.spec d in
+        let o = g.first + magnitude z in
+        let y = known_is e c is s1 mt in
         fire child code left pc _ h.0 s1 m.spec d
-        ∙ ap (λ u. choose (is_index (whole u) g.count) (λ n. cell_at g.size c at (λ x a. read_cell (g.first + index_of u) x at a K) s1 (own m.spec d)) (fault Object at) (own m.spec d)) val
-        ∙ choose_same (is_index (whole v) g.count) _ _ _ _ (own m.spec d) m
-        (choose_same (is_index (whole (worth c s1)) g.size) _ _ _ _ (own m.spec d) m
-        (read_same o (index_of (worth c s1)) at m d K on
-        (λ u. to_end left _ to h.1 (with_slot t u s1) m.spec d ∙ k u (with_slot t u s1) (put t t u ss s1 (omega arith) ag) (slot_same t u s1)))
+        ∙ ap₂ (λ u w. choose (is_index u g.count) (λ n. choose (is_index w g.size) (λ a. read_cell (g.first + magnitude u) (magnitude w) at a K)
+        (fault Index at) (own m.spec d)) (fault Object at) (own m.spec d)) val y.number
+        ∙ choose_same (is_index z g.count) _ _ _ _ (own m.spec d) m
+        (choose_same (is_index (whole y.value) g.size) _ _ _ _ (own m.spec d) m
+        (read_same o (magnitude (whole y.value)) at m d K on
+        (λ u. to_end left _ to h.1 (with_slot t (whole u) s1) m.spec d
+        ∙ k u (with_slot t (whole u) s1) (put t t (whole u) ss s1 (omega arith) ag) (slot_same t (whole u) s1)))
         refl
-        ∙ sym (known_is e c is s1 mt (λ y. reach (record { number = o; size = g.size }) (whole y) at m (λ x. read_cell o x at m on))))
+        ∙ sym (y.same (λ y. reach (record { number = o; size = g.size }) (whole y) at m (λ x. read_cell o x at m on))))
         refl
-    member_read_goes g t j e at pc to ss s1 low mt ag v val None is h on k ih =
+    member_read_goes g t j e at pc to ss s1 low mt ag z val None is h on k ih =
         let q = split code (pc + 1) (code_of s.items scope (t + 1) e) _ to h.1 in
-        let o = g.first + index_of v in
-        let s2 = with_slot t (numbered o) s1 in
-        let ag2 = put t t (numbered o) ss s1 (omega arith) ag in
-        let mt2 = kept_by scope m.env s1 s2 t low (put t t (numbered o) s1 s1 (omega arith) (agree_all t s1)) mt in
+        let o = g.first + magnitude z in
+        let s2 = with_slot t (pos o) s1 in
+        let ag2 = put t t (pos o) ss s1 (omega arith) ag in
+        let mt2 = kept_by scope m.env s1 s2 t low (put t t (pos o) s1 s1 (omega arith) (agree_all t s1)) mt in
         fire child code left pc _ h.0 s1 m.spec d
-        ∙ ap (λ u. choose (is_index (whole u) g.count) (λ a. go left (pc + 1) (with_slot t (numbered (g.first + index_of u)) s1) m.spec d) (fault Object at) (own m.spec d)) val
-        ∙ choose_same (is_index (whole v) g.count) _ _ _ _ (own m.spec d) m
+        ∙ ap (λ u. choose (is_index u g.count) (λ a. go left (pc + 1) (with_slot t (pos (g.first + magnitude u)) s1) m.spec d) (fault Object at) (own m.spec d))
+        val
+        ∙ choose_same (is_index z g.count) _ _ _ _ (own m.spec d) m
         (ih (pc + 1) q.0 s2 mt2 q.1 (λ y. reach (record { number = o; size = g.size }) (whole y) at m (λ x. read_cell o x at m on))
         (λ y s3 ag3 val3.
-        let number : s3 t ≡ numbered o = ag3 t (omega arith) ∙ slot_same t (numbered o) s1 in
-        let K : Value → Course = λ w. go left (q.0 + 1) (with_slot t w s3) m.spec d in
+        let number : s3 t ≡ pos o = ag3 t (omega arith) ∙ slot_same t (pos o) s1 in
+        let K : Value → Course = λ w. go left (q.0 + 1) (with_slot t (whole w) s3) m.spec d in
         fire child code left q.0 _ q.2.0 s3 m.spec d
-        ∙ ap₂ (λ a b. choose (is_index (whole b) g.size) (λ n. read_cell (index_of a) (index_of b) at n K) (fault Index at) (own m.spec d)) number val3
+        ∙ ap₂ (λ a b. choose (is_index b g.size) (λ n. read_cell (magnitude a) (magnitude b) at n K) (fault Index at) (own m.spec d)) number val3
         ∙ choose_same (is_index (whole y) g.size) _ _ _ _ (own m.spec d) m
-        (read_same o (index_of y) at m d K on
-        (λ u. to_end left _ to q.2.1 (with_slot t u s3) m.spec d
-        ∙ k u (with_slot t u s3) (put t t u ss s3 (omega arith) (agree_on t ss s2 s3 ag2 (agree_less t (t + 1) s2 s3 (omega arith) ag3))) (slot_same t u s3)))
+        (read_same o (magnitude (whole y)) at m d K on
+        (λ u. to_end left _ to q.2.1 (with_slot t (whole u) s3) m.spec d
+        ∙ k u (with_slot t (whole u) s3) (put t t (whole u) ss s3 (omega arith) (agree_on t ss s2 s3 ag2 (agree_less t (t + 1) s2 s3 (omega arith) ag3)))
+        (slot_same t (whole u) s3)))
         refl))
         refl
 
     -- both indexes of a cell of a member are tested, once that of the member is found, and its number is in the slot t
-    pub member_reached_goes : (g : Range) (t : ℕ) (j : Operand) (e : Expression) (at : Pos) (pc to : ℕ) (ss s1 : Slots) → Below t scope → Matches scope m.env s1 → Agree t ss s1 → (v : Value) → worth j s1 ≡ v → (o : Option Operand) → operand_of scope e ≡ o → Spans code pc (member_reached g t j o (code_of s.items scope (t + 1) e) at) to
-        → (on : (number cell : ℕ) → Course) → ((number : ℕ) (y : Value) (s3 : Slots) → Agree t ss s3 → s3 t ≡ numbered number → worth (where_is (t + 1) o) s3 ≡ y → go left to s3 m.spec d ≡ on number (index_of y)) → Brings e (t + 1)
-        → go left pc s1 m.spec d ≡ member g (whole v) at m (λ f. eval s e m (λ y. reach f (whole y) at m (λ c. on f.number c)))
-    member_reached_goes g t j e at pc to ss s1 low mt ag v val (Some c) is h on k ih =
-        let o = g.first + index_of v in
-        let s2 = with_slot t (numbered o) s1 in
-        let ag2 = put t t (numbered o) ss s1 (omega arith) ag in
-        let same : worth c s2 ≡ worth c s1 = worth_same t c s1 s2 (known_low e t scope c is low) (put t t (numbered o) s1 s1 (omega arith) (agree_all t s1)) in
+    pub member_reached_goes : (g : Range) (t : ℕ) (j : Operand) (e : Expression) (at : Pos) (pc to : ℕ) (ss s1 : Slots) → Below t scope → Matches scope m.env s1
+        → Agree t ss s1 → (z : ℤ) → worth j s1 ≡ z → (o : Option Operand) → operand_of scope e ≡ o
+        → Spans code pc (member_reached g t j o (code_of s.items scope (t + 1) e) at) to
+        → (on : (number cell : ℕ) → Course) → ((number : ℕ) (y : ℤ) (s3 : Slots) → Agree t ss s3 → s3 t ≡ pos number → worth (where_is (t + 1) o) s3 ≡ y
+        → go left to s3 m.spec d ≡ on number (magnitude y)) → Brings e (t + 1)
+        → go left pc s1 m.spec d ≡ member g z at m (λ f. eval s e m (λ y. reach f (whole y) at m (λ c. on f.number c)))
+    member_reached_goes g t j e at pc to ss s1 low mt ag z val (Some c) is h on k ih =
+        let o = g.first + magnitude z in
+        let y = known_is e c is s1 mt in
+        let s2 = with_slot t (pos o) s1 in
+        let ag2 = put t t (pos o) ss s1 (omega arith) ag in
+        let same : worth c s2 ≡ whole y.value = worth_same t c s1 s2 (known_low e t scope c is low) (put t t (pos o) s1 s1 (omega arith) (agree_all t s1))
+        ∙ y.number in
         fire child code left pc _ h.0 s1 m.spec d
-        ∙ ap (λ u. choose (is_index (whole u) g.count) (λ n. cell_at g.size c at (λ x a. go left (pc + 1) (with_slot t (numbered (g.first + index_of u)) s1) m.spec d) s1 (own m.spec d)) (fault Object at) (own m.spec d)) val
-        ∙ choose_same (is_index (whole v) g.count) _ _ _ _ (own m.spec d) m
-        (choose_same (is_index (whole (worth c s1)) g.size) _ _ _ _ (own m.spec d) m
-        (to_end left _ to h.1 s2 m.spec d ∙ k o (worth c s1) s2 ag2 (slot_same t (numbered o) s1) same)
+        ∙ ap₂ (λ u w. choose (is_index u g.count) (λ n. choose (is_index w g.size)
+        (λ a. go left (pc + 1) (with_slot t (pos (g.first + magnitude u)) s1) m.spec d) (fault Index at) (own m.spec d)) (fault Object at) (own m.spec d))
+        val y.number
+        ∙ choose_same (is_index z g.count) _ _ _ _ (own m.spec d) m
+        (choose_same (is_index (whole y.value) g.size) _ _ _ _ (own m.spec d) m
+        (to_end left _ to h.1 s2 m.spec d ∙ k o (whole y.value) s2 ag2 (slot_same t (pos o) s1) same)
         refl
-        ∙ sym (known_is e c is s1 mt (λ y. reach (record { number = o; size = g.size }) (whole y) at m (λ x. on o x))))
+        ∙ sym (y.same (λ y. reach (record { number = o; size = g.size }) (whole y) at m (λ x. on o x))))
         refl
-    member_reached_goes g t j e at pc to ss s1 low mt ag v val None is h on k ih =
+    member_reached_goes g t j e at pc to ss s1 low mt ag z val None is h on k ih =
         let q = split code (pc + 1) (code_of s.items scope (t + 1) e) _ to h.1 in
-        let o = g.first + index_of v in
-        let s2 = with_slot t (numbered o) s1 in
-        let ag2 = put t t (numbered o) ss s1 (omega arith) ag in
-        let mt2 = kept_by scope m.env s1 s2 t low (put t t (numbered o) s1 s1 (omega arith) (agree_all t s1)) mt in
+        let o = g.first + magnitude z in
+        let s2 = with_slot t (pos o) s1 in
+        let ag2 = put t t (pos o) ss s1 (omega arith) ag in
+        let mt2 = kept_by scope m.env s1 s2 t low (put t t (pos o) s1 s1 (omega arith) (agree_all t s1)) mt in
         fire child code left pc _ h.0 s1 m.spec d
-        ∙ ap (λ u. choose (is_index (whole u) g.count) (λ a. go left (pc + 1) (with_slot t (numbered (g.first + index_of u)) s1) m.spec d) (fault Object at) (own m.spec d)) val
-        ∙ choose_same (is_index (whole v) g.count) _ _ _ _ (own m.spec d) m
+        ∙ ap (λ u. choose (is_index u g.count) (λ a. go left (pc + 1) (with_slot t (pos (g.first + magnitude u)) s1) m.spec d) (fault Object at) (own m.spec d))
+        val
+        ∙ choose_same (is_index z g.count) _ _ _ _ (own m.spec d) m
         (ih (pc + 1) q.0 s2 mt2 q.1 (λ y. reach (record { number = o; size = g.size }) (whole y) at m (λ x. on o x))
         (λ y s3 ag3 val3.
         fire child code left q.0 _ q.2.0 s3 m.spec d
-        ∙ ap (λ b. choose (is_index (whole b) g.size) (λ n. go left (q.0 + 1) s3 m.spec d) (fault Index at) (own m.spec d)) val3
+        ∙ ap (λ b. choose (is_index b g.size) (λ n. go left (q.0 + 1) s3 m.spec d) (fault Index at) (own m.spec d)) val3
         ∙ choose_same (is_index (whole y) g.size) _ _ _ _ (own m.spec d) m
         (to_end left _ to q.2.1 s3 m.spec d
-        ∙ k o y s3 (agree_on t ss s2 s3 ag2 (agree_less t (t + 1) s2 s3 (omega arith) ag3)) (ag3 t (omega arith) ∙ slot_same t (numbered o) s1) val3)
+        ∙ k o (whole y) s3 (agree_on t ss s2 s3 ag2 (agree_less t (t + 1) s2 s3 (omega arith) ag3)) (ag3 t (omega arith) ∙ slot_same t (pos o) s1) val3)
         refl))
         refl
 
     mutual
-      pub expr_goes : (e : Expression) (t pc to : ℕ) (ss : Slots) → Below t scope → Matches scope m.env ss → Spans code pc (code_of s.items scope t e) to → (on : Value → Course) → Lands t (operand.Slot t) to ss on → go left pc ss m.spec d ≡ eval s e m on
-      expr_goes (Whole z) t pc to ss low mt h on k = set_goes t (operand.Whole z) pc to ss h (IntOf z) refl (on (IntOf z)) (λ s1 ag val. k (IntOf z) s1 ag val)
-      expr_goes (Truth b) t pc to ss low mt h on k = set_goes t (operand.Truth b) pc to ss h (BoolOf b) refl (on (BoolOf b)) (λ s1 ag val. k (BoolOf b) s1 ag val)
-      expr_goes (Variable x) t pc to ss low mt h on k = set_goes t (variable_at (slot_of x scope)) pc to ss h (value_of x m.env) (sym (value_at x scope m.env ss mt)) (on (value_of x m.env)) (λ s1 ag val. k (value_of x m.env) s1 ag val)
+      pub expr_goes : (e : Expression) (t pc to : ℕ) (ss : Slots) → Below t scope → Matches scope m.env ss → Spans code pc (code_of s.items scope t e) to
+          → (on : Value → Course) → Lands t (operand.Slot t) to ss on → go left pc ss m.spec d ≡ eval s e m on
+      expr_goes (Whole z) t pc to ss low mt h on k = set_goes t (operand.Whole z) pc to ss h z refl (on (IntOf z)) (λ s1 ag val. k (IntOf z) s1 ag val)
+      expr_goes (Truth b) t pc to ss low mt h on k = set_goes t (operand.Truth b) pc to ss h (whole (BoolOf b)) refl (on (BoolOf b))
+          (λ s1 ag val. k (BoolOf b) s1 ag val)
+      expr_goes (Variable x) t pc to ss low mt h on k = set_goes t (variable_at (slot_of x scope)) pc to ss h (whole (value_of x m.env))
+          (sym (value_at x scope m.env ss mt)) (on (value_of x m.env)) (λ s1 ag val. k (value_of x m.env) s1 ag val)
       expr_goes (Group e) t pc to ss low mt h on k = expr_goes e t pc to ss low mt h on k
       expr_goes (Signed sign at e) t pc to ss low mt h on k =
           let r = split code pc (unless (operand_of scope e) (code_of s.items scope t e)) _ to h in
           operand_goes e t pc r.0 ss mt r.1 (λ v. given (signed sign v) at m on) (λ h' k'. expr_goes e t pc r.0 ss low mt h' _ k')
           (λ v s1 ag val.
           fire child code left r.0 _ r.2.0 s1 m.spec d
-          ∙ ap (λ u. given (signed sign u) at (own m.spec d) (λ w. go left (r.0 + 1) (with_slot t w s1) m.spec d)) val
-          ∙ given_same (signed sign v) at (own m.spec d) m (λ w. go left (r.0 + 1) (with_slot t w s1) m.spec d) on
-          (λ u. to_end left _ to r.2.1 (with_slot t u s1) m.spec d ∙ k u (with_slot t u s1) (put t t u ss s1 (omega arith) ag) (slot_same t u s1)))
+          ∙ ap (λ u. given (signed sign (IntOf u)) at (own m.spec d) (λ w. go left (r.0 + 1) (with_slot t (whole w) s1) m.spec d)) val
+          ∙ given_too (signed sign (IntOf (whole v))) (signed sign v) at (own m.spec d) m (λ w. go left (r.0 + 1) (with_slot t (whole w) s1) m.spec d) on
+          (signed_whole sign v)
+          (λ u. to_end left _ to r.2.1 (with_slot t (whole u) s1) m.spec d
+          ∙ k u (with_slot t (whole u) s1) (put t t (whole u) ss s1 (omega arith) ag) (slot_same t (whole u) s1)))
       expr_goes (Chain e links) t pc to ss low mt h on k =
           let r = split code pc (unless (operand_of scope e) (code_of s.items scope t e)) _ to h in
           operand_goes e t pc r.0 ss mt r.1 (λ v. eval_links s links v m on) (λ h' k'. expr_goes e t pc r.0 ss low mt h' _ k')
-          (λ v s1 ag val. links_goes links t (operand_of scope e) r.0 to s1 low (kept_by scope m.env ss s1 t low ag mt) (operand_low e t scope low) r.2 v val on (λ u s2 ag2 val2. k u s2 (agree_on t ss s1 s2 ag ag2) val2))
+          (λ v s1 ag val. links_goes links t (operand_of scope e) r.0 to s1 low (kept_by scope m.env ss s1 t low ag mt) (operand_low e t scope low) r.2 v val on
+          (λ u s2 ag2 val2. k u s2 (agree_on t ss s1 s2 ag ag2) val2))
       expr_goes (Cell (Alone x at) e) t pc to ss low mt h on k =
           let g = range_of s.items x in
           let r = split code pc (unless (operand_of scope e) (code_of s.items scope t e)) _ to h in
-          operand_goes e t pc r.0 ss mt r.1 (λ v. reach (record { number = g.first; size = g.size }) (whole v) at m (λ c. read_cell g.first c at m on)) (λ h' k'. expr_goes e t pc r.0 ss low mt h' _ k')
+          operand_goes e t pc r.0 ss mt r.1 (λ v. reach (record {
+            number = g.first;
+            size =
+                g.size;
+          }) (whole v) at m (λ c. read_cell g.first c at m on)) (λ h' k'. expr_goes e t pc r.0 ss low mt h' _ k')
           (λ v s1 ag val.
           fire child code left r.0 _ r.2.0 s1 m.spec d
-          ∙ ap (λ u. choose (is_index (whole u) g.size) (λ a. read_cell g.first (index_of u) at a (λ w. go left (r.0 + 1) (with_slot t w s1) m.spec d)) (fault Index at) (own m.spec d)) val
+          ∙ ap (λ u. choose (is_index u g.size) (λ a. read_cell g.first (magnitude u) at a (λ w. go left (r.0 + 1) (with_slot t (whole w) s1) m.spec d))
+          (fault Index at) (own m.spec d)) val
           ∙ choose_same (is_index (whole v) g.size) _ _ _ _ (own m.spec d) m
-          (read_same g.first (index_of v) at m d (λ w. go left (r.0 + 1) (with_slot t w s1) m.spec d) on
-          (λ u. to_end left _ to r.2.1 (with_slot t u s1) m.spec d ∙ k u (with_slot t u s1) (put t t u ss s1 (omega arith) ag) (slot_same t u s1)))
+          (read_same g.first (magnitude (whole v)) at m d (λ w. go left (r.0 + 1) (with_slot t (whole w) s1) m.spec d) on
+          (λ u. to_end left _ to r.2.1 (with_slot t (whole u) s1) m.spec d
+          ∙ k u (with_slot t (whole u) s1) (put t t (whole u) ss s1 (omega arith) ag) (slot_same t (whole u) s1)))
           refl)
       expr_goes (Cell (Member x at j) e) t pc to ss low mt h on k =
           let g = range_of s.items x in
           let r = split code pc (unless (operand_of scope j) (code_of s.items scope t j)) _ to h in
-          operand_goes j t pc r.0 ss mt r.1 (λ v. member g (whole v) at m (λ f. eval s e m (λ y. reach f (whole y) at m (λ c. read_cell f.number c at m on)))) (λ h' k'. expr_goes j t pc r.0 ss low mt h' _ k')
+          operand_goes j t pc r.0 ss mt r.1 (λ v. member g (whole v) at m (λ f. eval s e m (λ y. reach f (whole y) at m (λ c. read_cell f.number c at m on))))
+          (λ h' k'. expr_goes j t pc r.0 ss low mt h' _ k')
           (λ v s1 ag val.
-          member_read_goes g t (where_is t (operand_of scope j)) e at r.0 to ss s1 low (kept_by scope m.env ss s1 t low ag mt) ag v val (operand_of scope e) refl r.2 on k
+          member_read_goes g t (where_is t (operand_of scope j)) e at r.0 to ss s1 low (kept_by scope m.env ss s1 t low ag mt) ag (whole v) val
+          (operand_of scope e) refl r.2 on k
           (λ pc2 to2 s2 mt2 h2 on2 k2. expr_goes e (t + 1) pc2 to2 s2 (lower t (t + 1) scope (omega arith) low) mt2 h2 on2 k2))
 
-      links_goes : (l : Links) (t : ℕ) (o : Option Operand) (pc to : ℕ) (ss : Slots) → Below t scope → Matches scope m.env ss → Low (t + 1) (where_is t o) → Spans code pc (code_of_links s.items scope t o l) to → (v : Value) → worth (where_is t o) ss ≡ v → (on : Value → Course) → Lands t (operand.Slot t) to ss on → go left pc ss m.spec d ≡ eval_links s l v m on
-      links_goes Last t o pc to ss low mt lt h v val on k = brought_goes t o pc to ss h v val (on v) (λ s1 ag val1. k v s1 ag val1)
+      links_goes : (l : Links) (t : ℕ) (o : Option Operand) (pc to : ℕ) (ss : Slots) → Below t scope → Matches scope m.env ss → Low (t + 1) (where_is t o)
+          → Spans code pc (code_of_links s.items scope t o l) to → (v : Value) → worth (where_is t o) ss ≡ whole v → (on : Value → Course)
+          → Lands t (operand.Slot t) to ss on → go left pc ss m.spec d ≡ eval_links s l v m on
+      links_goes Last t o pc to ss low mt lt h v val on k = brought_goes t o pc to ss h (whole v) val (on v) (λ s1 ag val1. k v s1 ag val1)
       links_goes (Link Or at e links) t o pc to ss low mt lt h v val on k =
           let r = split code pc (brought t o) _ to h in
           let q = split code (r.0 + 1) (code_of s.items scope t e) _ to r.2.1 in
-          let far : r.0 + 1 + (length (code_of s.items scope t e) + length (code_of_links s.items scope t None links)) ≡ to = omega (arith, span_length code _ _ to r.2.1, length-append (code_of s.items scope t e) (code_of_links s.items scope t None links)) in
-          brought_goes t o pc r.0 ss r.1 v val _
+          let far : r.0 + 1 + (length (code_of s.items scope t e) + length (code_of_links s.items scope t None links)) ≡ to =
+          omega (arith, span_length code _ _ to r.2.1, length-append (code_of s.items scope t e) (code_of_links s.items scope t None links)) in
+          brought_goes t o pc r.0 ss r.1 (whole v) val _
           (λ s1 ag val1.
           let mt1 = kept_by scope m.env ss s1 t low ag mt in
           fire child code left r.0 _ r.2.0 s1 m.spec d
-          ∙ ap (λ u. either (decides Or u) (go left (r.0 + 1 + (length (code_of s.items scope t e) + length (code_of_links s.items scope t None links)))) (go left (r.0 + 1)) s1 m.spec d) val1
+          ∙ ap (λ u. either (decides Or (IntOf u)) (go left (r.0 + 1 +
+          (length (code_of s.items scope t e) + length (code_of_links s.items scope t None links)))) (go left (r.0 + 1)) s1 m.spec d) val1
+          ∙ ap (λ b. either b (go left (r.0 + 1 + (length (code_of s.items scope t e) + length (code_of_links s.items scope t None links)))) (go left (r.0 + 1))
+          s1 m.spec d) (decides_whole logic.Or v)
           ∙ either_same (decides Or v) _ _ _ _ s1 m.spec d m (to_end left _ to far s1 m.spec d ∙ k v s1 ag val1)
           (expr_goes e t (r.0 + 1) q.0 s1 low mt1 q.1 (λ w. given (operated Or v w) at m (λ u. eval_links s links u m on))
           (λ w s2 ag2 val2.
-          links_goes links t None q.0 to s2 low (kept_by scope m.env s1 s2 t low ag2 mt1) (omega arith) q.2 w val2 on (λ u s3 ag3 val3. k u s3 (agree_on t ss s1 s3 ag (agree_on t s1 s2 s3 ag2 ag3)) val3)
-          ∙ ap (λ g. given g at m (λ u. eval_links s links u m on)) (sym (or_gives v w)))))
+          links_goes links t None q.0 to s2 low (kept_by scope m.env s1 s2 t low ag2 mt1) (omega arith) q.2 w val2 on
+          (λ u s3 ag3 val3. k u s3 (agree_on t ss s1 s3 ag (agree_on t s1 s2 s3 ag2 ag3)) val3))))
       links_goes (Link And at e links) t o pc to ss low mt lt h v val on k =
           let r = split code pc (brought t o) _ to h in
           let q = split code (r.0 + 1) (code_of s.items scope t e) _ to r.2.1 in
-          let far : r.0 + 1 + (length (code_of s.items scope t e) + length (code_of_links s.items scope t None links)) ≡ to = omega (arith, span_length code _ _ to r.2.1, length-append (code_of s.items scope t e) (code_of_links s.items scope t None links)) in
-          brought_goes t o pc r.0 ss r.1 v val _
+          let far : r.0 + 1 + (length (code_of s.items scope t e) + length (code_of_links s.items scope t None links)) ≡ to =
+          omega (arith, span_length code _ _ to r.2.1, length-append (code_of s.items scope t e) (code_of_links s.items scope t None links)) in
+          brought_goes t o pc r.0 ss r.1 (whole v) val _
           (λ s1 ag val1.
           let mt1 = kept_by scope m.env ss s1 t low ag mt in
           fire child code left r.0 _ r.2.0 s1 m.spec d
-          ∙ ap (λ u. either (decides And u) (go left (r.0 + 1 + (length (code_of s.items scope t e) + length (code_of_links s.items scope t None links)))) (go left (r.0 + 1)) s1 m.spec d) val1
+          ∙ ap (λ u. either (decides And (IntOf u)) (go left (r.0 + 1 +
+          (length (code_of s.items scope t e) + length (code_of_links s.items scope t None links)))) (go left (r.0 + 1)) s1 m.spec d) val1
+          ∙ ap (λ b. either b (go left (r.0 + 1 + (length (code_of s.items scope t e) + length (code_of_links s.items scope t None links)))) (go left (r.0 + 1))
+          s1 m.spec d) (decides_whole logic.And v)
           ∙ either_same (decides And v) _ _ _ _ s1 m.spec d m (to_end left _ to far s1 m.spec d ∙ k v s1 ag val1)
           (expr_goes e t (r.0 + 1) q.0 s1 low mt1 q.1 (λ w. given (operated And v w) at m (λ u. eval_links s links u m on))
           (λ w s2 ag2 val2.
-          links_goes links t None q.0 to s2 low (kept_by scope m.env s1 s2 t low ag2 mt1) (omega arith) q.2 w val2 on (λ u s3 ag3 val3. k u s3 (agree_on t ss s1 s3 ag (agree_on t s1 s2 s3 ag2 ag3)) val3)
-          ∙ ap (λ g. given g at m (λ u. eval_links s links u m on)) (sym (and_gives v w)))))
+          links_goes links t None q.0 to s2 low (kept_by scope m.env s1 s2 t low ag2 mt1) (omega arith) q.2 w val2 on
+          (λ u s3 ag3 val3. k u s3 (agree_on t ss s1 s3 ag (agree_on t s1 s2 s3 ag2 ag3)) val3))))
       links_goes (Link (Relates p) at e links) t o pc to ss low mt lt h v val on k =
           let r = split code pc (unless (operand_of scope e) (code_of s.items scope (t + 1) e)) _ to h in
-          operand_goes e (t + 1) pc r.0 ss mt r.1 (λ w. given (operated (Relates p) v w) at m (λ u. eval_links s links u m on)) (λ h' k'. expr_goes e (t + 1) pc r.0 ss (lower t (t + 1) scope (omega arith) low) mt h' _ k')
+          operand_goes e (t + 1) pc r.0 ss mt r.1 (λ w. given (operated (Relates p) v w) at m (λ u. eval_links s links u m on))
+          (λ h' k'. expr_goes e (t + 1) pc r.0 ss (lower t (t + 1) scope (omega arith) low) mt h' _ k')
           (λ w s1 ag val1. operate_goes _ t _ _ r.0 (r.0 + 1) s1 at v w r.2.0 refl (worth_same (t + 1) (where_is t o) ss s1 lt ag ∙ val) val1 _
-          (λ u. let ag2 = put t t u ss s1 (omega arith) (agree_less t (t + 1) ss s1 (omega arith) ag) in
-          links_goes links t None (r.0 + 1) to (with_slot t u s1) low (kept_by scope m.env ss (with_slot t u s1) t low ag2 mt) (omega arith) r.2.1 u (slot_same t u s1) on (λ y s3 ag3 val3. k y s3 (agree_on t ss (with_slot t u s1) s3 ag2 ag3) val3)))
+          (λ u. let ag2 = put t t (whole u) ss s1 (omega arith) (agree_less t (t + 1) ss s1 (omega arith) ag) in
+          links_goes links t None (r.0 + 1) to (with_slot t (whole u) s1) low (kept_by scope m.env ss (with_slot t (whole u) s1) t low ag2 mt) (omega arith)
+          r.2.1 u (slot_same t (whole u) s1) on (λ y s3 ag3 val3. k y s3 (agree_on t ss (with_slot t (whole u) s1) s3 ag2 ag3) val3)))
       links_goes (Link (Adds p) at e links) t o pc to ss low mt lt h v val on k =
           let r = split code pc (unless (operand_of scope e) (code_of s.items scope (t + 1) e)) _ to h in
-          operand_goes e (t + 1) pc r.0 ss mt r.1 (λ w. given (operated (Adds p) v w) at m (λ u. eval_links s links u m on)) (λ h' k'. expr_goes e (t + 1) pc r.0 ss (lower t (t + 1) scope (omega arith) low) mt h' _ k')
+          operand_goes e (t + 1) pc r.0 ss mt r.1 (λ w. given (operated (Adds p) v w) at m (λ u. eval_links s links u m on))
+          (λ h' k'. expr_goes e (t + 1) pc r.0 ss (lower t (t + 1) scope (omega arith) low) mt h' _ k')
           (λ w s1 ag val1. operate_goes _ t _ _ r.0 (r.0 + 1) s1 at v w r.2.0 refl (worth_same (t + 1) (where_is t o) ss s1 lt ag ∙ val) val1 _
-          (λ u. let ag2 = put t t u ss s1 (omega arith) (agree_less t (t + 1) ss s1 (omega arith) ag) in
-          links_goes links t None (r.0 + 1) to (with_slot t u s1) low (kept_by scope m.env ss (with_slot t u s1) t low ag2 mt) (omega arith) r.2.1 u (slot_same t u s1) on (λ y s3 ag3 val3. k y s3 (agree_on t ss (with_slot t u s1) s3 ag2 ag3) val3)))
+          (λ u. let ag2 = put t t (whole u) ss s1 (omega arith) (agree_less t (t + 1) ss s1 (omega arith) ag) in
+          links_goes links t None (r.0 + 1) to (with_slot t (whole u) s1) low (kept_by scope m.env ss (with_slot t (whole u) s1) t low ag2 mt) (omega arith)
+          r.2.1 u (slot_same t (whole u) s1) on (λ y s3 ag3 val3. k y s3 (agree_on t ss (with_slot t (whole u) s1) s3 ag2 ag3) val3)))
       links_goes (Link (Multiplies p) at e links) t o pc to ss low mt lt h v val on k =
           let r = split code pc (unless (operand_of scope e) (code_of s.items scope (t + 1) e)) _ to h in
-          operand_goes e (t + 1) pc r.0 ss mt r.1 (λ w. given (operated (Multiplies p) v w) at m (λ u. eval_links s links u m on)) (λ h' k'. expr_goes e (t + 1) pc r.0 ss (lower t (t + 1) scope (omega arith) low) mt h' _ k')
+          operand_goes e (t + 1) pc r.0 ss mt r.1 (λ w. given (operated (Multiplies p) v w) at m (λ u. eval_links s links u m on))
+          (λ h' k'. expr_goes e (t + 1) pc r.0 ss (lower t (t + 1) scope (omega arith) low) mt h' _ k')
           (λ w s1 ag val1. operate_goes _ t _ _ r.0 (r.0 + 1) s1 at v w r.2.0 refl (worth_same (t + 1) (where_is t o) ss s1 lt ag ∙ val) val1 _
-          (λ u. let ag2 = put t t u ss s1 (omega arith) (agree_less t (t + 1) ss s1 (omega arith) ag) in
-          links_goes links t None (r.0 + 1) to (with_slot t u s1) low (kept_by scope m.env ss (with_slot t u s1) t low ag2 mt) (omega arith) r.2.1 u (slot_same t u s1) on (λ y s3 ag3 val3. k y s3 (agree_on t ss (with_slot t u s1) s3 ag2 ag3) val3)))
+          (λ u. let ag2 = put t t (whole u) ss s1 (omega arith) (agree_less t (t + 1) ss s1 (omega arith) ag) in
+          links_goes links t None (r.0 + 1) to (with_slot t (whole u) s1) low (kept_by scope m.env ss (with_slot t (whole u) s1) t low ag2 mt) (omega arith)
+          r.2.1 u (slot_same t (whole u) s1) on (λ y s3 ag3 val3. k y s3 (agree_on t ss (with_slot t (whole u) s1) s3 ag2 ag3) val3)))
 
     -- an operand
-    pub at_goes : (e : Expression) (t pc to : ℕ) (ss : Slots) → Below t scope → Matches scope m.env ss → Spans code pc (code_at s.items scope t e) to → (on : Value → Course) → Lands t (operand_at s.items scope t e) to ss on → go left pc ss m.spec d ≡ eval s e m on
+    pub at_goes : (e : Expression) (t pc to : ℕ) (ss : Slots) → Below t scope → Matches scope m.env ss → Spans code pc (code_at s.items scope t e) to
+        → (on : Value → Course) → Lands t (operand_at s.items scope t e) to ss on → go left pc ss m.spec d ≡ eval s e m on
     at_goes e t pc to ss low mt h on k = operand_goes e t pc to ss mt h on (λ h' k'. expr_goes e t pc to ss low mt h' on k') k
 
     -- an object
-    pub place_goes : (o : Place) (t pc to : ℕ) (ss : Slots) → Below t scope → Matches scope m.env ss → Spans code pc (code_of_place s.items scope t o) to → (on : ResolvedObject → Course) → ((f : ResolvedObject) (ss' : Slots) → Agree t ss ss' → worth (place_at s.items t o) ss' ≡ numbered f.number → go left to ss' m.spec d ≡ on f) → go left pc ss m.spec d ≡ find s o m on
+    pub place_goes : (o : Place) (t pc to : ℕ) (ss : Slots) → Below t scope → Matches scope m.env ss → Spans code pc (code_of_place s.items scope t o) to
+        → (on : ResolvedObject → Course) → ((f : ResolvedObject) (ss' : Slots) → Agree t ss ss' → worth (place_at s.items t o) ss' ≡ pos f.number
+        → go left to ss' m.spec d ≡ on f) → go left pc ss m.spec d ≡ find s o m on
     place_goes (Alone x at) t pc to ss low mt h on k =
         let g = range_of s.items x in
         to_end left pc to h ss m.spec d ∙ k (record { number = g.first; size = g.size }) ss (agree_all t ss) refl
@@ -250,8 +333,13 @@ module _ (child : Children) (code : List Instruction) where
         at_goes e t pc r.0 ss low mt r.1 (λ v. member g (whole v) at m on)
         (λ v s1 ag val.
         fire child code left r.0 _ r.2.0 s1 m.spec d
-        ∙ ap (λ u. choose (is_index (whole u) g.count) (λ a. go left (r.0 + 1) (with_slot t (numbered (g.first + index_of u)) s1) m.spec d) (fault Object at) (own m.spec d)) val
+        ∙ ap (λ u. choose (is_index u g.count) (λ a. go left (r.0 + 1) (with_slot t (pos (g.first + magnitude u)) s1) m.spec d) (fault Object at)
+        (own m.spec d)) val
         ∙ choose_same (is_index (whole v) g.count) _ _ _ _ (own m.spec d) m
-        (let o = numbered (g.first + index_of v) in
-        to_end left _ to r.2.1 (with_slot t o s1) m.spec d ∙ k (record { number = g.first + magnitude (whole v); size = g.size }) (with_slot t o s1) (put t t o ss s1 (omega arith) ag) (slot_same t o s1))
+        (let o = pos (g.first + magnitude (whole v)) in
+        to_end left _ to r.2.1 (with_slot t o s1) m.spec d ∙ k (record {
+          number = g.first + magnitude (whole v);
+          size =
+              g.size;
+        }) (with_slot t o s1) (put t t o ss s1 (omega arith) ag) (slot_same t o s1))
         refl)

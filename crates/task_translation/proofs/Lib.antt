@@ -1,5 +1,5 @@
 mod Scopes
 mod Values
 mod Follows
-mod Statements
+pub mod Statements
 mod Bodies

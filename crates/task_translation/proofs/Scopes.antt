@@ -1,5 +1,6 @@
 -- Variables and their slots.
-use Rattle.std.proofs.Common.{◌≡◌, ℕ, suc, ◌+◌, ◌-◌, ◌<◌, ◌≤◌, ◌⊎◌, List, [], ◌∷◌, ◌++◌, length, drop, Bool, true, false, Option, Some, None, refl, sym, ap, ap₂, ◌∙◌, subst, arith, inl, inr, length-append}
+use Rattle.std.proofs.Common.{◌≡◌, ℕ, suc, ◌+◌, ◌-◌, ◌<◌, ◌≤◌, ◌⊎◌, List, [], ◌∷◌, ◌++◌, length, drop, Bool, true, false, Option, Some, None, refl, sym, ap}
+use Rattle.std.proofs.Common.{ap₂, ◌∙◌, subst, arith, inl, inr, length-append}
 use Rattle.std.specs.Prelude.{ℤ, if◌then◌else◌}
 use Rattle.std.proofs.lemmas.Bool.{eq-eqb, ne_eqb}
 use Rattle.std.proofs.lemmas.Option.{same_Some, none-some}
@@ -7,6 +8,7 @@ use Rattle.jade_syntax.specs.Abstract.{Name, Actions, Done, Then, Action, Local,
 use Rattle.jade_syntax.specs.Numbering.{same_name}
 use Rattle.jade_meaning.specs.declared.values.Value.{Value}
 use Rattle.jade_meaning.specs.declared.values.Value.TheVariants.{IntOf}
+use Rattle.jade_meaning.specs.Values.{whole}
 use Rattle.jade_meaning.specs.Course.{Binding, Environment, value_of, assigned, copied, inputs}
 use Rattle.jade_syntax.specs.declared.tree.Item.{Item}
 use Rattle.jade_syntax.specs.declared.tree.Item.TheVariants as item
@@ -14,14 +16,15 @@ use Rattle.jade_syntax.specs.Abstract.{Expression, Whole, Truth, Variable, Group
 use Rattle.code_meaning.specs.declared.code.Operand.{Operand}
 use Rattle.code_meaning.specs.declared.code.Operand.TheVariants as operand
 use Rattle.code_meaning.specs.Meaning.{Slots, worth, with_slot, given_slots, passed}
-use Rattle.task_translation.specs.Compile.{Entry, Scope, entry, slot_of, variable_at, operand_of, where_is, scope_after, next_after, call_of, inputs_in, given_scope, parameters}
+use Rattle.task_translation.specs.Compile.{Entry, Scope, entry, slot_of, variable_at, operand_of, where_is, scope_after, next_after, call_of, inputs_in}
+use Rattle.task_translation.specs.Compile.{given_scope, parameters}
 
--- the slot of a variable has its value
+-- the slot of a variable has the number of its value
 pub record Meets (e : Entry) (b : Binding) (ss : Slots) : Type 0 where
   pub name : e.name ≡ b.name
-  pub value : ss e.slot ≡ b.value
+  pub value : ss e.slot ≡ whole b.value
 
--- the slots in scope have the values of the variables
+-- the slots in scope have the numbers of the variables' values
 abbrev pub Matches : Scope → Environment → Slots → Type 0
 Matches [] [] ss = Unit {0}
 Matches [] (b ∷ env) ss = ⊥
@@ -44,13 +47,13 @@ Agree n ss ss' = (k : ℕ) → k < n → ss' k ≡ ss k
 -- what holds of slots goes on to hold where free ones change, or one in scope
 pub record Stable (P : Slots → Type 0) (scope : Scope) (n : ℕ) : Type 0 where
   pub free : (ss ss' : Slots) → Agree n ss ss' → P ss → P ss'
-  pub bound : (ss : Slots) (k : ℕ) (v : Value) → IsIn k scope → P ss → P (with_slot k v ss)
+  pub bound : (ss : Slots) (k : ℕ) (z : ℤ) → IsIn k scope → P ss → P (with_slot k z ss)
 
-pub slot_same : (k : ℕ) (v : Value) (ss : Slots) → with_slot k v ss k ≡ v
-slot_same k v ss = ap (λ b. if b then v else ss k) (eq-eqb k k refl)
+pub slot_same : (k : ℕ) (z : ℤ) (ss : Slots) → with_slot k z ss k ≡ z
+slot_same k z ss = ap (λ b. if b then z else ss k) (eq-eqb k k refl)
 
-pub slot_other : (j k : ℕ) (v : Value) (ss : Slots) → (k ≡ j → ⊥) → with_slot j v ss k ≡ ss k
-slot_other j k v ss ne = ap (λ b. if b then v else ss k) (ne_eqb k j ne)
+pub slot_other : (j k : ℕ) (z : ℤ) (ss : Slots) → (k ≡ j → ⊥) → with_slot j z ss k ≡ ss k
+slot_other j k z ss ne = ap (λ b. if b then z else ss k) (ne_eqb k j ne)
 
 pub agree_all : (n : ℕ) (ss : Slots) → Agree n ss ss
 agree_all n ss k lt = refl
@@ -78,8 +81,8 @@ low_more m n (operand.Whole z) le low = tt
 low_more m n (operand.Truth t) le low = tt
 
 -- a free slot changes
-pub put : (n k : ℕ) (v : Value) (a b : Slots) → n ≤ k → Agree n a b → Agree n a (with_slot k v b)
-put n k v a b le f j lt = slot_other k j v b (λ e. absurd (omega (arith, lt, le, e))) ∙ f j lt
+pub put : (n k : ℕ) (z : ℤ) (a b : Slots) → n ≤ k → Agree n a b → Agree n a (with_slot k z b)
+put n k z a b le f j lt = slot_other k j z b (λ e. absurd (omega (arith, lt, le, e))) ∙ f j lt
 
 pub lower : (m n : ℕ) (scope : Scope) → m ≤ n → Below m scope → Below n scope
 lower m n [] le h = tt
@@ -91,12 +94,15 @@ is_below n k (e ∷ scope) h (inl same) = omega (arith, h.0, same)
 is_below n k (e ∷ scope) h (inr more) = omega (arith, h.0, is_below e.slot k scope h.1 more)
 
 -- a free slot changes
-pub kept : (scope : Scope) (env : Environment) (ss : Slots) (n k : ℕ) (v : Value) → Below n scope → n ≤ k → Matches scope env ss → Matches scope env (with_slot k v ss)
-kept [] [] ss n k v low le m = tt
-kept [] (b ∷ env) ss n k v low le m = m
-kept (e ∷ scope) [] ss n k v low le m = m
-kept (e ∷ scope) (b ∷ env) ss n k v low le m =
-    (record { name = m.0.name; value = slot_other k e.slot v ss (λ same. absurd (omega (arith, low.0, le, same))) ∙ m.0.value }, kept scope env ss e.slot k v low.1 (omega (arith, low.0, le)) m.1)
+pub kept : (scope : Scope) (env : Environment) (ss : Slots) (n k : ℕ) (z : ℤ) → Below n scope → n ≤ k → Matches scope env ss
+    → Matches scope env (with_slot k z ss)
+kept [] [] ss n k z low le m = tt
+kept [] (b ∷ env) ss n k z low le m = m
+kept (e ∷ scope) [] ss n k z low le m = m
+kept (e ∷ scope) (b ∷ env) ss n k z low le m = (
+  record { name = m.0.name; value = slot_other k e.slot z ss (λ same. absurd (omega (arith, low.0, le, same))) ∙ m.0.value },
+  kept scope env ss e.slot k z low.1 (omega (arith, low.0, le)) m.1,
+)
 
 pub kept_by : (scope : Scope) (env : Environment) (a b : Slots) (n : ℕ) → Below n scope → Agree n a b → Matches scope env a → Matches scope env b
 kept_by [] [] a b n low f m = tt
@@ -106,24 +112,28 @@ kept_by (e ∷ scope) (x ∷ env) a b n low f m =
     (record { name = m.0.name; value = f e.slot low.0 ∙ m.0.value }, kept_by scope env a b e.slot low.1 (agree_less e.slot n a b (omega (arith, low.0)) f) m.1)
 
 -- a new variable, in the first free slot
-pub bound_by : (x : Name) (n : ℕ) (v : Value) (scope : Scope) (env : Environment) (a b : Slots) → Below n scope → Agree n a b → b n ≡ v → Matches scope env a → Matches (entry x n ∷ scope) (record { name = x; value = v } ∷ env) b
+pub bound_by : (x : Name) (n : ℕ) (v : Value) (scope : Scope) (env : Environment) (a b : Slots) → Below n scope → Agree n a b → b n ≡ whole v
+    → Matches scope env a → Matches (entry x n ∷ scope) (record { name = x; value = v } ∷ env) b
 bound_by x n v scope env a b low f e m = (record { name = refl; value = e }, kept_by scope env a b n low f m)
 
 -- a new variable
-pub bound_too : (x : Name) (n : ℕ) (v : Value) (scope : Scope) (env : Environment) (ss : Slots) → Below n scope → Matches scope env ss → Matches (entry x n ∷ scope) (record { name = x; value = v } ∷ env) (with_slot n v ss)
+pub bound_too : (x : Name) (n : ℕ) (v : Value) (scope : Scope) (env : Environment) (ss : Slots) → Below n scope → Matches scope env ss
+    → Matches (entry x n ∷ scope) (record { name = x; value = v } ∷ env) (with_slot n (whole v) ss)
 bound_too x n v scope env ss low m =
-    (record { name = refl; value = slot_same n v ss }, kept scope env ss n n v low (omega arith) m)
+    (record { name = refl; value = slot_same n (whole v) ss }, kept scope env ss n n (whole v) low (omega arith) m)
 
-value_case : (t : Bool) (e : Entry) (b : Binding) (rest : Option ℕ) (env : Value) (ss : Slots) → ss e.slot ≡ b.value → env ≡ worth (variable_at rest) ss → (if t then b.value else env) ≡ worth (variable_at (if t then Some e.slot else rest)) ss
+value_case : (t : Bool) (e : Entry) (b : Binding) (rest : Option ℕ) (env : Value) (ss : Slots) → ss e.slot ≡ whole b.value → whole env
+    ≡ worth (variable_at rest) ss → whole (if t then b.value else env) ≡ worth (variable_at (if t then Some e.slot else rest)) ss
 value_case true e b rest env ss h g = sym h
 value_case false e b rest env ss h g = g
 
-pub value_at : (x : Name) (scope : Scope) (env : Environment) (ss : Slots) → Matches scope env ss → value_of x env ≡ worth (variable_at (slot_of x scope)) ss
+pub value_at : (x : Name) (scope : Scope) (env : Environment) (ss : Slots) → Matches scope env ss → whole (value_of x env)
+    ≡ worth (variable_at (slot_of x scope)) ss
 value_at x [] [] ss m = refl
 value_at x [] (b ∷ env) ss m = absurd m
 value_at x (e ∷ scope) [] ss m = absurd m
 value_at x (e ∷ scope) (b ∷ env) ss m =
-    ap (λ y. if same_name x y then b.value else value_of x env) (sym m.0.name)
+    ap (λ y. whole (if same_name x y then b.value else value_of x env)) (sym m.0.name)
     ∙ value_case (same_name x e.name) e b (slot_of x scope) (value_of x env) ss m.0.value (value_at x scope env ss m.1)
 
 pub slot_in : (x : Name) (scope : Scope) (k : ℕ) → slot_of x scope ≡ Some k → IsIn k scope
@@ -134,28 +144,37 @@ slot_in x (e ∷ scope) k h = here (same_name x e.name) h (slot_in x scope k)
     here true h ih = inl (sym (same_Some e.slot k h))
     here false h ih = inr (ih h)
 
-assigned_case : (t : Bool) (x : Name) (e : Entry) (scope : Scope) (b : Binding) (env : Environment) (ss : Slots) (k n : ℕ) (v : Value) → Below n (e ∷ scope) → Meets e b ss → Matches scope env ss → (if t then Some e.slot else slot_of x scope) ≡ Some k → (slot_of x scope ≡ Some k → Matches scope (assigned x v env) (with_slot k v ss)) → Matches (e ∷ scope) (if t then record b { value = v } ∷ env else b ∷ assigned x v env) (with_slot k v ss)
+assigned_case : (t : Bool) (x : Name) (e : Entry) (scope : Scope) (b : Binding) (env : Environment) (ss : Slots) (k n : ℕ) (v : Value) → Below n (e ∷ scope)
+    → Meets e b ss → Matches scope env ss → (if t then Some e.slot else slot_of x scope) ≡ Some k
+    → (slot_of x scope ≡ Some k → Matches scope (assigned x v env) (with_slot k (whole v) ss))
+    → Matches (e ∷ scope) (if t then record b { value = v } ∷ env else b ∷ assigned x v env) (with_slot k (whole v) ss)
 assigned_case true x e scope b env ss k n v low meets m h ih =
-    let same : e.slot ≡ k = same_Some e.slot k h in
-    (record { name = meets.name; value = ap (with_slot k v ss) same ∙ slot_same k v ss }, kept scope env ss e.slot k v low.1 (omega (arith, same)) m)
+    let same : e.slot ≡ k = same_Some e.slot k h in (
+      record { name = meets.name; value = ap (with_slot k (whole v) ss) same ∙ slot_same k (whole v) ss },
+      kept scope env ss e.slot k (whole v) low.1 (omega (arith, same)) m,
+    )
 assigned_case false x e scope b env ss k n v low meets m h ih =
     let less = is_below e.slot k scope low.1 (slot_in x scope k h) in
-    (record { name = meets.name; value = slot_other k e.slot v ss (λ same. absurd (omega (arith, less, same))) ∙ meets.value }, ih h)
+    (record { name = meets.name; value = slot_other k e.slot (whole v) ss (λ same. absurd (omega (arith, less, same))) ∙ meets.value }, ih h)
 
 -- a variable in scope changes
-pub assigned_too : (x : Name) (scope : Scope) (env : Environment) (ss : Slots) (k n : ℕ) (v : Value) → Below n scope → slot_of x scope ≡ Some k → Matches scope env ss → Matches scope (assigned x v env) (with_slot k v ss)
+pub assigned_too : (x : Name) (scope : Scope) (env : Environment) (ss : Slots) (k n : ℕ) (v : Value) → Below n scope → slot_of x scope ≡ Some k
+    → Matches scope env ss → Matches scope (assigned x v env) (with_slot k (whole v) ss)
 assigned_too x [] [] ss k n v low h m = tt
 assigned_too x [] (b ∷ env) ss k n v low h m = absurd m
 assigned_too x (e ∷ scope) [] ss k n v low h m = absurd m
 assigned_too x (e ∷ scope) (b ∷ env) ss k n v low h m =
-    subst (λ y. Matches (e ∷ scope) (if same_name x y then record b { value = v } ∷ env else b ∷ assigned x v env) (with_slot k v ss)) m.0.name
+    subst (λ y. Matches (e ∷ scope) (if same_name x y then record b { value = v } ∷ env else b ∷ assigned x v env) (with_slot k (whole v) ss)) m.0.name
     (assigned_case (same_name x e.name) x e scope b env ss k n v low m.0 m.1 h (λ g. assigned_too x scope env ss k e.slot v low.1 g m.1))
 
-unassigned_case : (t : Bool) (x : Name) (e : Entry) (scope : Scope) (b : Binding) (env : Environment) (ss : Slots) (v : Value) → Meets e b ss → (if t then Some e.slot else slot_of x scope) ≡ None → (slot_of x scope ≡ None → Matches scope (assigned x v env) ss) → Matches (e ∷ scope) (if t then record b { value = v } ∷ env else b ∷ assigned x v env) ss
+unassigned_case : (t : Bool) (x : Name) (e : Entry) (scope : Scope) (b : Binding) (env : Environment) (ss : Slots) (v : Value) → Meets e b ss
+    → (if t then Some e.slot else slot_of x scope) ≡ None → (slot_of x scope ≡ None → Matches scope (assigned x v env) ss)
+    → Matches (e ∷ scope) (if t then record b { value = v } ∷ env else b ∷ assigned x v env) ss
 unassigned_case true x e scope b env ss v meets h ih = absurd (none-some e.slot (sym h))
 unassigned_case false x e scope b env ss v meets h ih = (meets, ih h)
 
-pub unassigned : (x : Name) (scope : Scope) (env : Environment) (ss : Slots) (v : Value) → slot_of x scope ≡ None → Matches scope env ss → Matches scope (assigned x v env) ss
+pub unassigned : (x : Name) (scope : Scope) (env : Environment) (ss : Slots) (v : Value) → slot_of x scope ≡ None → Matches scope env ss
+    → Matches scope (assigned x v env) ss
 unassigned x [] [] ss v h m = tt
 unassigned x [] (b ∷ env) ss v h m = absurd m
 unassigned x (e ∷ scope) [] ss v h m = absurd m
@@ -179,7 +198,8 @@ drop_new (e ∷ new) scope [] ss m = absurd m
 drop_new (e ∷ new) scope (b ∷ env) ss m = drop_new new scope env ss m.1
 
 -- the variables of a block end with it
-pub cut : (scope more : Scope) (old env : Environment) (ss tt' : Slots) → Grown scope more → Matches scope old tt' → Matches more env ss → Matches scope (drop (length env - length old) env) ss
+pub cut : (scope more : Scope) (old env : Environment) (ss tt' : Slots) → Grown scope more → Matches scope old tt' → Matches more env ss
+    → Matches scope (drop (length env - length old) env) ss
 cut scope more old env ss tt' g before m =
     let m' = subst (λ s. Matches s env ss) g.1 m in
     let l = same_length (g.0 ++ scope) env ss m' in
@@ -231,7 +251,7 @@ stable_local P scope n x st = record {
   bound = λ ss k v h p. at_bound ss k v h p;
 }
   where
-    at_bound : (ss : Slots) (k : ℕ) (v : Value) → IsIn k (entry x n ∷ scope) → P ss → P (with_slot k v ss)
+    at_bound : (ss : Slots) (k : ℕ) (v : ℤ) → IsIn k (entry x n ∷ scope) → P ss → P (with_slot k v ss)
     at_bound ss k v (inl e) p = st.free ss (with_slot k v ss) (put n k v ss ss (omega (arith, e)) (agree_all n ss)) p
     at_bound ss k v (inr h) p = st.bound ss k v h p
 
@@ -257,29 +277,36 @@ given_match [] zs e = tt
 given_match (item.Input y at ∷ items) [] e = absurd (omega (arith, e))
 given_match (item.Input y at ∷ items) (z ∷ zs) e =
     let same : length zs ≡ inputs_in items = omega (arith, e) in
-    subst (λ n. Matches (entry y (inputs_in items) ∷ given_scope items) (record { name = y; value = IntOf z } ∷ inputs items zs) (with_slot n (IntOf z) (given_slots zs))) (sym same)
+    subst (λ n. Matches (entry y (inputs_in items) ∷ given_scope items) (record {
+      name = y;
+      value =
+          IntOf z;
+    } ∷ inputs items zs) (with_slot n z (given_slots zs))) (sym same)
     (bound_too y (inputs_in items) (IntOf z) (given_scope items) (inputs items zs) (given_slots zs) (below_given items) (given_match items zs same))
 given_match (item.Single y at size ∷ items) zs e = given_match items zs e
 given_match (item.Family y at count size ∷ items) zs e = given_match items zs e
 
 -- the slots of a body begin with the variables that it is given
 pub below_parameters : (items : List Item) (names : List Name) → Below (inputs_in items + length names) (parameters items names)
-below_parameters items [] = let e : inputs_in items ≡ inputs_in items + length {A = Name} [] = omega arith in subst (λ n. Below n (given_scope items)) e (below_given items)
+below_parameters items [] = let e : inputs_in items ≡ inputs_in items + length {A = Name} [] = omega arith in
+    subst (λ n. Below n (given_scope items)) e (below_given items)
 below_parameters items (x ∷ xs) = (omega arith, below_parameters items xs)
 
 call_length : (scope : Scope) (names : List Name) → length (call_of scope names) ≡ length names
 call_length scope [] = refl
 call_length scope (x ∷ xs) = ap suc (call_length scope xs)
 
-pub passed_match : (items : List Item) (zs : List ℤ) → length zs ≡ inputs_in items → (names : List Name) (scope : Scope) (env : Environment) (ss : Slots) → Matches scope env ss → Matches (parameters items names) (copied names env ++ inputs items zs) (passed zs (call_of scope names) ss)
+pub passed_match : (items : List Item) (zs : List ℤ) → length zs ≡ inputs_in items → (names : List Name) (scope : Scope) (env : Environment) (ss : Slots)
+    → Matches scope env ss → Matches (parameters items names) (copied names env ++ inputs items zs) (passed zs (call_of scope names) ss)
 passed_match items zs e [] scope env ss m = given_match items zs e
 passed_match items zs e (x ∷ xs) scope env ss m =
-    let v = worth (variable_at (slot_of x scope)) ss in
+    let v = value_of x env in
     let rest = passed zs (call_of scope xs) ss in
-    let same = ap (λ k. with_slot k v rest) (ap₂ (λ a b. a + b) e (call_length scope xs)) in
-    let all = bound_too x (inputs_in items + length xs) v (parameters items xs) (copied xs env ++ inputs items zs) rest (below_parameters items xs) (passed_match items zs e xs scope env ss m) in
-    subst (λ g. Matches (parameters items (x ∷ xs)) (copied (x ∷ xs) env ++ inputs items zs) g) (sym same)
-    (subst (λ u. Matches (parameters items (x ∷ xs)) (record { name = x; value = u } ∷ (copied xs env ++ inputs items zs)) (with_slot (inputs_in items + length xs) v rest)) (sym (value_at x scope env ss m)) all)
+    let slot = inputs_in items + length xs in
+    let same = ap₂ (λ k z. with_slot k z rest) (ap₂ (λ a b. a + b) e (call_length scope xs)) (sym (value_at x scope env ss m)) in
+    let all = bound_too x slot v (parameters items xs) (copied xs env ++ inputs items zs) rest (below_parameters items xs)
+    (passed_match items zs e xs scope env ss m) in
+    subst (λ g. Matches (parameters items (x ∷ xs)) (copied (x ∷ xs) env ++ inputs items zs) g) (sym same) all
 
 variable_low : (t : ℕ) (x : Name) (scope : Scope) (o : Option ℕ) → slot_of x scope ≡ o → Below t scope → Low t (variable_at o)
 variable_low t x scope None e low = tt

@@ -1,59 +1,84 @@
 -- What judgements come to on both sides.
 use Rattle.std.proofs.Common.{◌≡◌, ℕ, zero, suc, Bool, true, false, Option, Some, None, refl, ap, ◌∙◌, arith}
-use Rattle.std.specs.Prelude.{ℤ, pos, negsuc, ◌+ℤ◌, ◌-ℤ◌, ◌<ℤ◌, ◌≤ℤ◌, int_lt}
+use Rattle.std.specs.Prelude.{not, ℤ, pos, negsuc, ◌+ℤ◌, ◌-ℤ◌, ◌<ℤ◌, ◌≤ℤ◌, int_lt}
 use Rattle.std.proofs.Math.Path.{fun_ext}
 use Rattle.std.proofs.lemmas.Int.{ints}
 use Rattle.jade_base.specs.declared.place.Pos.{Pos}
 use Rattle.jade_base.specs.declared.rights.Rights.{Rights}
 use Rattle.jade_base.specs.Rights.{is_immediate}
 use Rattle.jade_syntax.specs.declared.tree.DeclareWord.{DeclareWord}
-use Rattle.jade_syntax.specs.Abstract.{Or, And}
+use Rattle.jade_syntax.specs.declared.tree.UnaryOp.{UnaryOp}
+use Rattle.jade_syntax.specs.declared.tree.UnaryOp.TheVariants as sign
 use Rattle.jade_meaning.specs.declared.values.Value.{Value}
 use Rattle.jade_meaning.specs.declared.values.Value.TheVariants.{IntOf, BoolOf}
-use Rattle.jade_meaning.specs.Values.{Given, Gives, Fails, operated, magnitude, turn_count}
+use Rattle.jade_meaning.specs.Values.{Given, Gives, Fails, whole, holds, operated, decides, signed, magnitude, turn_count}
 use Rattle.jade_meaning.specs.Specification.{Specification, rights_on}
 use Rattle.jade_meaning.specs.Changes.{amended}
 use Rattle.jade_meaning.specs.Course.{Course, Reads, Writes, Draft, NoDraft, Building, Amending, Mine, On, choose, given, read_cell, write_cell, declare, amend}
-use Rattle.code_meaning.specs.Meaning.{Slots, Go, own, either}
+use Rattle.code_meaning.specs.declared.code.BinaryOp.{BinaryOp}
+use Rattle.code_meaning.specs.declared.code.BinaryOp.TheVariants as op
+use Rattle.code_meaning.specs.declared.code.Logic.{Logic}
+use Rattle.code_meaning.specs.declared.code.Logic.TheVariants as logic
+use Rattle.code_meaning.specs.Meaning.{Slots, Go, own, either, operator, logical}
 
 pub choose_same : (t : Bool) (x y x' y' : On) (m m' : Mine) → x m ≡ x' m' → y m ≡ y' m' → choose t x y m ≡ choose t x' y' m'
 choose_same true x y x' y' m m' h g = h
 choose_same false x y x' y' m m' h g = g
 
-pub either_same : (t : Bool) (a b : Go) (x y : On) (ss : Slots) (spec : Specification) (d : Draft) (m : Mine) → a ss spec d ≡ x m → b ss spec d ≡ y m → either t a b ss spec d ≡ choose t x y m
+pub either_same : (t : Bool) (a b : Go) (x y : On) (ss : Slots) (spec : Specification) (d : Draft) (m : Mine) → a ss spec d ≡ x m → b ss spec d ≡ y m
+    → either t a b ss spec d ≡ choose t x y m
 either_same true a b x y ss spec d m h g = h
 either_same false a b x y ss spec d m h g = g
 
-pub given_same : (g : Given) (at : Pos) (m m' : Mine) (f h : Value → Course) → ((v : Value) → f v ≡ h v) → given g at m f ≡ given g at m' h
+given_same : (g : Given) (at : Pos) (m m' : Mine) (f h : Value → Course) → ((v : Value) → f v ≡ h v) → given g at m f ≡ given g at m' h
 given_same (Gives v) at m m' f h e = e v
 given_same (Fails kind) at m m' f h e = refl
 
-pub read_same : (o c : ℕ) (at : Pos) (m : Mine) (d : Draft) (f g : Value → Course) → ((v : Value) → f v ≡ g v) → read_cell o c at (own m.spec d) f ≡ read_cell o c at m g
+pub given_too : (g' g : Given) (at : Pos) (m m' : Mine) (f h : Value → Course) → g' ≡ g → ((v : Value) → f v ≡ h v) → given g' at m f ≡ given g at m' h
+given_too g' g at m m' f h same e = ap (λ x. given x at m f) same ∙ given_same g at m m' f h e
+
+pub read_same : (o c : ℕ) (at : Pos) (m : Mine) (d : Draft) (f g : Value → Course) → ((v : Value) → f v ≡ g v) → read_cell o c at (own m.spec d) f
+    ≡ read_cell o c at m g
 read_same o c at m d f g h =
     choose_same (is_immediate (rights_on m.spec o).reads) _ _ _ _ (own m.spec d) m (ap (Reads o c) (fun_ext (λ z. h (IntOf z)))) refl
 
-pub write_same : (o c : ℕ) (z : ℤ) (at : Pos) (m : Mine) (d : Draft) (f g : On) → f (own m.spec d) ≡ g m → write_cell o c z at f (own m.spec d) ≡ write_cell o c z at g m
+pub write_same : (o c : ℕ) (z : ℤ) (at : Pos) (m : Mine) (d : Draft) (f g : On) → f (own m.spec d) ≡ g m → write_cell o c z at f (own m.spec d)
+    ≡ write_cell o c z at g m
 write_same o c z at m d f g h =
     choose_same (is_immediate (rights_on m.spec o).writes) _ _ _ _ (own m.spec d) m (ap (Writes o c z) h) refl
 
-amend_same : (a : Option Rights) (spec : Specification) (o : ℕ) (at : Pos) (f g : On) (k m : Mine) → ((d : Draft) → f (record k { draft = d }) ≡ g (record m { draft = d })) → amend a spec o at f k ≡ amend a spec o at g m
+amend_same : (a : Option Rights) (spec : Specification) (o : ℕ) (at : Pos) (f g : On) (k m : Mine)
+    → ((d : Draft) → f (record k { draft = d }) ≡ g (record m { draft = d })) → amend a spec o at f k ≡ amend a spec o at g m
 amend_same None spec o at f g k m h = refl
 amend_same (Some a) spec o at f g k m h = h _
 
-pub declare_same : (d : Draft) (how : DeclareWord) (o : ℕ) (at : Pos) (f g : On) (k m : Mine) → f k ≡ g m → ((d : Draft) → f (record k { draft = d }) ≡ g (record m { draft = d })) → declare d how o at f k ≡ declare d how o at g m
+pub declare_same : (d : Draft) (how : DeclareWord) (o : ℕ) (at : Pos) (f g : On) (k m : Mine) → f k ≡ g m
+    → ((d : Draft) → f (record k { draft = d }) ≡ g (record m { draft = d })) → declare d how o at f k ≡ declare d how o at g m
 declare_same NoDraft how o at f g k m e h = e
 declare_same (Building spec) how o at f g k m e h = h _
 declare_same (Amending spec) how o at f g k m e h = amend_same (amended how (rights_on spec o)) spec o at f g k m h
 
-pub or_gives : (v w : Value) → operated Or v w ≡ Gives w
-or_gives (IntOf x) (IntOf y) = refl
-or_gives (IntOf x) (BoolOf y) = refl
-or_gives (BoolOf x) w = refl
+-- the truth of a value is that of its number
+pub holds_whole : (v : Value) → holds (IntOf (whole v)) ≡ holds v
+holds_whole (IntOf x) = refl
+holds_whole (BoolOf true) = refl
+holds_whole (BoolOf false) = refl
 
-pub and_gives : (v w : Value) → operated And v w ≡ Gives w
-and_gives (IntOf x) (IntOf y) = refl
-and_gives (IntOf x) (BoolOf y) = refl
-and_gives (BoolOf x) w = refl
+-- a sign makes of a value what it makes of its number
+pub signed_whole : (sign : UnaryOp) (v : Value) → signed sign (IntOf (whole v)) ≡ signed sign v
+signed_whole sign.Negative v = refl
+signed_whole sign.Not v = ap (λ b. Gives (BoolOf (not b))) (holds_whole v)
+
+-- an operator makes of two values what it makes of their numbers
+pub operated_whole : (o : BinaryOp) (v w : Value) → operated (operator o) (IntOf (whole v)) (IntOf (whole w)) ≡ operated (operator o) v w
+operated_whole (op.Relates r) v w = refl
+operated_whole (op.Adds s) v w = refl
+operated_whole (op.Multiplies p) v w = refl
+
+-- a value decides where its number does
+pub decides_whole : (l : Logic) (v : Value) → decides (logical l) (IntOf (whole v)) ≡ decides (logical l) v
+decides_whole logic.Or v = holds_whole v
+decides_whole logic.And v = ap not (holds_whole v)
 
 positive : (z : ℤ) (n : ℕ) → magnitude z ≡ suc n → pos 0 <ℤ z
 positive (pos zero) n h = absurd (omega (arith, h))

@@ -1,8 +1,10 @@
-//! Checks a program, and prints what each of its names stands for, in text order.
+//! Checks a program, and prints what each of its names stands for, in text order, and the number of
+//! cells of each object, as the plan of a run tells it.
 #![tactic(auto)]
 
 use jade_base::{ObjectId, StdSource, read_text};
 use jade_lexer::tokens;
+use jade_meaning::Plan;
 use jade_parser::parse;
 use jade_syntax::{Checked, Stand};
 use jade_types::check;
@@ -43,6 +45,11 @@ fn main(rt: HostRuntime) -> io::Result<()> {
     let stands = checked.stands();
     for i in 0..stands.len() {
         tell(&rt, stands.at(i))?;
+    }
+    let plan = Plan::of(&checked, &[7], 1000);
+    for number in 0..plan.objects() {
+        let size = plan.size(ObjectId(number));
+        println!(rt; "object {number} has {size} cells")?;
     }
     Ok(())
 }

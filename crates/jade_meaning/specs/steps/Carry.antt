@@ -1,5 +1,5 @@
 -- What a run has noted, as it grows while a task goes through its course.
-use Rattle.std.specs.Prelude.{ℕ, ℤ, suc, List, [], ◌∷◌, ◌++◌, length, replicate, Option, Some, None}
+use Rattle.std.specs.Prelude.{ℕ, ℤ, suc, List, [], ◌∷◌, ◌++◌, replicate, Option, Some, None}
 use Rattle.jade_base.specs.declared.report.Blame.{Blame}
 use Rattle.jade_base.specs.declared.report.FaultNote.{FaultNote}
 use Rattle.jade_base.specs.declared.report.Report.{Report}
@@ -30,6 +30,6 @@ carried p (Creates child body on) k n l = carried p on (suc k) 0 (carried (p ++ 
 carried p (Changes new on) k n l = carried p on k n l
 carried p (Ends b) k n l = noted p k n b l
 
--- the report of a run in which no object was taken for commuting
-abbrev pub report_of : RunState → Report
-report_of l = record { objects = l.objects; faults = l.faults; turns = replicate (length l.objects) []; steps = l.steps }
+-- the report of a run on so many objects, of which none was taken for commuting
+abbrev pub report_of : (objects : ℕ) → RunState → Report
+report_of n l = record { objects = l.objects; faults = l.faults; turns = replicate n []; steps = l.steps }

@@ -38,19 +38,19 @@ begin_of c WithonlyWord = main_only c Withonly
 begin_of c WithWord = main_only c With
 begin_of c s = declaration_of c (declare_of s)
 
--- what the word asks for, where it begins this
-abbrev pub Told : BlockKind → Sign → Begin → Type 0
-Told c s (Local k) = (kind_word k ≡ Fixed s)
+-- a word predicts a statement: with it at hand the grammar goes on by the rule of that statement, and by none where the word begins nothing
+abbrev pub Predicts : BlockKind → Sign → Begin → Type 0
+Predicts c s (Local k) = (kind_word k ≡ Fixed s)
     × ((st : Stack) → statement_sign c s st ≡ Some (NameIs ∷ Must Becomes ∷ expr_in ++ Must Semicolon ∷ Body c ∷ st))
-Told c s If = (s ≡ IfWord) × ((st : Stack) → statement_sign c s st ≡ Some (expr_in ++ Must LeftBrace ∷ Body c ∷ Else c ∷ Body c ∷ st))
-Told c s For = (s ≡ ForWord) × ((st : Stack) → statement_sign c s st
+Predicts c s If = (s ≡ IfWord) × ((st : Stack) → statement_sign c s st ≡ Some (expr_in ++ Must LeftBrace ∷ Body c ∷ Else c ∷ Body c ∷ st))
+Predicts c s For = (s ≡ ForWord) × ((st : Stack) → statement_sign c s st
     ≡ Some (NameIs ∷ Must InWord ∷ expr_in ++ Must DotDot ∷ expr_in ++ Must LeftBrace ∷ Body c ∷ Body c ∷ st))
-Told c s Withonly = (c ≡ Main) × (s ≡ WithonlyWord)
+Predicts c s Withonly = (c ≡ Main) × (s ≡ WithonlyWord)
     × ((st : Stack) → statement_sign c s st
     ≡ Some (Must LeftBrace ∷ Body Section ∷ Must DoWord ∷ Must LeftParen ∷ Names ∷ Must LeftBrace ∷ Body Main ∷ Body c ∷ st))
-Told c s With = (c ≡ Main) × (s ≡ WithWord)
+Predicts c s With = (c ≡ Main) × (s ≡ WithWord)
     × ((st : Stack) → statement_sign c s st ≡ Some (Must LeftBrace ∷ Body Amends ∷ Must ContWord ∷ Must Semicolon ∷ Body c ∷ st))
-Told c s (Declare w) = (declare_word w ≡ Fixed s) × (declares c w ≡ true)
+Predicts c s (Declare w) = (declare_word w ≡ Fixed s) × (declares c w ≡ true)
     × ((st : Stack) → statement_sign c s st ≡ Some (Must LeftParen ∷ NameIs ∷ Second ∷ Must RightParen ∷ Must Semicolon ∷ Body c ∷ st))
-Told c s Closing = s ≡ RightBrace
-Told c s Nothing = (st : Stack) → statement_sign c s st ≡ None
+Predicts c s Closing = s ≡ RightBrace
+Predicts c s Nothing = (st : Stack) → statement_sign c s st ≡ None

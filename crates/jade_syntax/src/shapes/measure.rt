@@ -1,6 +1,8 @@
 //! Measuring trees.
 
-ghost use Rattle.jade_syntax.specs.Shapes.{signs, ◌⊕◌, in_brackets, name_extent, expr_extent, and_extent, compare_extent, sum_extent, product_extent, unary_extent, atom_extent, cell_extent, inner_index, outermost, outer_index, target_extent, object_extent, names_extent, statement_extent, block_extent, item_extent, program_extent};
+ghost use Rattle.jade_syntax.specs.Shapes.{signs, ◌⊕◌, in_brackets, name_extent, expr_extent, and_extent, compare_extent, sum_extent, product_extent};
+ghost use Rattle.jade_syntax.specs.Shapes.{unary_extent, atom_extent, cell_extent, inner_index, outermost, outer_index, target_extent, object_extent};
+ghost use Rattle.jade_syntax.specs.Shapes.{names_extent, statement_extent, block_extent, item_extent, program_extent};
 ghost use Rattle.jade_syntax.specs.Measured.{Measures};
 
 use crate::Name;

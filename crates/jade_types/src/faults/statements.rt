@@ -94,7 +94,8 @@ fn visit_bounds(
     low: &Expr,
     high: &Expr,
 )
-    ensures { Noted notes.old notes.new (Declares name.now pos (in_scope scope.now) ∷ (needed Int (in_scope scope.now) (term low.now) ++ needed Int (in_scope scope.now) (term high.now))) }
+    ensures { Noted notes.old notes.new (Declares name.now pos (in_scope scope.now)
+        ∷ (needed Int (in_scope scope.now) (term low.now) ++ needed Int (in_scope scope.now) (term high.now))) }
 {
     visit_declared(notes, scope, name, pos);
     visit_needed(notes, scope, ValueKind::Int, low);

@@ -1,7 +1,8 @@
 //! What the names of expressions stand for.
 
 ghost use Rattle.std.specs.Prelude.{[], ◌∷◌, OnOk};
-ghost use Rattle.jade_syntax.specs.Image.{expression, and_expression, compare_expression, sum_expression, product_expression, unary_expression, atom_expression, reference, member};
+ghost use Rattle.jade_syntax.specs.Image.{expression, and_expression, compare_expression, sum_expression, product_expression, unary_expression};
+ghost use Rattle.jade_syntax.specs.Image.{atom_expression, reference, member};
 ghost use Rattle.jade_syntax.specs.Numbering.{stand_of, expression_stands};
 ghost use Rattle.jade_types.specs.steps.Bodies.{Puts, names_in, cell_stands, member_stands};
 

@@ -32,7 +32,8 @@ fn members_of(count: &Number) -> Result<u32, Memory>
 impl Counts {
     /// What an item stands for, which is counted.
     fn count(&mut self, item: &Item) -> Result<Stand, Memory>
-        ensures { IfOk result (λ s. (more : List Item) → items_from self.old.inputs self.old.objects (item.now ∷ more) ≡ record { name = (item_known item.now).name; stand = s } ∷ items_from self.new.inputs self.new.objects more) }
+        ensures { IfOk result (λ s. (more : List Item) → items_from self.old.inputs self.old.objects (item.now ∷ more)
+            ≡ record { name = (item_known item.now).name; stand = s } ∷ items_from self.new.inputs self.new.objects more) }
     {
         let input = self.inputs;
         let object = ObjectId(self.objects);

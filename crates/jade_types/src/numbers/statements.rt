@@ -57,7 +57,8 @@ fn number_store(
     target: &CellRef,
     value: &Expr,
 ) -> Result<(), Memory>
-    ensures { OnOk result (Goes body.now body.now stands.old stands.new (Store (reference target.now).place (reference target.now).cell (expression value.now))) }
+    ensures { OnOk result (Goes body.now body.now stands.old stands.new
+        (Store (reference target.now).place (reference target.now).cell (expression value.now))) }
 {
     number_cell(body, stands, target)?;
     number_expr(body, stands, value)
@@ -65,7 +66,8 @@ fn number_store(
 
 /// Puts last the slot of a loop's variable, and what the names of its bounds stand for.
 fn number_bounds(body: &Body, stands: &mut Stands, low: &Expr, high: &Expr) -> Result<(), Memory>
-    ensures { OnOk result (Puts stands.old stands.new (Slot body.now.slots ∷ (expression_stands (names_in body.now) (expression low.now) ++ expression_stands (names_in body.now) (expression high.now)))) }
+    ensures { OnOk result (Puts stands.old stands.new (Slot body.now.slots
+        ∷ (expression_stands (names_in body.now) (expression low.now) ++ expression_stands (names_in body.now) (expression high.now)))) }
 {
     put(stands, body.next_slot())?;
     number_expr(body, stands, low)?;
@@ -146,7 +148,8 @@ fn number_task<'p>(
     names: &'p NameList,
     task: &'p Block,
 ) -> Result<(), Memory>
-    ensures { let xs = map (λ n. n.name) names.now in OnOk result (Puts stands.old stands.new (name_stands (names_in body.now) xs ++ (all_in (created_in body.now xs) (actions_of task.now)).stands)) }
+    ensures { let xs = map (λ n. n.name) names.now in
+        OnOk result (Puts stands.old stands.new (name_stands (names_in body.now) xs ++ (all_in (created_in body.now xs) (actions_of task.now)).stands)) }
 {
     number_names(body, stands, names)?;
     let mut created = body.created(names)?;

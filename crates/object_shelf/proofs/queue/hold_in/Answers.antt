@@ -1,21 +1,28 @@
 use Rattle.std.proofs.Common.{◌∙◌, ap, refl, arith}
 use Rattle.object_shelf.specs.Shelves.{held_with}
 use Rattle.object_shelf.specs.Order.{is_ordered}
-use Rattle.object_shelf.proofs.Entries.{at-place, at-no-place}
+use Rattle.object_shelf.proofs.Entries.{at-place, at-no-place, got}
 use Rattle.object_shelf.proofs.Order.{at-ordered}
 use Rattle.object_shelf.proofs.queue.hold_in.Goals as goal
 
 pub returns-then-place-len-clause-done : goal.returns-then-place-len-clause-done
 returns-then-place-len-clause-done c =
-    at-place c.args.path.now (held_with c.args.mode c.args.fresh) c.args.rows.now.items c.place_of-place.result c.index_mut.result.now c.hold.new.entry
-    c.place_of-place.ensures (omega (arith, c.len.ensures, c.if-place-len.true)) c.index_mut.ensures.value c.hold.ensures
+    at-place c.args.path.now (held_with c.args.mode c.args.fresh) c.args.rows.now.items c.entry_place-place.result c.index_mut.result.now c.hold.new.entry
+    c.entry_place-place.ensures (omega (arith, c.len.ensures, c.if-place-len.true)) c.index_mut.ensures.value c.hold.ensures
 
-pub returns-then-place-len-clause-ordered : goal.returns-then-place-len-clause-ordered
-returns-then-place-len-clause-ordered c =
+pub returns-then-place-len-clause-order : goal.returns-then-place-len-clause-order
+returns-then-place-len-clause-order c =
     ap is_ordered (returns-then-place-len-clause-done c) ∙ at-ordered c.args.path.now (held_with c.args.mode c.args.fresh) c.args.rows.now.items (λ e. refl) ∙
-    c.requires
+    c.requires.ordered
 
 pub returns-else-place-len-clause-done : goal.returns-else-place-len-clause-done
 returns-else-place-len-clause-done c =
-    at-no-place c.args.path.now (held_with c.args.mode c.args.fresh) c.args.rows.now.items c.place_of-place.result c.place_of-place.ensures
+    at-no-place c.args.path.now (held_with c.args.mode c.args.fresh) c.args.rows.now.items c.entry_place-place.result c.entry_place-place.ensures
     (omega (arith, c.len.ensures, c.if-place-len.false))
+
+pub returns-then-place-len-clause-clears : goal.returns-then-place-len-clause-clears
+returns-then-place-len-clause-clears c =
+    let es = c.args.rows.now.items in
+    let e = c.index_mut.result.now in
+    let get = got es c.entry_place-place.result e (omega (arith, c.len.ensures, c.if-place-len.true)) c.index_mut.ensures.value in
+    c.changed.ensures es e get (c.out_at-was_out.ensures.out e get) c.hold.new.entry refl c.requires.clear

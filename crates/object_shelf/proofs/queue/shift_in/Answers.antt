@@ -1,21 +1,29 @@
 use Rattle.std.proofs.Common.{◌∙◌, ap, refl, arith}
 use Rattle.object_shelf.specs.Shelves.{with_rights}
 use Rattle.object_shelf.specs.Order.{is_ordered}
-use Rattle.object_shelf.proofs.Entries.{at-place, at-no-place}
+use Rattle.object_shelf.proofs.Entries.{at-place, at-no-place, got}
 use Rattle.object_shelf.proofs.Order.{at-ordered}
 use Rattle.object_shelf.proofs.queue.shift_in.Goals as goal
 
 pub returns-then-place-len-clause-done : goal.returns-then-place-len-clause-done
 returns-then-place-len-clause-done c =
-    at-place c.args.path.now (with_rights c.args.rights) c.args.rows.now.items c.place_of-place.result c.index_mut.result.now
-    (with_rights c.args.rights c.index_mut.result.now) c.place_of-place.ensures (omega (arith, c.len.ensures, c.if-place-len.true)) c.index_mut.ensures.value
+    at-place c.args.path.now (with_rights c.args.rights) c.args.rows.now.items c.entry_place-place.result c.index_mut.result.now
+    (with_rights c.args.rights c.index_mut.result.now) c.entry_place-place.ensures (omega (arith, c.len.ensures, c.if-place-len.true)) c.index_mut.ensures.value
     refl
 
-pub returns-then-place-len-clause-ordered : goal.returns-then-place-len-clause-ordered
-returns-then-place-len-clause-ordered c =
-    ap is_ordered (returns-then-place-len-clause-done c) ∙ at-ordered c.args.path.now (with_rights c.args.rights) c.args.rows.now.items (λ e. refl) ∙ c.requires
+pub returns-then-place-len-clause-order : goal.returns-then-place-len-clause-order
+returns-then-place-len-clause-order c =
+    ap is_ordered (returns-then-place-len-clause-done c) ∙ at-ordered c.args.path.now (with_rights c.args.rights) c.args.rows.now.items (λ e. refl)
+    ∙ c.requires.ordered
 
 pub returns-else-place-len-clause-done : goal.returns-else-place-len-clause-done
 returns-else-place-len-clause-done c =
-    at-no-place c.args.path.now (with_rights c.args.rights) c.args.rows.now.items c.place_of-place.result c.place_of-place.ensures
+    at-no-place c.args.path.now (with_rights c.args.rights) c.args.rows.now.items c.entry_place-place.result c.entry_place-place.ensures
     (omega (arith, c.len.ensures, c.if-place-len.false))
+
+pub returns-then-place-len-clause-clears : goal.returns-then-place-len-clause-clears
+returns-then-place-len-clause-clears c =
+    let es = c.args.rows.now.items in
+    let e = c.index_mut.result.now in
+    let get = got es c.entry_place-place.result e (omega (arith, c.len.ensures, c.if-place-len.true)) c.index_mut.ensures.value in
+    c.changed.ensures es e get (c.out_at-was_out.ensures.out e get) (with_rights c.args.rights c.index_mut.result.now) refl c.requires.clear

@@ -1,4 +1,4 @@
-use Rattle.std.proofs.Common.{◌≡◌, ◌<◌, ◌≤◌, Some, ap, sym, ◌∙◌, length, rules, arith}
+use Rattle.std.proofs.Common.{◌≡◌, ◌<◌, ◌≤◌, Some, ap, sym, ◌∙◌, length, arith}
 use Rattle.std.specs.Prelude.{slice_get}
 use Rattle.std.proofs.lemmas.Option.{slice_get-get_or}
 use Rattle.task_code.specs.Rules.{TaskCode}
@@ -11,7 +11,8 @@ bodies-preserved c =
     let items = c.raw.inside.bodies.items in
     let lt : c.bodies.own < length items = omega (arith, c.bodies-test.true, c.len-own-end.ensures, c.raw.inside.bodies.ok.0) in
     let at : slice_get r.bodies c.bodies.own ≡ Some c.index.result.now =
-    ap (λ (k : TaskCode). slice_get k.bodies c.bodies.own) (sym c.raw.view_is) ∙ slice_get-get_or items c.bodies.own c.index.result.now lt ∙ ap Some (sym c.index.ensures) in
+    ap (λ (k : TaskCode). slice_get k.bodies c.bodies.own) (sym c.raw.view_is) ∙ slice_get-get_or items c.bodies.own c.index.result.now lt
+    ∙ ap Some (sym c.index.ensures) in
     body_kept r c.bodies.own c.index.result.now at c.bodies.invariant c.in-None.ensures
 
 pub returns : goal.returns

@@ -1,7 +1,8 @@
 use Rattle.std.proofs.Common.{◌+◌, ◌++◌, ap, sym, ◌∙◌, map, drop}
 use Rattle.jade_syntax.specs.Objects.{sizes}
 use Rattle.jade_meaning.specs.Serial.{zeros}
-use Rattle.jade_meaning.proofs.Cells.{drop_at, more_objects}
+use Rattle.jade_syntax.proofs.Limits.{drop_item}
+use Rattle.jade_meaning.proofs.Cells.{more_objects}
 use Rattle.jade_meaning.proofs.run_state.Store.zeroed.Goals as goal
 
 pub loop-i-preserved : goal.loop-i-preserved
@@ -12,4 +13,4 @@ loop-i-preserved c =
     more_objects (map (λ v. v.items) c.loop-i.objects.items) (map (λ v. v.items) c.add_objects.new.objects.items) x
     (drop (i + 1) items) c.objects_of-count.result.0 c.objects_of-count.result.1 (zeros (sizes items)) c.in_ok-add_objects.ensures
     (c.objects_of-count.ensures.sizes (drop (i + 1) items)) (ap (λ l. map (λ v. v.items) c.loop-i.objects.items ++ zeros (sizes l))
-    (sym (drop_at items i x c.at.ensures)) ∙ c.loop-i.invariant)
+    (sym (drop_item items i x c.at.ensures)) ∙ c.loop-i.invariant)

@@ -4,24 +4,15 @@ use Rattle.jade_meaning.specs.Walks.{Walk}
 use Rattle.jade_meaning.specs.Walk.{upcoming, First, Bears}
 use Rattle.jade_meaning.specs.steps.Frames.{course_of}
 use Rattle.jade_meaning.specs.steps.Configuration.{newborn_task, later}
-use Rattle.jade_meaning.proofs.Walking.{first_known, child_first, none_first, is_child}
+use Rattle.jade_meaning.proofs.Walking.{walk_of, first_known, child_first, none_first, is_child}
 use Rattle.jade_meaning.proofs.walker.Walker.child.Goals as goal
 
 pub returns-then-is_creation : goal.returns-then-is_creation
 returns-then-is_creation c =
     let s = shown c.self.inside.setting in
     let t = c.self.inside.configuration in
-    let v : Walk = record {
-      items = c.self.inside.setting.items;
-      given = c.self.inside.setting.given;
-      limit = c.self.inside.setting.limit;
-      env =
-          c.self.inside.scope;
-      spec = c.self.inside.spec;
-      body = c.self.inside.body.now;
-      answers = c.self.inside.answers.items;
-      done = c.self.inside.done;
-    } in
+    let i = c.self.inside in
+    let v = walk_of s i.scope i.spec i.body.now i.answers.items i.done in
     let xs = drop c.self.inside.told t.pending.items in
     let course = course_of s c.self.inside.answers.items t.run in
     subst (λ (w : Walk). First (upcoming w) (Bears w (Some c.in_ok-child.child))) c.self.view_is
@@ -36,17 +27,8 @@ pub returns : goal.returns
 returns c =
     let s = shown c.self.inside.setting in
     let t = c.self.inside.configuration in
-    let v : Walk = record {
-      items = c.self.inside.setting.items;
-      given = c.self.inside.setting.given;
-      limit = c.self.inside.setting.limit;
-      env =
-          c.self.inside.scope;
-      spec = c.self.inside.spec;
-      body = c.self.inside.body.now;
-      answers = c.self.inside.answers.items;
-      done = c.self.inside.done;
-    } in
+    let i = c.self.inside in
+    let v = walk_of s i.scope i.spec i.body.now i.answers.items i.done in
     let xs = drop c.self.inside.told t.pending.items in
     let course = course_of s c.self.inside.answers.items t.run in
     subst (λ (w : Walk). First (upcoming w) (Bears w None)) c.self.view_is

@@ -1,0 +1,2 @@
+mod ErasedTerms
+mod ErasedStatements

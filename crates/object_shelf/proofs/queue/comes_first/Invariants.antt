@@ -1,6 +1,0 @@
-use Rattle.std.proofs.Common.{◌≡◌, drop}
-use Rattle.object_shelf.specs.Order.{stands_before}
-use Rattle.object_shelf.proofs.queue.comes_first.Given as goal
-
-abbrev pub invariant-loop-i : goal.invariant-loop-i
-invariant-loop-i l = stands_before (drop l.i l.first) (drop l.i l.other) ≡ stands_before l.first l.other

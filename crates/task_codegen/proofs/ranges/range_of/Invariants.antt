@@ -1,5 +1,0 @@
-use Rattle.task_codegen.proofs.Ranging.{Passed}
-use Rattle.task_codegen.proofs.ranges.range_of.Given as goal
-
-abbrev pub invariant-loop-i : goal.invariant-loop-i
-invariant-loop-i l = Passed l.name l.items l.first l.i
