@@ -22,12 +22,13 @@ use Rattle.object_shelf.specs.Shelves.{with_rights}
 use Rattle.object_shelf.specs.Homes.{hand_in, handed, returned, on_queue}
 use Rattle.object_shelf.specs.Whole.{is_out}
 use Rattle.schedule_core.specs.declared.steps.Seat.{Seat}
-use Rattle.schedule_core.specs.declared.notes.PartNote.{PartNote}
+use Rattle.task_roll.specs.declared.note.PartNote.{PartNote}
 use Rattle.schedule_core.specs.Notes.{noted}
-use Rattle.schedule_core.specs.Shown.{shelf_at}
+use Rattle.schedule_core.specs.ByNumber.{shelf_at}
 use Rattle.schedule_core.specs.Plain.{Reached, seat_after, on_shelf, blocked_at, Does}
 use Rattle.schedule_core.specs.Tells.{CoreTells, EntriesAreThere, MayTake, MayGive}
-use Rattle.object_table.specs.Plans.{RunPlan, count_of}
+use Rattle.jade_meaning.specs.Plan.{RunPlan}
+use Rattle.object_table.specs.Views.{count_of}
 use Rattle.object_table.specs.Views.{View, core_notes, shelf_of}
 use Rattle.object_table.specs.Touches.{held_at, put_held, is_touch, touches_first, touch_next, touched, passed, all_touches}
 use Rattle.object_table.specs.Rule.{hold_of, HeldOk, Agrees, Shown, Ruled}

@@ -14,7 +14,7 @@ use Rattle.jade_meaning.specs.Laws.{Every}
 use Rattle.object_shelf.specs.Shelves.{same_path}
 use Rattle.object_shelf.specs.Views.{ObjectView}
 use Rattle.schedule_core.specs.declared.steps.Seat.{Seat}
-use Rattle.schedule_core.specs.Shown.{shelf_at}
+use Rattle.schedule_core.specs.ByNumber.{shelf_at}
 use Rattle.schedule_core.specs.Plain.{on_shelf}
 use Rattle.object_table.specs.Views.{View, paths_of}
 use Rattle.object_table.specs.Touches.{held_at, put_held}

@@ -17,11 +17,11 @@ use Rattle.object_shelf.specs.Views.{ObjectView}
 use Rattle.object_shelf.specs.Shelves.{same_path, find, at, without, newborn, entered_in, taken, given, entered, shifted, left, written, held_for, released}
 use Rattle.object_shelf.specs.Shelves.{with_rights}
 use Rattle.schedule_core.specs.declared.steps.Seat.{Seat}
-use Rattle.schedule_core.specs.declared.notes.PartNote.{PartNote}
-use Rattle.schedule_core.specs.Shown.{shelf_at}
+use Rattle.task_roll.specs.declared.note.PartNote.{PartNote}
+use Rattle.schedule_core.specs.ByNumber.{shelf_at}
 use Rattle.schedule_core.specs.Plain.{Reached, begins, goes_on, root_shelves, on_shelf, Does}
 use Rattle.schedule_core.specs.Tells.{EntriesAreThere}
-use Rattle.object_table.specs.Plans.{RunPlan}
+use Rattle.jade_meaning.specs.Plan.{RunPlan}
 use Rattle.object_table.specs.steps.Kept.{Once}
 use Rattle.object_table.proofs.Lists.{same_is, path_same, shelf_on, shelf_else}
 

@@ -14,10 +14,11 @@ use Rattle.object_shelf.specs.Homes.{started}
 use Rattle.object_shelf.specs.Shelves.{find}
 use Rattle.object_shelf.specs.Views.{ObjectView}
 use Rattle.schedule_core.specs.declared.steps.Seat.{Seat}
-use Rattle.schedule_core.specs.Shown.{shelf_at}
+use Rattle.schedule_core.specs.ByNumber.{shelf_at}
 use Rattle.schedule_core.specs.Plain.{begins, root_seat, root_shelves}
 use Rattle.task_roll.specs.Rolls.{started as begun}
-use Rattle.object_table.specs.Plans.{RunPlan, count_of}
+use Rattle.jade_meaning.specs.Plan.{RunPlan}
+use Rattle.object_table.specs.Views.{count_of}
 use Rattle.object_table.specs.Views.{View, shelf_of, paths_of, part_of}
 use Rattle.object_table.specs.Rule.{hold_of, HeldOk, nothing, Agrees, pass_of, by_pass, free, SeatOk, Shown, Ruled, first_view}
 use Rattle.object_table.specs.steps.Kept.{start_slots, FirstSlots}

@@ -16,10 +16,11 @@ use Rattle.object_shelf.specs.Views.{ObjectView}
 use Rattle.object_shelf.specs.Shelves.{same_path, find, takes_out, value_in, content_for, version_of, version_or, written}
 use Rattle.object_shelf.specs.Whole.{with_cell, is_out}
 use Rattle.schedule_core.specs.declared.steps.Seat.{Seat}
-use Rattle.schedule_core.specs.Shown.{shelf_at}
+use Rattle.schedule_core.specs.ByNumber.{shelf_at}
 use Rattle.schedule_core.specs.Plain.{seat_after, on_shelf, value_at}
 use Rattle.schedule_core.specs.Tells.{CoreTells, Holding}
-use Rattle.object_table.specs.Plans.{RunPlan, count_of}
+use Rattle.jade_meaning.specs.Plan.{RunPlan}
+use Rattle.object_table.specs.Views.{count_of}
 use Rattle.object_table.specs.Views.{View, core_notes, shelf_of, home_if}
 use Rattle.object_table.specs.Touches.{held_at, put_held, cells_of, touches_first, touch_next, touched_first, touched, passed, all_touches}
 use Rattle.object_table.specs.Rule.{hold_of, HeldOk, nothing, owns, sees, Agrees, Shown}

@@ -11,7 +11,7 @@ use Rattle.object_shelf.specs.Views.{ShelfView}
 use Rattle.object_shelf.specs.Shelves.{keeper_in}
 use Rattle.object_shelf.specs.Homes.{hand_in}
 use Rattle.schedule_core.specs.Plain.{seat_after}
-use Rattle.object_table.specs.Plans.{RunPlan}
+use Rattle.jade_meaning.specs.Plan.{RunPlan}
 use Rattle.object_table.specs.Views.{View}
 use Rattle.object_table.specs.Touches.{put_held, all_touches}
 use Rattle.object_table.specs.declared.slot.Slot.TheVariants as slot

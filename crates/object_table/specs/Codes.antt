@@ -8,7 +8,7 @@ use Rattle.jade_syntax.specs.contracts.tree.Program as tree
 use Rattle.jade_meaning.specs.Walks.{Walk}
 use Rattle.jade_meaning.specs.Codes.{coded_walk}
 use Rattle.schedule_core.specs.declared.steps.Seat.{Seat}
-use Rattle.object_table.specs.Plans.{RunPlan}
+use Rattle.jade_meaning.specs.Plan.{RunPlan}
 use Rattle.object_table.specs.Views.{View}
 use Rattle.object_table.specs.Calls.{Pass, Desk}
 use Rattle.atomic_table.specs.Seated.{TableId, table_id_coded}

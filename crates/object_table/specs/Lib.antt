@@ -1,4 +1,3 @@
-pub mod Plans
 pub mod Views
 pub mod Codes
 pub mod Touches

@@ -11,9 +11,10 @@ use Rattle.object_shelf.specs.Views.{ObjectView}
 use Rattle.object_shelf.specs.Shelves.{find, takes_out}
 use Rattle.schedule_core.specs.declared.steps.Seat.{Seat}
 use Rattle.task_roll.specs.declared.note.PartNote.{PartNote}
-use Rattle.schedule_core.specs.Shown.{shelf_at}
+use Rattle.schedule_core.specs.ByNumber.{shelf_at}
 use Rattle.schedule_core.specs.Plain.{Reached, root_seat}
-use Rattle.object_table.specs.Plans.{RunPlan, count_of}
+use Rattle.jade_meaning.specs.Plan.{RunPlan}
+use Rattle.object_table.specs.Views.{count_of}
 use Rattle.object_table.specs.Views.{View, part_of, core_notes}
 use Rattle.object_table.specs.Touches.{held_at}
 use Rattle.object_table.specs.declared.slot.Slot.{Slot}

@@ -1,16 +1,20 @@
 -- What a pass shows of its task, and what the slots show of the objects and of the roll.
-use Rattle.std.specs.Prelude.{ℕ, Bool, true, false, List, [], ◌∷◌, map, Option, Some, None, ℤ, if◌then◌else◌, nat_eq}
+use Rattle.std.specs.Prelude.{ℕ, Bool, true, false, List, [], ◌∷◌, length, Option, Some, None, ℤ, if◌then◌else◌, nat_eq}
 use Rattle.jade_base.specs.Held.{Held}
+use Rattle.jade_syntax.specs.Objects.{sizes}
 use Rattle.object_shelf.specs.Views.{ObjectView, ShelfView}
 use Rattle.object_shelf.specs.Whole.{is_out}
 use Rattle.schedule_core.specs.declared.steps.Seat.{Seat}
-use Rattle.schedule_core.specs.declared.notes.PartNote.{PartNote as CoreNote}
 use Rattle.task_roll.specs.declared.note.PartNote.{PartNote}
 use Rattle.task_roll.specs.Rolls.{by_key}
-use Rattle.schedule_core.specs.Shown.{shelf_at}
-use Rattle.object_table.specs.Plans.{RunPlan}
+use Rattle.schedule_core.specs.ByNumber.{shelf_at}
+use Rattle.jade_meaning.specs.Plan.{RunPlan}
 use Rattle.object_table.specs.declared.slot.Slot.{Slot}
 use Rattle.object_table.specs.declared.slot.Slot.TheVariants as slot
+
+-- how many objects a plan's program declares
+abbrev pub count_of : RunPlan → ℕ
+count_of k = length (sizes k.program.items)
 
 -- what a pass shows: the plan; whether its task is live; the seat of the child that it enrolled last, while that has no pass; its task's seat,
 -- with its path, the values read and the events done; by object the contents held; whether the roll was left empty by it, or by a pass taken
@@ -42,11 +46,8 @@ paths_of [] = []
 paths_of (s ∷ ss) = s.path ∷ paths_of ss
 
 -- the notes of the core, by key, that notes in the order of the ends of their parts are
-abbrev pub core_note : PartNote → CoreNote
-core_note n = record { path = n.path; children = n.children; steps = n.steps; blame = n.blame }
-
-abbrev pub core_notes : List PartNote → List CoreNote
-core_notes ns = map core_note (by_key ns)
+abbrev pub core_notes : List PartNote → List PartNote
+core_notes ns = by_key ns
 
 -- what the slot of a number shows: that of an object the object, and the last one the roll
 abbrev pub part_of : (count number : ℕ) → List Seat → List ObjectView → List PartNote → Slot

@@ -3,7 +3,6 @@
 
 mod answers;
 mod pass;
-mod plan;
 mod slot;
 mod table;
 mod task;
@@ -12,5 +11,4 @@ mod view;
 
 pub use answers::{Taken, Tried};
 pub use pass::TaskPass;
-pub use plan::Plan;
 pub use table::ObjectTable;

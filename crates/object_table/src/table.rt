@@ -3,7 +3,7 @@
 ghost use Rattle.std.specs.Prelude.{◌≡◌, ◌<◌, ◌∷◌, [], true, Some, None, IfOk, IfErr, OnOk, OnErr, length};
 ghost use Rattle.jade_meaning.specs.Talk.{Take, Give, Enter, Shift, Leave};
 ghost use Rattle.jade_syntax.specs.Objects.{sizes};
-ghost use Rattle.object_table.specs.Plans.{count_of};
+ghost use Rattle.object_table.specs.Views.{count_of};
 ghost use Rattle.object_table.specs.Rule.{first_view};
 ghost use Rattle.object_table.specs.Touches.{held_at, put_held};
 ghost use Rattle.object_table.specs.Calls.{Next, TakenAs, TriedAs, AsBefore, Did, IsBusy};
@@ -11,7 +11,7 @@ ghost use Rattle.object_table.specs.steps.Kept.{FirstSlots, start_slots};
 
 use crate::answers::{Taken, Tried};
 use crate::pass::TaskPass;
-use crate::plan::Plan;
+use jade_meaning::Plan;
 use crate::slot::Slot;
 use crate::task::Task;
 use crate::turns::{enter_at, give_at, leave_at, shift_at, take_at};

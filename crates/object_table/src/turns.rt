@@ -12,10 +12,10 @@ ghost use Rattle.object_table.specs.Touches.{held_at, put_held};
 ghost use Rattle.object_table.specs.Calls.{Next, TakenAs, TriedAs, AsBefore, Did, IsBusy};
 ghost use Rattle.object_table.specs.steps.Kept.{Rests, Fits, Laid, InTurn, Leaves, Laws, with_slot, shown, IsObject, HandedAs, EnteredAs};
 ghost use Rattle.object_table.specs.declared.slot.Slot.{Slot as SlotOf};
-ghost use Rattle.object_table.specs.Plans.{RunPlan};
+ghost use Rattle.jade_meaning.specs.Plan.{RunPlan};
 
 use crate::answers::{Taken, Tried};
-use crate::plan::Plan;
+use jade_meaning::Plan;
 use crate::slot::Slot;
 use crate::task::Task;
 use crate::view::{Desist, Finish, Sharing, Try, View};

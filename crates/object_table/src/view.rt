@@ -1,6 +1,6 @@
 //! What a pass knows, and how the steps on the words change it.
 
-use crate::plan::Plan;
+use jade_meaning::Plan;
 use crate::slot::Slot;
 use atomic_table::{Play, TableRule};
 use std::marker::Model;

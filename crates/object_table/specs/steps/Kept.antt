@@ -14,11 +14,12 @@ use Rattle.object_shelf.specs.Homes.{hand_in, handed, returned, on_queue, starte
 use Rattle.task_roll.specs.Rolls.{started as begun}
 use Rattle.jade_base.specs.Rights.{both_rights}
 use Rattle.schedule_core.specs.declared.steps.Seat.{Seat}
-use Rattle.schedule_core.specs.declared.notes.PartNote.{PartNote}
-use Rattle.schedule_core.specs.Shown.{shelf_at}
+use Rattle.task_roll.specs.declared.note.PartNote.{PartNote}
+use Rattle.schedule_core.specs.ByNumber.{shelf_at}
 use Rattle.schedule_core.specs.Plain.{Reached}
 use Rattle.schedule_core.specs.Tells.{CoreTells, EntriesAreThere}
-use Rattle.object_table.specs.Plans.{RunPlan, count_of}
+use Rattle.jade_meaning.specs.Plan.{RunPlan}
+use Rattle.object_table.specs.Views.{count_of}
 use Rattle.object_table.specs.Views.{View}
 use Rattle.object_table.specs.Touches.{held_at, passed, all_touches}
 use Rattle.object_table.specs.Rule.{Ruled}

@@ -1,4 +1,4 @@
-use Rattle.object_table.specs.Plans.{RunPlan}
+use Rattle.jade_meaning.specs.Plan.{RunPlan}
 use Rattle.object_table.proofs.Onces.{once_of}
 use Rattle.object_table.proofs.turns.core_laws.Goals as goal
 

@@ -1,7 +1,7 @@
 use Rattle.std.proofs.Common.{rules, ◌≡◌, suc, length, ◌∙◌, ap, sym, ◌∷◌, []}
 use Rattle.std.specs.Prelude.{replicate}
 use Rattle.jade_syntax.specs.Objects.{sizes}
-use Rattle.object_table.specs.Plans.{count_of}
+use Rattle.object_table.specs.Views.{count_of}
 use Rattle.object_table.specs.steps.Kept.{FirstSlots}
 use Rattle.object_table.specs.declared.slot.Slot.TheVariants as slot
 use Rattle.task_roll.specs.Rolls.{started as begun}
