@@ -1,7 +1,7 @@
 -- What a pass shows once a call has left its turn.
 use Rattle.std.proofs.Common.{◌≡◌, ◌≢◌, ℕ, zero, suc, ◌<◌, ◌+◌, ◌%◌, ◌^◌, Bool, true, false, ◌&&◌, List, [], ◌∷◌, ◌++◌, refl, sym, ap, ◌∙◌, subst, arith}
-use Rattle.std.proofs.Common.{ne_eqb, Option, Some, None}
-use Rattle.std.specs.Prelude.{ℤ, if◌then◌else◌}
+use Rattle.std.proofs.Common.{ne_eqb, Option, None}
+use Rattle.std.specs.Prelude.{if◌then◌else◌}
 use mathlib.Core.Option.{none}
 use Rattle.atomic_table.specs.Table.{Me, step, rest}
 use Rattle.atomic_table.specs.declared.shared.Seat.{Seat}
@@ -12,12 +12,11 @@ use Rattle.object_shelf.specs.Views.{ShelfView}
 use Rattle.schedule_core.specs.ByNumber.{shelf_at}
 use Rattle.schedule_core.specs.Plain.{seat_after}
 use Rattle.jade_meaning.specs.Plan.{RunPlan}
-use Rattle.object_table.specs.Views.{count_of}
-use Rattle.object_table.specs.Views.{View, shelf_of, paths_of}
-use Rattle.object_table.specs.Touches.{held_at, put_held, is_touch, touched_first, touched, touch_next, passed, all_touches}
+use Rattle.object_table.specs.Views.{count_of, View, shelf_of, paths_of}
+use Rattle.object_table.specs.Touches.{is_touch, touched_first, touched, touch_next, passed, all_touches}
 use Rattle.object_table.specs.Plays.{Told, tried_at, in_turn, turned_off, left_as_it_was, did, Ahead, left_done}
-use Rattle.object_table.specs.Calls.{Next, saw, found_busy, IsBusy, AsBefore}
-use Rattle.object_table.specs.steps.Kept.{Rests, Laid, Fits, InTurn, Leaves, Laws, Made, shown, with_slot, IsObject}
+use Rattle.object_table.specs.Calls.{Next, saw, found_busy, AsBefore}
+use Rattle.object_table.specs.steps.Kept.{Rests, InTurn, Leaves, Laws, Made, shown, with_slot, IsObject}
 use Rattle.object_table.specs.declared.task.Task.{Task}
 use Rattle.object_table.specs.declared.slot.Slot.{Slot}
 use Rattle.object_table.specs.declared.slot.Slot.TheVariants as slot

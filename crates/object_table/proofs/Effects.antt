@@ -1,6 +1,6 @@
 -- What an event does to its object, as its slot shows it, and to what its task holds there.
-use Rattle.std.proofs.Common.{◌≡◌, ◌≢◌, ℕ, Bool, true, false, List, [], ◌∷◌, ◌++◌, refl, sym, ap, ◌∙◌, subst, Option, Some, None}
-use Rattle.std.specs.Prelude.{ℤ, is_some, is_none}
+use Rattle.std.proofs.Common.{◌≡◌, ℕ, Bool, true, false, List, [], ◌∷◌, ◌++◌, refl, sym, ap, ◌∙◌, Option, Some, None}
+use Rattle.std.specs.Prelude.{ℤ, is_none}
 use Rattle.jade_base.specs.Held.{Held}
 use Rattle.jade_base.specs.declared.rights.Rights.{Rights}
 use Rattle.jade_base.specs.declared.rights.Mode.{Mode}
@@ -8,7 +8,7 @@ use Rattle.jade_base.specs.declared.rights.Mode.TheVariants.{Reading, Writing, C
 use Rattle.object_shelf.specs.declared.queue.Entry.{Entry}
 use Rattle.object_shelf.specs.Views.{ObjectView, ShelfView}
 use Rattle.object_shelf.specs.Shelves.{same_path, find, takes_out, at, without, entered_in, taken, given, entered, shifted, left, held_for, held_with, released}
-use Rattle.object_shelf.specs.Shelves.{with_rights, content_for, version_of, version_or}
+use Rattle.object_shelf.specs.Shelves.{with_rights, version_or}
 use Rattle.object_shelf.specs.Homes.{hand_in, hand_of, or_home, kept_of, home_after, handed, returned, home_with, on_queue}
 use Rattle.object_shelf.specs.Whole.{is_out}
 use Rattle.schedule_core.specs.Tells.{MayTake}

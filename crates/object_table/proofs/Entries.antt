@@ -1,13 +1,12 @@
 -- Entries of a queue, by their paths.
-use Rattle.std.proofs.Common.{◌≡◌, ◌≢◌, ℕ, Bool, true, false, ◌||◌, List, [], ◌∷◌, ◌++◌, refl, sym, ap, ◌∙◌, subst, Option, Some, None}
-use Rattle.std.specs.Prelude.{if◌then◌else◌, is_some}
+use Rattle.std.proofs.Common.{◌≡◌, ℕ, Bool, true, false, ◌||◌, List, [], ◌∷◌, refl, sym, ap, ◌∙◌, Option, Some}
+use Rattle.std.specs.Prelude.{if◌then◌else◌}
 use Rattle.jade_base.specs.declared.rights.Rights.{Rights}
-use Rattle.jade_base.specs.declared.rights.Mode.{Mode}
 use Rattle.object_shelf.specs.declared.queue.Entry.{Entry}
 use Rattle.object_shelf.specs.Shelves.{same_path, find, takes_out, at, without, newborn, entered_in}
 use Rattle.object_shelf.specs.Whole.{is_out}
 use Rattle.object_table.specs.Rule.{hold_of}
-use Rattle.object_table.proofs.Lists.{same_is, path_same}
+use Rattle.object_table.proofs.Lists.{same_is}
 
 pub some_entry : (d e : Entry) → ◌≡◌ {A = Option Entry} (Some d) (Some e) → d ≡ e
 some_entry d e q = cc

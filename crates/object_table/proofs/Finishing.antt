@@ -1,7 +1,7 @@
 -- A turn is left with the pass's touches and an event on its object done.
-use Rattle.std.proofs.Common.{◌≡◌, ◌≢◌, ◌⊎◌, inl, inr, ℕ, zero, suc, ◌<◌, ◌+◌, Bool, true, false, ◌&&◌, List, [], ◌∷◌, ◌++◌, map, length, set, refl, sym, ap}
+use Rattle.std.proofs.Common.{◌≡◌, ◌≢◌, ◌⊎◌, inl, inr, ℕ, zero, suc, ◌<◌, ◌+◌, true, false, List, [], ◌∷◌, ◌++◌, map, length, set, refl, sym, ap}
 use Rattle.std.proofs.Common.{◌∙◌, subst, arith, Option, Some, None}
-use Rattle.std.specs.Prelude.{ℤ, slice_get}
+use Rattle.std.specs.Prelude.{slice_get}
 use mathlib.Core.Logic.{dite}
 use mathlib.Core.Option.{none, some}
 use native.Mathlib.Decide.{ℕ_discrete}
@@ -10,28 +10,24 @@ use Rattle.atomic_table.specs.Table as table
 use Rattle.atomic_table.specs.Table.{Me, step, gives, stepped, Allows, rest}
 use Rattle.atomic_table.proofs.Lists.{set_here}
 use Rattle.jade_base.specs.Held.{Held}
-use Rattle.jade_base.specs.declared.rights.Rights.{Rights}
 use Rattle.jade_base.specs.declared.rights.Mode.{Mode}
 use Rattle.jade_base.specs.declared.rights.Mode.TheVariants.{Reading, Writing, Commuting}
 use Rattle.jade_meaning.specs.Talk.{Event, Enter, Enroll, Take, TouchRead, TouchWrite, Wants, Give, Leave, Shift, Resign}
 use Rattle.jade_meaning.specs.Walk.{upcoming, First}
 use Rattle.object_shelf.specs.declared.queue.Entry.{Entry}
 use Rattle.object_shelf.specs.Views.{ObjectView, ShelfView}
-use Rattle.object_shelf.specs.Shelves.{same_path, find, takes_out, keeper_in, at, without, entered_in, taken, given, entered, shifted, left, released}
+use Rattle.object_shelf.specs.Shelves.{same_path, takes_out, keeper_in, at, without, entered_in, taken, given, entered, shifted, left}
 use Rattle.object_shelf.specs.Shelves.{with_rights}
 use Rattle.object_shelf.specs.Homes.{hand_in, handed, returned, on_queue}
-use Rattle.object_shelf.specs.Whole.{is_out}
-use Rattle.schedule_core.specs.declared.steps.Seat.{Seat}
 use Rattle.task_roll.specs.declared.note.PartNote.{PartNote}
 use Rattle.schedule_core.specs.Notes.{noted}
 use Rattle.schedule_core.specs.ByNumber.{shelf_at}
-use Rattle.schedule_core.specs.Plain.{Reached, seat_after, on_shelf, blocked_at, Does}
+use Rattle.schedule_core.specs.Plain.{seat_after, on_shelf, blocked_at, Does}
 use Rattle.schedule_core.specs.Tells.{CoreTells, EntriesAreThere, MayTake, MayGive}
 use Rattle.jade_meaning.specs.Plan.{RunPlan}
-use Rattle.object_table.specs.Views.{count_of}
-use Rattle.object_table.specs.Views.{View, core_notes, shelf_of}
-use Rattle.object_table.specs.Touches.{held_at, put_held, is_touch, touches_first, touch_next, touched, passed, all_touches}
-use Rattle.object_table.specs.Rule.{hold_of, HeldOk, Agrees, Shown, Ruled}
+use Rattle.object_table.specs.Views.{count_of, View, core_notes, shelf_of}
+use Rattle.object_table.specs.Touches.{held_at, put_held, is_touch, touches_first, touch_next, passed, all_touches}
+use Rattle.object_table.specs.Rule.{hold_of, HeldOk, Agrees, Ruled}
 use Rattle.object_table.specs.Plays.{held_in, handed_by, did, Ahead, left_done}
 use Rattle.object_table.specs.steps.Kept.{Made, Once}
 use Rattle.object_table.specs.declared.slot.Slot.{Slot}
@@ -39,7 +35,7 @@ use Rattle.object_table.specs.declared.slot.Slot.TheVariants as slot
 use Rattle.object_table.proofs.Lists.{shelf_on, shelf_else, held_here, held_else, at_inside}
 use Rattle.object_table.proofs.Entries.{some_entry}
 use Rattle.object_table.proofs.Goes.{parts0, leaving}
-use Rattle.object_table.proofs.Quiet.{p, kid, on, found, seat_on, quiet, part_else, part_here}
+use Rattle.object_table.proofs.Quiet.{on, found, seat_on, quiet, part_else, part_here}
 use Rattle.object_table.proofs.Touching.{and_left, and_right, set_set, passing, passed_same}
 use Rattle.object_table.proofs.Effects.{take_shows, take_mine, take_others, give_shows, give_mine, give_others, enter_shows, enter_mine, enter_others}
 use Rattle.object_table.proofs.Effects.{shift_shows, shift_mine, shift_others, leave_shows, leave_mine, leave_others}

@@ -1,9 +1,9 @@
 -- The core goes on under a pass's new view, and the rule is kept: where no word changes, where a turn is taken, and where it is left.
-use Rattle.std.proofs.Common.{◌≡◌, ◌≢◌, ◌⊎◌, inl, inr, ℕ, zero, suc, ◌<◌, Bool, true, false, eqb, List, [], ◌∷◌, ◌++◌}
-use Rattle.std.proofs.Common.{get_or, set, map, length, refl, sym, ap, ◌∙◌, subst, arith, eq-eqb, ne_eqb, length-set, get_or-set_same, Option, Some, None}
+use Rattle.std.proofs.Common.{◌≡◌, ◌≢◌, ◌⊎◌, inl, inr, ℕ, suc, ◌<◌, true, false, eqb, List, ◌∷◌, ◌++◌}
+use Rattle.std.proofs.Common.{set, map, length, refl, sym, ap, ◌∙◌, subst, arith, eq-eqb, ne_eqb, length-set, get_or-set_same}
 use Rattle.std.specs.Prelude.{slice_index}
 use mathlib.Core.Logic.{dite}
-use mathlib.Core.Option.{none, some, some-injective}
+use mathlib.Core.Option.{none, some}
 use native.Mathlib.Decide.{ℕ_discrete}
 use lib.ListN.{get_elem?}
 use prog.Atomic.{either}
@@ -16,9 +16,8 @@ use Rattle.schedule_core.specs.declared.steps.Seat.{Seat}
 use Rattle.task_roll.specs.declared.note.PartNote.{PartNote}
 use Rattle.schedule_core.specs.Plain.{Reached}
 use Rattle.jade_meaning.specs.Plan.{RunPlan}
-use Rattle.object_table.specs.Views.{count_of}
-use Rattle.object_table.specs.Views.{View, part_of, core_notes}
-use Rattle.object_table.specs.Rule.{pass_of, kid_of, OnRoll, Agrees, Owned, Sits, TurnOk, PlaceOk, free, taken, SeatOk, Shown, Ruled}
+use Rattle.object_table.specs.Views.{count_of, View, part_of, core_notes}
+use Rattle.object_table.specs.Rule.{pass_of, Owned, Sits, TurnOk, PlaceOk, free, taken, SeatOk, Shown, Ruled}
 use Rattle.object_table.specs.Plays.{Told, tried_at, in_turn, tried, turned_off, left_as_it_was}
 use Rattle.object_table.specs.declared.slot.Slot.{Slot}
 use Rattle.object_table.proofs.Lists.{word_else, at_word, put, put_same, put_other, roll_split, at_inside, same_view, owned_set, every_with}

@@ -1,7 +1,7 @@
 -- The table at the start keeps the rule.
-use Rattle.std.proofs.Common.{◌≡◌, ◌≢◌, ℕ, zero, suc, ◌+◌, ◌<◌, Bool, true, false, List, [], ◌∷◌, ◌++◌, map, length, take, refl, sym, ap, ◌∙◌, subst, arith}
-use Rattle.std.proofs.Common.{eq-eqb, ne_eqb, append-nil, Option, Some, None}
-use Rattle.std.specs.Prelude.{ℤ, slice_get, slice_index, replicate, if◌then◌else◌}
+use Rattle.std.proofs.Common.{◌≡◌, ℕ, zero, suc, ◌+◌, ◌<◌, List, [], ◌∷◌, ◌++◌, map, length, take, refl, sym, ap, ◌∙◌, subst, arith}
+use Rattle.std.proofs.Common.{eq-eqb, ne_eqb, Option, Some, None}
+use Rattle.std.specs.Prelude.{slice_get, slice_index, replicate, if◌then◌else◌}
 use mathlib.Core.Logic.{dite}
 use mathlib.Core.Option.{some, some-injective, some-ne-none}
 use native.Mathlib.Decide.{ℕ_discrete}
@@ -12,15 +12,13 @@ use Rattle.jade_base.specs.Rights.{both_rights}
 use Rattle.jade_syntax.specs.Objects.{sizes}
 use Rattle.object_shelf.specs.Homes.{started}
 use Rattle.object_shelf.specs.Shelves.{find}
-use Rattle.object_shelf.specs.Views.{ObjectView}
 use Rattle.schedule_core.specs.declared.steps.Seat.{Seat}
 use Rattle.schedule_core.specs.ByNumber.{shelf_at}
 use Rattle.schedule_core.specs.Plain.{begins, root_seat, root_shelves}
 use Rattle.task_roll.specs.Rolls.{started as begun}
 use Rattle.jade_meaning.specs.Plan.{RunPlan}
-use Rattle.object_table.specs.Views.{count_of}
-use Rattle.object_table.specs.Views.{View, shelf_of, paths_of, part_of}
-use Rattle.object_table.specs.Rule.{hold_of, HeldOk, nothing, Agrees, pass_of, by_pass, free, SeatOk, Shown, Ruled, first_view}
+use Rattle.object_table.specs.Views.{count_of, View, shelf_of, part_of}
+use Rattle.object_table.specs.Rule.{hold_of, nothing, pass_of, by_pass, free, SeatOk, Ruled, first_view}
 use Rattle.object_table.specs.steps.Kept.{start_slots, FirstSlots}
 use Rattle.object_table.specs.declared.slot.Slot.{Slot}
 use Rattle.object_table.specs.declared.slot.Slot.TheVariants as slot

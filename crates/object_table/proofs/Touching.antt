@@ -1,7 +1,7 @@
 -- A touch is an event of the core that no slot shows.
-use Rattle.std.proofs.Common.{◌≡◌, ◌≢◌, ℕ, zero, suc, Bool, true, false, ◌&&◌, List, [], ◌∷◌, ◌++◌, map, length, set, refl, sym, ap, ◌∙◌, subst, Option, Some}
+use Rattle.std.proofs.Common.{◌≡◌, ℕ, zero, suc, Bool, true, false, ◌&&◌, List, [], ◌∷◌, ◌++◌, map, length, set, refl, sym, ap, ◌∙◌, subst, Option, Some}
 use Rattle.std.proofs.Common.{None}
-use Rattle.std.specs.Prelude.{ℤ, is_some, slice_get, slice_set}
+use Rattle.std.specs.Prelude.{ℤ, is_some, slice_set}
 use mathlib.Core.Logic.{dite}
 use mathlib.Core.Option.{some}
 use native.Mathlib.Decide.{ℕ_discrete}
@@ -20,15 +20,14 @@ use Rattle.schedule_core.specs.ByNumber.{shelf_at}
 use Rattle.schedule_core.specs.Plain.{seat_after, on_shelf, value_at}
 use Rattle.schedule_core.specs.Tells.{CoreTells, Holding}
 use Rattle.jade_meaning.specs.Plan.{RunPlan}
-use Rattle.object_table.specs.Views.{count_of}
 use Rattle.object_table.specs.Views.{View, core_notes, shelf_of, home_if}
 use Rattle.object_table.specs.Touches.{held_at, put_held, cells_of, touches_first, touch_next, touched_first, touched, passed, all_touches}
 use Rattle.object_table.specs.Rule.{hold_of, HeldOk, nothing, owns, sees, Agrees, Shown}
 use Rattle.object_table.specs.declared.slot.Slot.{Slot}
-use Rattle.object_table.proofs.Lists.{path_same, shelf_on, shelf_else, held_here, held_else, at_inside}
+use Rattle.object_table.proofs.Lists.{shelf_on, shelf_else, held_here, held_else, at_inside}
 use Rattle.object_table.proofs.Entries.{some_entry, found_out}
-use Rattle.object_table.proofs.Goes.{Still, renewed}
-use Rattle.object_table.proofs.Quiet.{p, kid, roll_is, stands, seat_on, on, quiet, part_else}
+use Rattle.object_table.proofs.Goes.{renewed}
+use Rattle.object_table.proofs.Quiet.{p, seat_on, on, quiet, part_else}
 
 value_is : (o c : ℕ) (q : List ℕ) (ss : List ObjectView) → value_at o c q ss ≡ value_in (content_for q (shelf_at ss o)) c
 value_is o c q [] = refl

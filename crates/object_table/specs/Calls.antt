@@ -1,5 +1,5 @@
 -- What a pass is between two calls, and what the calls answer.
-use Rattle.std.specs.Prelude.{◌≡◌, ◌+◌, ℕ, suc, true, false, List, [], ◌∷◌, Option, Some, None, Result, Ok, Err, ℤ}
+use Rattle.std.specs.Prelude.{◌≡◌, ◌+◌, ℕ, suc, true, List, Option, Some, None, Result, Ok, Err}
 use Rattle.atomic_table.specs.Seated.{TableId}
 use Rattle.jade_base.specs.Held.{Held}
 use Rattle.jade_base.specs.declared.failure.Memory.{Memory}

@@ -1,21 +1,19 @@
 -- What the steps on the words tell.
-use Rattle.std.specs.Prelude.{◌≡◌, ◌≢◌, ℕ, suc, Bool, true, false, ◌||◌, List, [], ◌∷◌, ◌++◌, Option, Some, None, ℤ}
+use Rattle.std.specs.Prelude.{◌≡◌, ◌≢◌, ℕ, suc, true, false, List, [], ◌∷◌, ◌++◌, Option, Some, None, ℤ}
 use Rattle.atomic_table.specs.Table as table
 use Rattle.atomic_table.specs.Table.{Me, Step}
 use Rattle.jade_base.specs.Held.{Held}
 use Rattle.jade_base.specs.declared.rights.Mode.{Mode}
 use Rattle.jade_meaning.specs.Talk.{Event, Enter, Enroll, Take, TouchRead, TouchWrite, Wants, Give, Leave, Shift, Resign}
-use Rattle.jade_meaning.specs.Walks.{Walk}
-use Rattle.jade_meaning.specs.Walk.{upcoming, First, moved, IsChildOf}
+use Rattle.jade_meaning.specs.Walk.{upcoming, First}
 use Rattle.object_shelf.specs.Views.{ObjectView}
 use Rattle.object_shelf.specs.Homes.{hand_in}
 use Rattle.schedule_core.specs.declared.steps.Seat.{Seat}
 use Rattle.task_roll.specs.declared.note.PartNote.{PartNote}
 use Rattle.schedule_core.specs.Plain.{Reached, seat_after}
-use Rattle.jade_meaning.specs.Plan.{RunPlan}
 use Rattle.object_table.specs.Views.{View, part_of, core_notes}
 use Rattle.object_table.specs.Touches.{put_held, is_touch, passed, all_touches}
-use Rattle.object_table.specs.Rule.{Agrees, first_view}
+use Rattle.object_table.specs.Rule.{Agrees}
 use Rattle.object_table.specs.declared.slot.Slot.{Slot}
 use Rattle.object_table.specs.declared.slot.Slot.TheVariants as slot
 

@@ -1,5 +1,5 @@
 -- The rule of the table: words, slots at home and passes show a core that events reach.
-use Rattle.std.specs.Prelude.{◌≡◌, ◌≢◌, ℕ, zero, suc, ◌+◌, ◌*◌, ◌<◌, Bool, true, false, List, [], ◌∷◌, ◌++◌, map, length, slice_index, Option, Some, None, ℤ}
+use Rattle.std.specs.Prelude.{◌≡◌, ◌≢◌, ℕ, suc, ◌+◌, ◌*◌, ◌<◌, true, false, List, [], ◌∷◌, ◌++◌, map, length, slice_index, Option, Some, None}
 use mathlib.Core.Option.{some}
 use lib.ListN.{get_elem?}
 use Rattle.atomic_table.specs.Table as table
@@ -14,8 +14,7 @@ use Rattle.task_roll.specs.declared.note.PartNote.{PartNote}
 use Rattle.schedule_core.specs.ByNumber.{shelf_at}
 use Rattle.schedule_core.specs.Plain.{Reached, root_seat}
 use Rattle.jade_meaning.specs.Plan.{RunPlan}
-use Rattle.object_table.specs.Views.{count_of}
-use Rattle.object_table.specs.Views.{View, part_of, core_notes}
+use Rattle.object_table.specs.Views.{count_of, View, part_of, core_notes}
 use Rattle.object_table.specs.Touches.{held_at}
 use Rattle.object_table.specs.declared.slot.Slot.{Slot}
 use Rattle.object_table.specs.declared.slot.Slot.TheVariants as slot

@@ -1,5 +1,5 @@
 -- What the calls keep between their steps.
-use Rattle.std.specs.Prelude.{◌≡◌, ◌<◌, ◌%◌, ◌^◌, ℕ, suc, true, false, List, [], ◌∷◌, ◌++◌, Option, Some, None, Result, Ok, Err}
+use Rattle.std.specs.Prelude.{◌≡◌, ◌<◌, ◌%◌, ◌^◌, ℕ, suc, true, false, List, [], ◌∷◌, ◌++◌, Some, None, Result, Ok, Err}
 use mathlib.Core.Option.{none}
 use Rattle.atomic_table.specs.Table.{Me, Step, step, rest, Allows}
 use Rattle.jade_base.specs.Held.{Held}
@@ -19,8 +19,7 @@ use Rattle.schedule_core.specs.ByNumber.{shelf_at}
 use Rattle.schedule_core.specs.Plain.{Reached}
 use Rattle.schedule_core.specs.Tells.{CoreTells, EntriesAreThere}
 use Rattle.jade_meaning.specs.Plan.{RunPlan}
-use Rattle.object_table.specs.Views.{count_of}
-use Rattle.object_table.specs.Views.{View}
+use Rattle.object_table.specs.Views.{count_of, View}
 use Rattle.object_table.specs.Touches.{held_at, passed, all_touches}
 use Rattle.object_table.specs.Rule.{Ruled}
 use Rattle.object_table.specs.Plays.{Told, in_turn}

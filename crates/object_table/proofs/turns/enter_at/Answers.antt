@@ -1,16 +1,12 @@
-use Rattle.std.proofs.Common.{rules, ◌≡◌, suc, [], ◌∷◌, ◌++◌, true, false, refl, sym, ap, ◌∙◌, subst, Some, None}
-use Rattle.std.specs.Prelude.{Ok, Err}
+use Rattle.std.proofs.Common.{rules, ◌≡◌, suc, [], ◌∷◌, ◌++◌, true, refl, sym, ap, ◌∙◌}
 use Rattle.jade_meaning.specs.Talk.{Enter}
-use Rattle.object_shelf.specs.Views.{ShelfView}
-use Rattle.object_shelf.specs.Shelves.{at, without, entered_in, with_rights, keeper_in}
-use Rattle.object_shelf.specs.Homes.{handed, returned, on_queue, hand_in}
-use Rattle.schedule_core.specs.Plain.{seat_after}
-use Rattle.object_table.specs.Touches.{put_held}
-use Rattle.object_table.specs.Plays.{did, handed_by, held_in}
-use Rattle.object_table.specs.steps.Kept.{InTurn, HandedAs, EnteredAs, shown}
+use Rattle.object_shelf.specs.Shelves.{entered_in}
+use Rattle.object_shelf.specs.Homes.{on_queue}
+use Rattle.object_table.specs.Plays.{did}
+use Rattle.object_table.specs.steps.Kept.{InTurn, shown}
 use Rattle.object_table.specs.declared.turns.Handed.TheVariants as handing
 use Rattle.object_table.specs.declared.slot.Slot.TheVariants as slot
-use Rattle.object_table.proofs.Calls.{on_try, alive, path_is, children_is, busy_is, busy_shown, tried_rests, off_is, off_shown, off_before}
+use Rattle.object_table.proofs.Calls.{on_try, alive, path_is, children_is, busy_is, busy_shown, tried_rests, off_is, off_before}
 use Rattle.object_table.proofs.Calls.{may_finish, may_desist, finished, done_rests, done_shown, did_shown}
 use Rattle.object_table.proofs.turns.enter_at.Goals as goal
 

@@ -1,4 +1,4 @@
-use Rattle.std.proofs.Common.{rules, ◌≡◌, suc, length, ◌∙◌, ap, sym, ◌∷◌, []}
+use Rattle.std.proofs.Common.{rules, ◌≡◌, suc, length, ◌∙◌, ap, sym}
 use Rattle.std.specs.Prelude.{replicate}
 use Rattle.jade_syntax.specs.Objects.{sizes}
 use Rattle.object_table.specs.Views.{count_of}
