@@ -1,4 +1,5 @@
-mod Newest
+mod Ranging
+mod Naming
 mod Patching
 mod Opening
 mod Chaining
@@ -6,3 +7,4 @@ mod Params
 mod Blocks
 mod Cells
 mod Sizing
+mod Whole

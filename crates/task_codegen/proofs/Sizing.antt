@@ -1,5 +1,6 @@
 -- Bodies get their slots, one after another.
-use Rattle.std.proofs.Common.{◌≡◌, ℕ, suc, ◌+◌, ◌<◌, ◌≤◌, List, [], ◌∷◌, ◌++◌, map, max, Some, refl, ap, ap₂, sym, ◌∙◌, take, drop, length, append_assoc, append-nil, arith}
+use Rattle.std.proofs.Common.{◌≡◌, ℕ, suc, ◌+◌, ◌<◌, ◌≤◌, List, [], ◌∷◌, ◌++◌, map, max, Some, refl, ap, ap₂, sym, ◌∙◌, take, drop, length, append_assoc}
+use Rattle.std.proofs.Common.{append-nil, arith}
 use Rattle.std.specs.List.{slice_get}
 use Rattle.std.specs.Prelude.{zero, slice_index_or}
 use Rattle.std.proofs.lemmas.List.{take_all, drop_all, map-append, take-append-drop}
@@ -25,7 +26,8 @@ inputs_many (Family x at count size ∷ items) = inputs_many items
 pub reaches_more : (os : List Operand) (i j : ℕ) (o : Operand) → slice_get os i ≡ Some o → i + 1 ≡ j → max (reach o) (reaches (drop j os)) ≡ reaches (drop i os)
 reaches_more os i j o at e = sym (ap reaches (drop_item os i o at ∙ ap (λ k. o ∷ drop k os) e))
 
-pub room_more : (calls : Calls) (least : ℕ) (code : List Instruction) (i j : ℕ) (x : Instruction) → slice_get code i ≡ Some x → i + 1 ≡ j → max (needs calls x) (room calls least (drop j code)) ≡ room calls least (drop i code)
+pub room_more : (calls : Calls) (least : ℕ) (code : List Instruction) (i j : ℕ) (x : Instruction) → slice_get code i ≡ Some x → i + 1 ≡ j
+    → max (needs calls x) (room calls least (drop j code)) ≡ room calls least (drop i code)
 room_more calls least code i j x at e = sym (ap (room calls least) (drop_item code i x at ∙ ap (λ k. x ∷ drop k code) e))
 
 -- the bodies before one have their slots
@@ -53,11 +55,14 @@ calls_kept inputs calls (b ∷ bs) = ap (λ l. b.call ∷ l) (calls_kept inputs 
 calls_same : (inputs : ℕ) (before now : List Body) (at : ℕ) → Sizing inputs before now at → calls_of now ≡ calls_of before
 calls_same inputs before now at h =
     let f = with_slots inputs (calls_of before) in
-    ap calls_of h.same ∙ map-append (λ b. b.call) (map f (take at before)) (drop at before) ∙ ap (λ l. l ++ calls_of (drop at before)) (calls_kept inputs (calls_of before) (take at before))
+    ap calls_of h.same ∙ map-append (λ b. b.call) (map f (take at before)) (drop at before)
+    ∙ ap (λ l. l ++ calls_of (drop at before)) (calls_kept inputs (calls_of before) (take at before))
     ∙ sym (map-append (λ b. b.call) (take at before) (drop at before)) ∙ ap calls_of (take-append-drop at before)
 
-pub one_sized : (inputs : ℕ) (before now next : List Body) (at n : ℕ) (b : Body) → at < length before → Sizing inputs before now at → b ≡ slice_index_or now at b → n ≡ (with_slots inputs (calls_of now) b).slots
-    → ((base rest : List Body) (old : Body) → now ≡ base ++ old ∷ rest → length base ≡ at → next ≡ base ++ record { call = old.call; slots = n; code = old.code } ∷ rest) → Sizing inputs before next (at + 1)
+pub one_sized : (inputs : ℕ) (before now next : List Body) (at n : ℕ) (b : Body) → at < length before → Sizing inputs before now at → b
+    ≡ slice_index_or now at b → n ≡ (with_slots inputs (calls_of now) b).slots
+    → ((base rest : List Body) (old : Body) → now ≡ base ++ old ∷ rest → length base ≡ at → next
+    ≡ base ++ record { call = old.call; slots = n; code = old.code } ∷ rest) → Sizing inputs before next (at + 1)
 one_sized inputs before now next at n b lt h eb en set =
     let f = with_slots inputs (calls_of before) in
     let b0 = slice_index_or before at b in
@@ -69,7 +74,8 @@ one_sized inputs before now next at n b lt h eb en set =
     let is : b ≡ b0 = eb ∙ ap₂ (λ l k. slice_index_or l k b) now_is (sym long) ∙ get_or-append_seam base b0 rest b in
     let slots : n ≡ (f b0).slots = en ∙ ap₂ (λ c (k : Body). (with_slots inputs c k).slots) (calls_same inputs before now at h) is in
     record {
-      same = set base rest b0 now_is long ∙ ap (λ s. base ++ record { call = b0.call; slots = s; code = b0.code } ∷ rest) slots ∙ sym (append_assoc base (f b0 ∷ []) rest) ∙ ap (λ l. l ++ rest) (sym (map_more f before at b0 here));
+      same = set base rest b0 now_is long ∙ ap (λ s. base ++ record { call = b0.call; slots = s; code = b0.code } ∷ rest) slots
+          ∙ sym (append_assoc base (f b0 ∷ []) rest) ∙ ap (λ l. l ++ rest) (sym (map_more f before at b0 here));
       within = omega (arith, lt);
     }
 

@@ -4,27 +4,20 @@ ghost use Rattle.std.specs.Prelude.{◌≡◌, [], ◌∷◌, ◌+◌, ◌-◌, 
 ghost use Rattle.task_translation.specs.Compile.{slot_of, entry, inputs_in, given_scope};
 ghost use Rattle.task_codegen.specs.Compiled.{created};
 
+use crate::ranges::Ranges;
 use jade_base::Memory;
-use jade_meaning::resolve::DeclaredItems;
 use jade_syntax::Name;
-use jade_syntax::name::same_name;
 use jade_syntax::tree::{Item, NameList};
+use name_scope::NameScope;
 use std::alloc::Global;
 use std::marker::Model;
-
-/// A variable in scope, and its slot.
-#[derive(Clone, Copy)]
-struct Variable<'p> {
-    name: &'p Name,
-    slot: u32,
-}
 
 /// A body: its variables in scope, of which the newest of a name counts, the items, and the next
 /// free slot. Contracts see the variables with the newest first.
 #[derive(Drop)]
 pub(crate) struct Names<'m, 'p> {
-    variables: Vec<Variable<'p>>,
-    ranges: &'m DeclaredItems<'p>,
+    variables: NameScope<'p, u32>,
+    ranges: &'m Ranges<'p>,
     next: u32,
 }
 
@@ -34,16 +27,16 @@ impl<'m, 'p> Model for Names<'m, 'p> {
 
     ghost Value = { InBody };
 
-    ghost view = { λ b. record { items = b.ranges.now; scope = in_scope b.variables.items; next = b.next } };
+    ghost view = { λ b. record { items = b.ranges.now; scope = in_scope b.variables; next = b.next } };
 }
 
 impl<'m, 'p> Names<'m, 'p> {
     /// A body with no variables. It takes no memory.
-    fn none(alloc: Global, ranges: &'m DeclaredItems<'p>) -> Names<'m, 'p>
+    fn none(alloc: Global, ranges: &'m Ranges<'p>) -> Names<'m, 'p>
         ensures { result ≡ record { items = ranges.now; scope = []; next = 0 } }
     {
         Names {
-            variables: Vec::new(alloc),
+            variables: NameScope::none(alloc),
             ranges,
             next: 0,
         }
@@ -64,7 +57,7 @@ impl<'m, 'p> Names<'m, 'p> {
     }
 
     /// The objects that a name stands for.
-    pub(crate) fn ranges(&self) -> &'m DeclaredItems<'p>
+    pub(crate) fn ranges(&self) -> &'m Ranges<'p>
         ensures { result.now ≡ self.now.items }
     {
         self.ranges
@@ -75,7 +68,7 @@ impl<'m, 'p> Names<'m, 'p> {
         ensures { OnOk result (self.new ≡ record { items = self.old.items; scope = entry name.now slot ∷ self.old.scope; next = slot + 1 }) }
     {
         let next = slot.checked_add(1).ok_or(Memory)?;
-        self.variables.push(Variable { name, slot })?;
+        self.variables.declare(name.bytes(), slot)?;
         self.next = next;
         Ok(())
     }
@@ -84,27 +77,19 @@ impl<'m, 'p> Names<'m, 'p> {
     pub(crate) fn leave(&mut self, len: usize, next: u32)
         ensures { self.new ≡ record { items = self.old.items; scope = drop (length self.old.scope - len) self.old.scope; next = next } }
     {
-        self.variables.truncate(len);
+        self.variables.leave(len);
         self.next = next;
     }
 
-    /// The slot of a name, where it is a variable. It takes no memory.
+    /// The slot of a name, where it is a variable, in constant time. It takes no memory.
     pub(crate) fn slot_of(&self, name: &Name) -> Option<u32>
         ensures { result ≡ slot_of name.now self.now.scope }
     {
-        let mut left = self.variables.len();
-        while left > 0 {
-            left -= 1;
-            let variable = &self.variables[left];
-            if same_name(name.bytes(), variable.name.bytes()) {
-                return Some(variable.slot);
-            }
-        }
-        None
+        self.variables.get(name.bytes())
     }
 
     /// The inputs are in scope.
-    fn given(alloc: Global, ranges: &'m DeclaredItems<'p>) -> Result<Names<'m, 'p>, Memory>
+    fn given(alloc: Global, ranges: &'m Ranges<'p>) -> Result<Names<'m, 'p>, Memory>
         ensures { IfOk result (λ b. b ≡ record { items = ranges.now; scope = given_scope ranges.now; next = inputs_in ranges.now }) }
     {
         let mut body = Names::none(alloc, ranges);
@@ -130,7 +115,7 @@ impl<'m, 'p> Names<'m, 'p> {
     /// The body of a task that is created with these names.
     pub(crate) fn created(
         alloc: Global,
-        ranges: &'m DeclaredItems<'p>,
+        ranges: &'m Ranges<'p>,
         names: &'p NameList,
     ) -> Result<Names<'m, 'p>, Memory>
         ensures { IfOk result (λ b. b ≡ created ranges.now (map (λ n. n.name) names.now)) }

@@ -1,28 +1,30 @@
 //! The code of a program.
 
-ghost use Rattle.std.specs.Prelude.{◌≡◌, ◌≤◌, ℕ, length, IfOk};
-ghost use Rattle.jade_syntax.specs.declared.objects.TheConstants.{OBJECT_LIMIT};
+ghost use Rattle.std.specs.Prelude.{◌≡◌, ◌≤◌, ℕ, [], length, IfOk};
 ghost use Rattle.jade_syntax.specs.Image.{program as abstracted};
 ghost use Rattle.jade_syntax.specs.Objects.{sizes};
 ghost use Rattle.task_translation.specs.Compile.{compiled, inputs_in};
+ghost use Rattle.code_keeps.specs.Keeps.{whole_code};
 ghost use Rattle.task_translation.specs.Correct.{Follows};
 
+use crate::ranges::{Ranges, sizes as sizes_of};
 use crate::slots::size;
 use crate::statements::task;
+use code_keeps::laws::keeps_rules;
 use code_meaning::code::Body;
 use jade_base::Memory;
-use jade_meaning::resolve::DeclaredItems;
 use jade_syntax::Checked;
 use jade_syntax::tree::{NameList, Program};
 use std::alloc::Global;
 use std::marker::Model;
+use task_code::{Code, Raw};
 use task_translation::laws::code_follows;
 
-/// A checked program and the bodies of its tasks, of which the first is that of `main`.
+/// A checked program and its code.
 #[derive(Drop)]
 pub struct Compiled {
     checked: Checked,
-    bodies: Vec<Body>,
+    code: Code,
 }
 
 impl Model for Compiled {
@@ -34,7 +36,7 @@ impl Model for Compiled {
     ghost use Rattle.jade_syntax.specs.contracts.tree.Program as tree;
     ghost use Rattle.jade_syntax.specs.contracts.stands.Stand as stand;
     ghost use Rattle.jade_syntax.specs.Image.{program as abstracted};
-    ghost use Rattle.task_translation.specs.Compile.{compiled};
+    ghost use Rattle.code_keeps.specs.Keeps.{whole_code};
 
     ghost Value = { CheckedProgram };
 
@@ -42,7 +44,7 @@ impl Model for Compiled {
 
     ghost view = { λ c. c.checked };
 
-    ghost invariant = { λ c. c.bodies.items ≡ compiled (abstracted c.checked.program) };
+    ghost invariant = { λ c. c.code ≡ whole_code (abstracted c.checked.program) };
 }
 
 impl Compiled {
@@ -53,47 +55,69 @@ impl Compiled {
         &self.checked
     }
 
-    /// The bodies of its tasks, of which the first is that of `main`: they are the code of the
-    /// program, and on any numbers, as many as it has inputs, and under any limit, they do what the
-    /// program does. It takes no memory.
-    pub fn bodies(&self) -> &[Body]
-        ensures code { result.now ≡ compiled (abstracted self.now.program) }
-        ensures follows { (limit : ℕ) → Follows result.now (abstracted self.now.program) limit }
+    /// The code of the program, which keeps all rules of code: the bodies of its tasks, of which the
+    /// first is that of `main`, the number of inputs, and the sizes of the objects. On any numbers,
+    /// as many as there are inputs, and under any limit, the bodies do what the program does. It
+    /// takes no memory.
+    pub fn code(&self) -> &Code
+        ensures code { result.now ≡ whole_code (abstracted self.now.program) }
+        ensures follows { (limit : ℕ) → Follows result.now.bodies (abstracted self.now.program) limit }
     {
         code_follows();
-        self.bodies.as_slice()
+        &self.code
     }
 }
 
-/// The bodies of a program, the first of which is that of `main`. The error is want of memory, or
-/// that a number is too large for an instruction.
-fn bodies_of(alloc: Global, program: &Program, inputs: u32) -> Result<Vec<Body>, Memory>
-    requires objects { length (sizes program.now.items) ≤ OBJECT_LIMIT }
+/// The bodies of a program, the first of which is that of `main`, with the list of no names. The
+/// error is want of memory, or that a number is too large for an instruction.
+fn bodies_of<'p>(
+    alloc: Global,
+    program: &'p Program,
+    none: &'p NameList,
+    inputs: u32,
+) -> Result<Vec<Body>, Memory>
+    requires objects { length (sizes program.now.items) ≤ 4096 }
+    requires none { none.now ≡ [] }
     requires inputs { inputs ≡ inputs_in program.now.items }
     ensures { IfOk result (λ bodies. bodies.items ≡ compiled (abstracted program.now)) }
 {
-    let ranges = DeclaredItems::of(&program.items);
-    let none = NameList::empty(alloc);
+    let ranges = Ranges::of(alloc, &program.items)?;
     let mut bodies = Vec::new(alloc);
     task(
         alloc,
         &ranges,
         &mut bodies,
         Vec::new(alloc),
-        &none,
+        none,
         &program.main,
     )?;
     size(&mut bodies, inputs)?;
     Ok(bodies)
 }
 
+/// The code of a checked program, which keeps all rules.
+#[tactic(auto, using(crate::proofs::Sizing::inputs_many))]
+fn code_of(alloc: Global, checked: &Checked) -> Result<Code, Memory>
+    ensures { IfOk result (λ code. code ≡ whole_code (abstracted checked.now.program)) }
+{
+    let inputs = checked.inputs();
+    let program = checked.program();
+    let none = NameList::empty(alloc);
+    let bodies = bodies_of(alloc, program, &none, inputs)?;
+    let sizes = sizes_of(alloc, &program.items)?;
+    keeps_rules();
+    Ok(Code::of(Raw {
+        bodies,
+        inputs,
+        sizes,
+    }))
+}
+
 /// The code of a checked program. The error is want of memory, or code that is too long for the
 /// numbers in instructions.
-#[tactic(auto, using(crate::proofs::Sizing::inputs_many))]
 pub fn compile(alloc: Global, checked: Checked) -> Result<Compiled, Memory>
     ensures { IfOk result (λ compiled. compiled ≡ checked) }
 {
-    let inputs = checked.inputs();
-    let bodies = bodies_of(alloc, checked.program(), inputs)?;
-    Ok(Compiled { checked, bodies })
+    let code = code_of(alloc, &checked)?;
+    Ok(Compiled { checked, code })
 }

@@ -45,7 +45,7 @@ fn main(rt: HostRuntime) -> io::Result<()> {
     let Ok(compiled) = compile(alloc, checked) else {
         return println!(rt; "no memory");
     };
-    let bodies = compiled.bodies();
+    let bodies = &compiled.code().raw().bodies;
     for number in 0..bodies.len() {
         tell(&rt, number, &bodies[number])?;
     }
