@@ -55,8 +55,11 @@ pub object_there : (slots : ℕ) (v : View) (o : ℕ) (y : Slot) (key : RunPlan)
 object_there slots v o y key deep lt told =
     let n : told.objects ≡ count_of key = let a = told.sized in omega (arith, deep) in
     let ne : o ≢ told.objects = λ e. absurd (omega (arith, e, n, lt)) in
-    subst IsObject (sym (told.shows ∙ ap (λ z. if z then slot.Roll (record { live = paths_of (told.front ++ (v.seat ∷ told.back)); notes =
-          told.notes }) else slot.Object (shelf_of (shelf_at told.shelves o))) (ne_eqb o told.objects ne))) tt
+    subst IsObject (sym (told.shows ∙ ap (λ z. if z then slot.Roll (record {
+      live = paths_of (told.front ++ (v.seat ∷ told.back));
+      notes =
+          told.notes;
+    }) else slot.Object (shelf_of (shelf_at told.shelves o))) (ne_eqb o told.objects ne))) tt
 
 next_event : (l : List Event) (e d : Event) → First l (λ x. x ≡ e) → First l (λ x. x ≡ e)
 next_event l e d f = f
@@ -82,12 +85,12 @@ module _ (t : Task) (r : Rests t) where
         path = to (λ m. t.path ≡ m.0.seat.path) r.path;
         children = to (λ m. t.children ≡ m.0.seat.children) r.children;
         events = to (λ m. t.events ≡ (passed t.touched m.0).seat.walker.done % 2 ^ 64) (r.events
-              ∙ ap (λ (z : View). z.seat.walker.done % 2 ^ 64) (sym (passed_try false n o w y t.touched v0)));
+            ∙ ap (λ (z : View). z.seat.walker.done % 2 ^ 64) (sym (passed_try false n o w y t.touched v0)));
         over = to (λ m. t.over ≡ m.0.over) r.over;
       }
 
   pub tried_shown : (seat : Seat Slot View) (n o w : ℕ) (y : Slot) → seat.me ≡ (on_try false n o w y v0, []) → shown (record t { seat = seat })
-        ≡ on_try false n o w y v
+      ≡ on_try false n o w y v
   tried_shown seat n o w y is = ap (λ (m : Me Slot View). passed t.touched m.0) is ∙ passed_try false n o w y t.touched v0
 
   -- the fields are what is shown
@@ -115,7 +118,7 @@ module _ (t : Task) (r : Rests t) where
 
   -- nothing was done in the turn
   module _ (seat1 seat2 : Seat Slot View) (slots o : ℕ) (y new : Slot) (turn : InTurn slots o y t.seat.me seat1.me)
-        (left : left_as_it_was (step slots o 0 0 none) (with_slot o new seat1.me) 0 seat2.me) where
+      (left : left_as_it_was (step slots o 0 0 none) (with_slot o new seat1.me) 0 seat2.me) where
     pub off_is : seat2.me ≡ (on_try false (suc v0.tries) o 0 y v0, [])
     off_is = left ∙ ap (λ (m : Me Slot View). (turned_off m.0, rest m.1)) turn.me
 
@@ -125,8 +128,15 @@ module _ (t : Task) (r : Rests t) where
     pub off_before : AsBefore v (shown (record t { seat = seat2 }))
     off_before =
         let e = tried_shown seat2 (suc v0.tries) o 0 y off_is in
-        record { same = subst (λ (w : View). w ≡ record v { tries = w.tries; place = w.place; word = w.word; note =
-              w.note }) (sym e) (ap (λ b. on_try b (suc v0.tries) o 0 y v) idle_same) }
+        record {
+          same = subst (λ (w : View). w ≡ record v {
+            tries = w.tries;
+            place = w.place;
+            word = w.word;
+            note =
+                w.note;
+          }) (sym e) (ap (λ b. on_try b (suc v0.tries) o 0 y v) idle_same);
+        }
 
   -- the next event of what is shown comes after the touches of what the seat shows
   pub ahead_is : (e : Event) → is_touch e ≡ false → Next e v → (n o w : ℕ) (y : Slot) → Ahead t.touched e (on_try true n o w y v0)
@@ -140,7 +150,7 @@ module _ (t : Task) (r : Rests t) where
   alive e next = sym same.live ∙ next.live
 
   module _ (key : RunPlan) (laws : Laws key) (slots : ℕ) (seat1 : Seat Slot View) (o : ℕ) (y new : Slot) (turn : InTurn slots o y t.seat.me seat1.me)
-        (e : Event) (public : is_touch e ≡ false) (next : Next e v) where
+      (e : Event) (public : is_touch e ≡ false) (next : Next e v) where
     abbrev in_it : Me Slot View
     in_it = (in_turn o y v0, (o, new) ∷ [])
 
@@ -152,27 +162,27 @@ module _ (t : Task) (r : Rests t) where
     may_finish lt made =
         subst (λ (m : Me Slot View). Leaves left_done key slots seat1.id m o) (sym turned_is)
         (finishing key laws.tells laws.entries laws.once slots seat1.id o in_it new (alive e next) refl refl lt refl t.touched e
-              (ahead_is e public next (suc v0.tries) o 0 y)
-          (subst (λ (z : View). Made o e z new) (sym (passed_try true (suc v0.tries) o 0 y t.touched v0)) made))
+        (ahead_is e public next (suc v0.tries) o 0 y)
+        (subst (λ (z : View). Made o e z new) (sym (passed_try true (suc v0.tries) o 0 y t.touched v0)) made))
 
     -- and is left so
     pub finished : (after : Me Slot View) → left_done (step slots o 0 0 none) (with_slot o new seat1.me) 0 after → after
-          ≡ (did e (on_try true (suc v0.tries) o 0 y v), [])
+        ≡ (did e (on_try true (suc v0.tries) o 0 y v), [])
     finished after left =
         let d = subst (λ (m : Me Slot View). left_done (step slots o 0 0 none) m 0 after) turned_is left in
         let now : after.0 ≡ did e (on_try true (suc v0.tries) o 0 y v) = d.0 t.touched e (ahead_is e public next (suc v0.tries) o 0 y)
-              ∙ ap (did e) (passed_try true (suc v0.tries) o 0 y t.touched v0) in
+        ∙ ap (did e) (passed_try true (suc v0.tries) o 0 y t.touched v0) in
         λ i. (now i, d.1 i)
 
     -- the turn may be left with nothing done
     pub may_desist : new ≡ y → Leaves left_as_it_was key slots seat1.id (with_slot o new seat1.me) o
     may_desist same = subst (λ (m : Me Slot View). Leaves left_as_it_was key slots seat1.id m o) (sym turned_is)
-          (desisting key slots seat1.id o in_it new refl refl refl same)
+        (desisting key slots seat1.id o in_it new refl refl refl same)
 
   -- an event done: the fields follow
   pub done_rests : (t3 : Task) (w : View) → t3.seat.me ≡ (w, []) → (t3.path ≡ t.path) × (t3.children ≡ t.children) × (t3.over ≡ t.over) → (t3.touched ≡ 0)
-        × (t3.events ≡ (t.events + 1) % 2 ^ 64) → w.turn ≡ false → w.seat.path ≡ v.seat.path → w.seat.children ≡ v.seat.children → w.seat.walker.done
-        ≡ suc v.seat.walker.done → w.over ≡ v.over → Rests t3
+      × (t3.events ≡ (t.events + 1) % 2 ^ 64) → w.turn ≡ false → w.seat.path ≡ v.seat.path → w.seat.children ≡ v.seat.children → w.seat.walker.done
+      ≡ suc v.seat.walker.done → w.over ≡ v.over → Rests t3
   done_rests t3 w is fields counts off path children done over =
       let to : (P : Me Slot View → Type 0) → P (w, []) → P t3.seat.me = λ P p. subst P (sym is) p in
       record {
@@ -182,8 +192,8 @@ module _ (t : Task) (r : Rests t) where
         path = to (λ m. t3.path ≡ m.0.seat.path) (fields.0 ∙ r.path ∙ sym same.path ∙ sym path);
         children = to (λ m. t3.children ≡ m.0.seat.children) (fields.1 ∙ r.children ∙ sym same.children ∙ sym children);
         events = counts.1 ∙ ap (λ x. (x + 1) % 2 ^ 64) r.events ∙ next_mod v.seat.walker.done
-              ∙ ap (λ x. x % 2 ^ 64) (sym done ∙ sym (ap (λ (m : Me Slot View). m.0.seat.walker.done) is)
-              ∙ sym (ap (λ k. (passed k t3.seat.me.0).seat.walker.done) counts.0));
+            ∙ ap (λ x. x % 2 ^ 64) (sym done ∙ sym (ap (λ (m : Me Slot View). m.0.seat.walker.done) is)
+            ∙ sym (ap (λ k. (passed k t3.seat.me.0).seat.walker.done) counts.0));
         over = to (λ m. t3.over ≡ m.0.over) (fields.2 ∙ r.over ∙ sym same.over ∙ sym over);
       }
     where
@@ -195,6 +205,6 @@ module _ (t : Task) (r : Rests t) where
 
   -- a turn that did something shows it
   pub did_shown : (o : ℕ) (z : ShelfView) (y : Slot) (held : List (Option Held)) → y ≡ slot.Object z
-        → record (on_try true (suc v0.tries) o 0 y v) { seat = seat_after None v.seat; held = held; turn = false }
-        ≡ record (saw o z v) { seat = seat_after None v.seat; held = held }
+      → record (on_try true (suc v0.tries) o 0 y v) { seat = seat_after None v.seat; held = held; turn = false }
+      ≡ record (saw o z v) { seat = seat_after None v.seat; held = held }
   did_shown o z y held is = λ i. record (on_try (idle_same i) (tries_same i) o 0 (is i) v) { seat = seat_after None v.seat; held = held }

@@ -51,8 +51,8 @@ same_object : (y z : ShelfView) → slot.Object y ≡ slot.Object z → y ≡ z
 same_object y z e = cc
 
 module _ (key : RunPlan) (tells : CoreTells key.program key.numbers key.limit) (entries : EntriesAreThere key.program key.numbers key.limit) (once : Once key)
-      (s : table.State Slot View) (h : Ruled key s) (id : ℕ) (v : View) (at_v : get_elem? s.views id ≡ some v) (alive : v.live ≡ true) (turn : v.turn
-      ≡ true) (o : ℕ) (place : v.place ≡ o) (object : o ≢ count_of key) where
+    (s : table.State Slot View) (h : Ruled key s) (id : ℕ) (v : View) (at_v : get_elem? s.views id ≡ some v) (alive : v.live ≡ true) (turn : v.turn
+    ≡ true) (o : ℕ) (place : v.place ≡ o) (object : o ≢ count_of key) where
   abbrev n : ℕ
   n = count_of key
 
@@ -71,11 +71,11 @@ module _ (key : RunPlan) (tells : CoreTells key.program key.numbers key.limit) (
   module _ (carried : List (ℕ × Slot)) (new : Slot) (has : carried ≡ (o, new) ∷ rest carried) where
     -- an event on the object that makes g of it
     module _ (e : Event) (g : ObjectView → ObjectView) (of_none : g (record { queue = []; content = [] })
-          ≡ record { queue = []; content = [] }) (held2 : List (Option Held)) (next : First (upcoming v.seat.walker) (λ y. y
-          ≡ e)) (does : Does e v.seat h.shelves (seat_after None v.seat ∷ []) (on_shelf o g h.shelves)) (silent : (ns : List PartNote) → noted e v.seat ns
-          ≡ ns) (others : (q : List ℕ) → same_path q v.seat.path ≡ false → same_path q (v.seat.path ++ v.seat.children ∷ []) ≡ false → (k : Option Held)
-          → HeldOk q x k → HeldOk q (g x) k) (own : HeldOk v.seat.path (g x) (held_at o held2)) (more : (i : ℕ) → i ≢ o → held_at i held2
-          ≡ held_at i v.held) (shows : new ≡ slot.Object (shelf_of (g x))) where
+        ≡ record { queue = []; content = [] }) (held2 : List (Option Held)) (next : First (upcoming v.seat.walker) (λ y. y
+        ≡ e)) (does : Does e v.seat h.shelves (seat_after None v.seat ∷ []) (on_shelf o g h.shelves)) (silent : (ns : List PartNote) → noted e v.seat ns
+        ≡ ns) (others : (q : List ℕ) → same_path q v.seat.path ≡ false → same_path q (v.seat.path ++ v.seat.children ∷ []) ≡ false → (k : Option Held)
+        → HeldOk q x k → HeldOk q (g x) k) (own : HeldOk v.seat.path (g x) (held_at o held2)) (more : (i : ℕ) → i ≢ o → held_at i held2
+        ≡ held_at i v.held) (shows : new ≡ slot.Object (shelf_of (g x))) where
       abbrev w : View
       w = record v { seat = seat_after None v.seat; held = held2; turn = false }
 
@@ -89,28 +89,28 @@ module _ (key : RunPlan) (tells : CoreTells key.program key.numbers key.limit) (
       mine = record {
         each = λ i. dite (ℕ_discrete i o)
             (λ same. subst (λ j. HeldOk v.seat.path (shelf_at ss2 j) (held_at j held2)) (sym same)
-                  (subst (λ y. HeldOk v.seat.path y (held_at o held2)) (sym here) own))
+            (subst (λ y. HeldOk v.seat.path y (held_at o held2)) (sym here) own))
             (λ ne. subst (λ y. HeldOk v.seat.path y (held_at i held2)) (sym (shelf_else o i g h.shelves ne))
-                  (subst (λ y. HeldOk v.seat.path (shelf_at h.shelves i) y) (sym (more i ne)) (held.each i)));
+            (subst (λ y. HeldOk v.seat.path (shelf_at h.shelves i) y) (sym (more i ne)) (held.each i)));
       }
 
       far : (q : List ℕ) → same_path q v.seat.path ≡ false → same_path q (v.seat.path ++ v.seat.children ∷ []) ≡ false → (hs : List (Option Held))
-            → Agrees q h.shelves hs → Agrees q ss2 hs
+          → Agrees q h.shelves hs → Agrees q ss2 hs
       far q off kin hs a = record {
         each = λ i. dite (ℕ_discrete i o)
             (λ same. subst (λ j. HeldOk q (shelf_at ss2 j) (held_at j hs)) (sym same)
-                  (subst (λ y. HeldOk q y (held_at o hs)) (sym here) (others q off kin (held_at o hs) (a.each o))))
+            (subst (λ y. HeldOk q y (held_at o hs)) (sym here) (others q off kin (held_at o hs) (a.each o))))
             (λ ne. subst (λ y. HeldOk q y (held_at i hs)) (sym (shelf_else o i g h.shelves ne)) (a.each i));
       }
 
       pub on_object : Ruled key (stepped s o 0 id carried w gives)
       on_object =
           leaving n key s h id v at_v w (quiet n key s h id v at_v alive tells e (seat_after None v.seat) ss2 w next does silent refl refl refl refl refl refl
-                far mine) o turn place carried new has refl
+          far mine) o turn place carried new has refl
           (part_here n key s h id v at_v alive tells e (seat_after None v.seat) ss2 w next does silent refl refl refl refl refl refl far mine o object new
-                (shows ∙ ap (λ y. slot.Object (shelf_of y)) (sym here)))
+          (shows ∙ ap (λ y. slot.Object (shelf_of y)) (sym here)))
           (λ i ne. part_else n key s h id v at_v alive tells e (seat_after None v.seat) ss2 w next does silent refl refl refl refl refl refl far mine i
-                (ap shelf_of (sym (shelf_else o i g h.shelves ne))))
+          (ap shelf_of (sym (shelf_else o i g h.shelves ne))))
 
     found_is : (y : ShelfView) → v.note ≡ slot.Object y → y ≡ shelf_of x
     found_is y e = same_object y (shelf_of x) (sym e ∙ note_is)
@@ -122,31 +122,35 @@ module _ (key : RunPlan) (tells : CoreTells key.program key.numbers key.limit) (
         let clear : keeper_in v.seat.path m x.queue ≡ None = ap (λ (z : ShelfView). keeper_in v.seat.path m z.queue) (sym is) ∙ free in
         let next' : First (upcoming v.seat.walker) (λ z. z ≡ Take o m) = subst (λ i. First (upcoming v.seat.walker) (λ z. z ≡ Take i m)) same next in
         let may : MayTake m v.seat.path x.queue = tells.takes h.count (map h.seats h.owners) h.shelves (core_notes h.told) h.reached _ v.seat seat_here o m
-              next' clear in
+        next' clear in
         let now : Option Held = held_in m (hand_in v.seat.path m (shelf_of x)) in
         let handed_is : held_in m (handed_by v.seat.path m v.note) ≡ now = ap (λ z. held_in m (handed_by v.seat.path m z)) note_is in
         subst (λ i. Ruled key (stepped s o 0 id carried (did (Take i m) v) gives)) (sym same)
-        (subst (λ k. Ruled key (stepped s o 0 id carried (record v { seat = seat_after None v.seat; held = put_held o k v.held; turn =
-              false }) gives)) (sym handed_is)
-          (on_object (Take o m) (taken v.seat.path m) refl (put_held o now v.held) next' (blocked_is o v.seat.path m h.shelves ∙ clear, refl, refl) (λ ns. refl)
-            (λ r off kin k a. take_others v.seat.path x m r off k a)
-            (subst (λ k. HeldOk v.seat.path (taken v.seat.path m x) k) (sym (held_here o now v.held)) (take_mine v.seat.path x m may))
-            (λ i ne. held_else o i now v.held ne)
-            (made ∙ ap (λ z. slot.Object (handed v.seat.path m z)) is ∙ ap slot.Object (take_shows v.seat.path x m may))))
+        (subst (λ k. Ruled key (stepped s o 0 id carried (record v {
+          seat = seat_after None v.seat;
+          held = put_held o k v.held;
+          turn =
+              false;
+        }) gives)) (sym handed_is)
+        (on_object (Take o m) (taken v.seat.path m) refl (put_held o now v.held) next' (blocked_is o v.seat.path m h.shelves ∙ clear, refl, refl) (λ ns. refl)
+        (λ r off kin k a. take_others v.seat.path x m r off k a)
+        (subst (λ k. HeldOk v.seat.path (taken v.seat.path m x) k) (sym (held_here o now v.held)) (take_mine v.seat.path x m may))
+        (λ i ne. held_else o i now v.held ne)
+        (made ∙ ap (λ z. slot.Object (handed v.seat.path m z)) is ∙ ap slot.Object (take_shows v.seat.path x m may))))
     event_on (Give q) next (same, y, c, note, has_it, made) =
         let is : y ≡ shelf_of x = found_is y note in
         let next' : First (upcoming v.seat.walker) (λ z. z ≡ Give o) = subst (λ i. First (upcoming v.seat.walker) (λ z. z ≡ Give i)) same next in
         let may : MayGive v.seat.path x.queue = entries.gives h.count (map h.seats h.owners) h.shelves (core_notes h.told) h.reached _ v.seat seat_here o
-              next' in
+        next' in
         let holds : HeldOk v.seat.path x (Some c) = subst (λ k. HeldOk v.seat.path x k) has_it (held.each o) in
         subst (λ i. Ruled key (stepped s o 0 id carried (did (Give i) v) gives)) (sym same)
         (on_object (Give o) (given v.seat.path) refl (put_held o None v.held) next' (refl, refl) (λ ns. refl)
-          (λ r off kin k a. give_others v.seat.path x r off k a)
-          (subst (λ k. HeldOk v.seat.path (given v.seat.path x) k) (sym (held_here o None v.held)) (give_mine v.seat.path x may.entry may.there))
-          (λ i ne. held_else o i None v.held ne)
-          (made ∙ ap (λ z. slot.Object (returned v.seat.path c z)) is
-            ∙ ap slot.Object (give_shows v.seat.path x c holds (λ a f t. may.home (ap (λ (z : Entry). takes_out z.hold) (some_entry may.entry a (sym may.there
-                  ∙ f)) ∙ t)))))
+        (λ r off kin k a. give_others v.seat.path x r off k a)
+        (subst (λ k. HeldOk v.seat.path (given v.seat.path x) k) (sym (held_here o None v.held)) (give_mine v.seat.path x may.entry may.there))
+        (λ i ne. held_else o i None v.held ne)
+        (made ∙ ap (λ z. slot.Object (returned v.seat.path c z)) is
+        ∙ ap slot.Object (give_shows v.seat.path x c holds (λ a f t. may.home (ap (λ (z : Entry). takes_out z.hold) (some_entry may.entry a (sym may.there
+        ∙ f)) ∙ t)))))
     event_on (Enter q a) next (same, y, note, made) =
         let is : y ≡ shelf_of x = found_is y note in
         let next' : First (upcoming v.seat.walker) (λ z. z ≡ Enter o a) = subst (λ i. First (upcoming v.seat.walker) (λ z. z ≡ Enter i a)) same next in
@@ -154,7 +158,7 @@ module _ (key : RunPlan) (tells : CoreTells key.program key.numbers key.limit) (
         (λ r off kin k b. enter_others v.seat.path x v.seat.children a r kin k b)
         (enter_mine v.seat.path x v.seat.children a (held_at o v.held) (held.each o)) (λ i ne. refl)
         (made ∙ ap (λ z. slot.Object (on_queue (entered_in v.seat.path (v.seat.path ++ v.seat.children ∷ []) a) z)) is
-              ∙ ap slot.Object (enter_shows v.seat.path x v.seat.children a))
+        ∙ ap slot.Object (enter_shows v.seat.path x v.seat.children a))
     event_on (Shift q a) next (same, y, note, made) =
         let is : y ≡ shelf_of x = found_is y note in
         let next' : First (upcoming v.seat.walker) (λ z. z ≡ Shift o a) = subst (λ i. First (upcoming v.seat.walker) (λ z. z ≡ Shift i a)) same next in
@@ -170,8 +174,8 @@ module _ (key : RunPlan) (tells : CoreTells key.program key.numbers key.limit) (
         on_object (Leave o) (left v.seat.path) refl v.held next' (refl, refl) (λ ns. refl)
         (λ r off kin k b. leave_others v.seat.path x r off k b)
         (leave_mine v.seat.path x may.entry may.there may.free
-              (ap hold_of (once.each h.count (map h.seats h.owners) h.shelves (core_notes h.told) h.reached o v.seat.path)) (held_at o v.held) (held.each o))
-              (λ i ne. refl)
+        (ap hold_of (once.each h.count (map h.seats h.owners) h.shelves (core_notes h.told) h.reached o v.seat.path)) (held_at o v.held) (held.each o))
+        (λ i ne. refl)
         (made ∙ ap (λ z. slot.Object (on_queue (without v.seat.path) z)) is ∙ ap slot.Object (leave_shows v.seat.path x may.entry may.there may.free))
     event_on (Enroll t m) next made = absurd made
     event_on (Resign b m) next made = absurd made
@@ -223,21 +227,20 @@ ahead_once k j e d v a b =
 
 -- a turn left with the event done
 pub finishing : (key : RunPlan) → CoreTells key.program key.numbers key.limit → EntriesAreThere key.program key.numbers key.limit → Once key
-      → (slots id o : ℕ) (me : Me Slot View) (new : Slot) → me.0.live ≡ true → me.0.turn ≡ true → me.0.place ≡ o → o < count_of key → me.1
-      ≡ (o, new) ∷ rest me.1 → (k : ℕ) (e : Event) → Ahead k e me.0 → Made o e (passed k me.0) new
-      → Allows (Ruled key) slots id me o (λ x. 0) (λ x. left_done (step slots o 0 0 none) me 0)
+    → (slots id o : ℕ) (me : Me Slot View) (new : Slot) → me.0.live ≡ true → me.0.turn ≡ true → me.0.place ≡ o → o < count_of key → me.1
+    ≡ (o, new) ∷ rest me.1 → (k : ℕ) (e : Event) → Ahead k e me.0 → Made o e (passed k me.0) new
+    → Allows (Ruled key) slots id me o (λ x. 0) (λ x. left_done (step slots o 0 0 none) me 0)
 finishing key tells entries once slots id o me new alive turn place lt has k e ahead made s h _ at _ =
     let v = passed k me.0 in
     let same = passed_same k me.0 in
     let s' : table.State Slot View = record { words = s.words; homes = s.homes; views = set s.views id v } in
     let h' : Ruled key s' = passing (count_of key) key s h id me.0 at alive tells k ahead.touches in
-    let object : o ≢ count_of key = λ q. absurd (omega (arith, q)) in
-    (
+    let object : o ≢ count_of key = λ q. absurd (omega (arith, q)) in (
       did e v,
       gives,
       tt,
       subst (λ l. Ruled key (record { words = set s.words o 0; homes = table.put_back s.homes me.1; views = l })) (set_set s.views id v (did e v))
-      (event_on key tells entries once s' h' id v (set_here s.views id v (at_inside s.views id me.0 at)) (same.live ∙ alive) (same.turn ∙ turn) o (same.place
-            ∙ place) object me.1 new has e ahead.next made),
+          (event_on key tells entries once s' h' id v (set_here s.views id v (at_inside s.views id me.0 at)) (same.live ∙ alive) (same.turn ∙ turn) o (same.place
+          ∙ place) object me.1 new has e ahead.next made),
       ((λ j d other. let q = ahead_once k j e d me.0 ahead other in λ i. did (q.1 i) (passed (q.0 i) me.0)), refl),
     )

@@ -99,10 +99,10 @@ module _ (n : ℕ) (key : RunPlan) (s : table.State Slot View) (h : Shown n key 
       renewed_place p (free y w0 e q) = free y w0 e (q ∙ same p)
       renewed_place p (taken z w1 e t l) = dite (ℕ_discrete (h.holder p) id)
           (λ eq.
-            let q : v ≡ z = same_view s.views id (h.holder p) v z at_v e eq in
-            let had : v.turn ≡ true = ap (λ (k : View). k.turn) q ∙ t in
-            taken w w1 (subst (λ i. get_elem? after.views i ≡ some w) (sym eq) (set_here s.views id w (at_inside s.views id v at_v))) (still.turn
-                  ∙ had) (still.place had ∙ ap (λ (k : View). k.place) q ∙ l))
+          let q : v ≡ z = same_view s.views id (h.holder p) v z at_v e eq in
+          let had : v.turn ≡ true = ap (λ (k : View). k.turn) q ∙ t in
+          taken w w1 (subst (λ i. get_elem? after.views i ≡ some w) (sym eq) (set_here s.views id w (at_inside s.views id v at_v))) (still.turn
+          ∙ had) (still.place had ∙ ap (λ (k : View). k.place) q ∙ l))
           (λ ne. taken z w1 (set_else s.views id (h.holder p) w ne ∙ e) t l)
 
       pub renewed : Shown n key after
@@ -122,7 +122,7 @@ module _ (n : ℕ) (key : RunPlan) (s : table.State Slot View) (h : Shown n key 
       }
 
     module _ (o : ℕ) (turn : v.turn ≡ true) (place : v.place ≡ o) (carried : List (ℕ × Slot)) (new : Slot) (has : carried
-          ≡ (o, new) ∷ rest carried) (off : w.turn ≡ false) (here : new ≡ parts1 o) (parts : (p : ℕ) → p ≢ o → parts0 p ≡ parts1 p) where
+        ≡ (o, new) ∷ rest carried) (off : w.turn ≡ false) (here : new ≡ parts1 o) (parts : (p : ℕ) → p ≢ o → parts0 p ≡ parts1 p) where
       abbrev back : table.State Slot View
       back = stepped s o 0 id carried w gives
 
@@ -149,8 +149,13 @@ module _ (n : ℕ) (key : RunPlan) (s : table.State Slot View) (h : Shown n key 
           go : ((j ≡ id) × (w ≡ z)) ⊎ ((j ≢ id) × (get_elem? s.views j ≡ some z)) → SeatOk n back.words g.owners g.seats h.holder g.shelves parts1 key j z
           go (inl x) =
               subst (λ (q : ℕ × View). SeatOk n back.words g.owners g.seats h.holder g.shelves parts1 key q.0 q.1) (λ i. (sym x.0 i, x.1 i))
-              (record { plan = g.plan; sits = g.own; turn = λ e. absurd (let r : false ≡ true = sym off ∙ e in cc); busy =
-                    λ e. absurd (let r : false ≡ true = sym off ∙ e in cc) })
+              (record {
+                plan = g.plan;
+                sits = g.own;
+                turn = λ e. absurd (let r : false ≡ true = sym off ∙ e in cc);
+                busy =
+                    λ e. absurd (let r : false ≡ true = sym off ∙ e in cc);
+              })
           go (inr x) = let q = h.passes j z x.1 in record { plan = q.plan; sits = g.others j z x.0 x.1; turn = λ e. old x.0 (q.turn e); busy = q.busy }
 
       leaving_place : (p : ℕ) → p < suc n → PlaceOk n back h.holder parts1 p
@@ -162,14 +167,14 @@ module _ (n : ℕ) (key : RunPlan) (s : table.State Slot View) (h : Shown n key 
               let deep = h.deep in
               let lt = inside in
               free new (get_or-set_same s.words o 0 0 (omega arith)) (ap (λ (hs : List _). get_elem? hs o) homes_are
-                    ∙ set_here s.homes o (some new) (omega arith)) here
+              ∙ set_here s.homes o (some new) (omega arith)) here
 
           other : p ≢ o → PlaceOk n s h.holder parts0 p → PlaceOk n back h.holder parts1 p
           other ne (free z w0 e q) = free z (word_else s.words o p 0 ne ∙ w0) (ap (λ (hs : List _). get_elem? hs p) homes_are
-                ∙ set_else s.homes o p (some new) ne ∙ e) (q ∙ parts p ne)
+              ∙ set_else s.homes o p (some new) ne ∙ e) (q ∙ parts p ne)
           other ne (taken z w1 e t l) =
               let apart : h.holder p ≢ id = λ same. absurd (let q : v ≡ z = same_view s.views id (h.holder p) v z at_v e same in
-                    ne (sym l ∙ sym (ap (λ (k : View). k.place) q) ∙ place)) in
+              ne (sym l ∙ sym (ap (λ (k : View). k.place) q) ∙ place)) in
               taken z (word_else s.words o p 0 ne ∙ w1) (set_else s.views id (h.holder p) w apart ∙ e) t l
 
       pub leaving : Shown n key back
@@ -190,7 +195,7 @@ module _ (n : ℕ) (key : RunPlan) (s : table.State Slot View) (h : Shown n key 
 
   -- a turn is taken
   module _ (o : ℕ) (room : o < suc n) (idle : v.turn ≡ false) (alive : v.live ≡ true) (y : Slot) (w0 : slice_index s.words o ≡ 0) (is : y
-        ≡ parts0 o) (carried : List (ℕ × Slot)) where
+      ≡ parts0 o) (carried : List (ℕ × Slot)) where
     abbrev having : View
     having = in_turn o y v
 
@@ -203,12 +208,17 @@ module _ (n : ℕ) (key : RunPlan) (s : table.State Slot View) (h : Shown n key 
         old : TurnOk n s.words h.holder parts0 j z → TurnOk n next.words (put h.holder o id) parts0 j z
         old t =
             let ne : z.place ≢ o = λ e. absurd (let a = t.word in let b : slice_index s.words z.place ≡ 0 = subst (λ i. slice_index s.words i ≡ 0) (sym e) w0 in
-                  omega arith) in
-            record { inside = t.inside; word = word_else s.words o z.place 1 ne ∙ t.word; holds = put_other h.holder o id z.place ne ∙ t.holds; found =
-                  t.found }
+            omega arith) in
+            record {
+              inside = t.inside;
+              word = word_else s.words o z.place 1 ne ∙ t.word;
+              holds = put_other h.holder o id z.place ne ∙ t.holds;
+              found =
+                  t.found;
+            }
 
         go : ((j ≡ id) × (having ≡ z)) ⊎ ((j ≢ id) × (get_elem? s.views j ≡ some z))
-              → SeatOk n next.words h.owners h.seats (put h.holder o id) h.shelves parts0 key j z
+            → SeatOk n next.words h.owners h.seats (put h.holder o id) h.shelves parts0 key j z
         go (inl x) =
             let k = mine.sits in
             let wide = h.wide in
@@ -227,15 +237,15 @@ module _ (n : ℕ) (key : RunPlan) (s : table.State Slot View) (h : Shown n key 
         here =
             let wide = h.wide in
             taken having (get_or-set_same s.words o 1 0 (omega arith)) (subst (λ i. get_elem? next.views i
-                  ≡ some having) (sym (put_same h.holder o id)) (set_here s.views id having (at_inside s.views id v at_v))) refl refl
+            ≡ some having) (sym (put_same h.holder o id)) (set_here s.views id having (at_inside s.views id v at_v))) refl refl
 
         other : p ≢ o → PlaceOk n s h.holder parts0 p → PlaceOk n next (put h.holder o id) parts0 p
         other ne (free z w1 e q) = free z (word_else s.words o p 1 ne ∙ w1) (set_else s.homes o p none ne ∙ e) q
         other ne (taken z w1 e t l) =
             let apart : h.holder p ≢ id = λ same. absurd (let q : v ≡ z = same_view s.views id (h.holder p) v z at_v e same in let r : false ≡ true = sym idle
-                  ∙ ap (λ (k : View). k.turn) q ∙ t in cc) in
+            ∙ ap (λ (k : View). k.turn) q ∙ t in cc) in
             taken z (word_else s.words o p 1 ne ∙ w1) (subst (λ i. get_elem? next.views i
-                  ≡ some z) (sym (put_other h.holder o id p ne)) (set_else s.views id (h.holder p) having apart ∙ e)) t l
+            ≡ some z) (sym (put_other h.holder o id p ne)) (set_else s.views id (h.holder p) having apart ∙ e)) t l
 
     pub taking : Shown n key next
     taking = record {
@@ -258,8 +268,8 @@ module _ (n : ℕ) (key : RunPlan) (s : table.State Slot View) (h : Shown n key 
     tells slots sized =
         let there = mine.sits.live alive in
         let roll : map h.seats h.owners ≡ map h.seats there.spot.front ++ (v.seat ∷ map h.seats there.spot.back) =
-            ap (map h.seats) there.spot.is ∙ roll_split h.seats (pass_of id) there.spot.front there.spot.back
-                  ∙ ap (λ x. map h.seats there.spot.front ++ (x ∷ map h.seats there.spot.back)) there.is in
+        ap (map h.seats) there.spot.is ∙ roll_split h.seats (pass_of id) there.spot.front there.spot.back
+        ∙ ap (λ x. map h.seats there.spot.front ++ (x ∷ map h.seats there.spot.back)) there.is in
         record {
           objects = n;
           sized = sized;
@@ -269,8 +279,8 @@ module _ (n : ℕ) (key : RunPlan) (s : table.State Slot View) (h : Shown n key 
           shelves = h.shelves;
           notes = h.told;
           reached = subst (λ (k : RunPlan). Reached k.program k.numbers k.limit h.count (map h.seats there.spot.front ++ (v.seat ∷ map h.seats there.spot.back))
-                h.shelves (core_notes h.told)) (sym (mine.plan alive))
-                (subst (λ r. Reached key.program key.numbers key.limit h.count r h.shelves (core_notes h.told)) roll h.reached);
+              h.shelves (core_notes h.told)) (sym (mine.plan alive))
+              (subst (λ r. Reached key.program key.numbers key.limit h.count r h.shelves (core_notes h.told)) roll h.reached);
           agrees = mine.sits.held alive;
           shows = is ∙ ap (λ r. part_of n o r h.shelves h.told) roll;
         }
@@ -284,15 +294,21 @@ module _ (n : ℕ) (key : RunPlan) (s : table.State Slot View) (h : Shown n key 
     missed =
         let k = mine.sits in
         let wide = h.wide in
-        let g : Goes missing = stays missing mine.plan refl refl (record { live = k.live; held = k.held; unborn = k.unborn; unheld = k.unheld; over =
-              k.over }) in
+        let g : Goes missing = stays missing mine.plan refl refl (record {
+          live = k.live;
+          held = k.held;
+          unborn = k.unborn;
+          unheld = k.unheld;
+          over =
+              k.over;
+        }) in
         let still : Still v missing = record { turn = refl; place = λ e. absurd (let r : false ≡ true = sym idle ∙ e in cc); note = λ e. refl } in
         let same : s.words ≡ set s.words o x = sym (set_again s.words o x (at_word s.words o (omega arith) ∙ ap some (sym is))) in
         subst (λ ws. Shown n key (record { words = ws; homes = s.homes; views = set s.views id missing })) same (renewed missing g (λ p. refl) still (λ e. e))
 
   -- a turn is left with nothing changed
   module _ (o : ℕ) (turn : v.turn ≡ true) (place : v.place ≡ o) (carried : List (ℕ × Slot)) (new : Slot) (has : carried ≡ (o, new) ∷ rest carried) (same : new
-        ≡ v.note) where
+      ≡ v.note) where
     pub desisted : Shown n key (stepped s o 0 id carried (turned_off v) gives)
     desisted =
         let k = mine.sits in
@@ -302,7 +318,7 @@ module _ (n : ℕ) (key : RunPlan) (s : table.State Slot View) (h : Shown n key 
 
 -- a try at a turn
 pub trying : (key : RunPlan) (slots id o : ℕ) (me : Me Slot View) → o < slots → me.0.turn ≡ false → me.0.live ≡ true
-      → Allows (Ruled key) slots id me o (λ x. either (eqb x 0) 1 x) (tried (step slots o 0 1 none) me)
+    → Allows (Ruled key) slots id me o (λ x. either (eqb x 0) 1 x) (tried (step slots o 0 1 none) me)
 trying key slots id o me fits idle alive s h long at _ = go (h.places o room)
   where
     room : o < suc (count_of key)
@@ -312,14 +328,14 @@ trying key slots id o me fits idle alive s h long at _ = go (h.places o room)
     x = slice_index s.words o
 
     go : PlaceOk (count_of key) s h.holder (λ p. part_of (count_of key) p (map h.seats h.owners) h.shelves h.told) o → (w : View) × (a : table.Act Slot)
-          × table.Valid s.homes me.1 a × Ruled key (stepped s o (either (eqb x 0) 1 x) id me.1 w a)
-          × tried (step slots o 0 1 none) me x (w, table.carried_after me.1 a)
+        × table.Valid s.homes me.1 a × Ruled key (stepped s o (either (eqb x 0) 1 x) id me.1 w a)
+        × tried (step slots o 0 1 none) me x (w, table.carried_after me.1 a)
     go (free y w0 home is) = (
       in_turn o y me.0,
       takes o y,
       home,
       subst (λ z. Ruled key (stepped s o z id me.1 (in_turn o y me.0) (takes o y))) (sym (ap (λ b. either b 1 x) (eq-eqb x 0 w0)))
-            (taking (count_of key) key s h id me.0 at o room idle alive y w0 is me.1),
+          (taking (count_of key) key s h id me.0 at o room idle alive y w0 is me.1),
       ((λ e. (y, refl, λ l. tells (count_of key) key s h id me.0 at o room idle alive y w0 is me.1 slots (sym long ∙ h.deep))), λ ne. absurd (ne w0)),
     )
     go (taken v w1 e t l) = (
@@ -327,12 +343,12 @@ trying key slots id o me fits idle alive s h long at _ = go (h.places o room)
       keeps,
       tt,
       subst (λ z. Ruled key (stepped s o z id me.1 (tried_at o 1 me.0) keeps)) (sym (ap (λ b. either b 1 x) (ne_eqb x 0 (λ z. absurd (omega arith)))))
-            (missed (count_of key) key s h id me.0 at o idle room x refl me.1),
+          (missed (count_of key) key s h id me.0 at o idle room x refl me.1),
       ((λ e0. absurd (omega arith)), λ ne. (w1, refl)),
     )
 
 -- a turn left with nothing changed
 pub desisting : (key : RunPlan) (slots id o : ℕ) (me : Me Slot View) (new : Slot) → me.0.turn ≡ true → me.0.place ≡ o → me.1 ≡ (o, new) ∷ rest me.1 → new
-      ≡ me.0.note → Allows (Ruled key) slots id me o (λ x. 0) (λ x. left_as_it_was (step slots o 0 0 none) me 0)
+    ≡ me.0.note → Allows (Ruled key) slots id me o (λ x. 0) (λ x. left_as_it_was (step slots o 0 0 none) me 0)
 desisting key slots id o me new turn place has same s h _ at _ =
-      (turned_off me.0, gives, tt, desisted (count_of key) key s h id me.0 at o turn place me.1 new has same, refl)
+    (turned_off me.0, gives, tt, desisted (count_of key) key s h id me.0 at o turn place me.1 new has same, refl)

@@ -82,7 +82,7 @@ roll_split f x (y ∷ front) back = ap (λ ts. f y ∷ ts) (roll_split f x front
 
 -- the roll in which the owner's seat is another
 pub roll_put : (f : ℕ → Seat) (x : ℕ) (s : Seat) (owners : List ℕ) (spot : Spot owners x) → map (put_seat f x s) owners
-      ≡ map f spot.front ++ (s ∷ map f spot.back)
+    ≡ map f spot.front ++ (s ∷ map f spot.back)
 roll_put f x s owners spot =
     ap (map (put_seat f x s)) spot.is
     ∙ roll_split (put_seat f x s) x spot.front spot.back
@@ -169,14 +169,14 @@ same_view views id j v z at e same = some-injective v z (sym at ∙ subst (λ i.
 
 -- a pass's new view keeps what is its own on the roll
 pub owned_set : (views : List View) (id x : ℕ) (v w : View) → get_elem? views id ≡ some v → w.live ≡ v.live → w.unborn ≡ v.unborn → Owned views x
-      → Owned (set views id w) x
+    → Owned (set views id w) x
 owned_set views id x v w at l u (by_pass j z e live is) = dite (ℕ_discrete j id)
     (λ same. by_pass id w (set_here views id w (at_inside views id v at)) (l ∙ ap (λ (k : View). k.live) (same_view views id j v z at e same) ∙ live) (is
-          ∙ ap pass_of same))
+    ∙ ap pass_of same))
     (λ other. by_pass j z (set_else views id j w other ∙ e) live is)
 owned_set views id x v w at l u (by_maker j z kid e unborn is) = dite (ℕ_discrete j id)
     (λ same. by_maker id w kid (set_here views id w (at_inside views id v at)) (u ∙ ap (λ (k : View). k.unborn) (same_view views id j v z at e same)
-          ∙ unborn) (is ∙ ap kid_of same))
+    ∙ unborn) (is ∙ ap kid_of same))
     (λ other. by_maker j z kid (set_else views id j w other ∙ e) unborn is)
 
 -- every

@@ -113,7 +113,7 @@ abbrev AllLone : List ObjectView → Type 0
 AllLone ss = (o : ℕ) → Lone (shelf_at ss o).queue
 
 on_lone : (o : ℕ) (g : ObjectView → ObjectView) (ss : List ObjectView) → g (record { queue = []; content = [] }) ≡ record { queue = []; content = [] }
-      → Lone (g (shelf_at ss o)).queue → AllLone ss → AllLone (on_shelf o g ss)
+    → Lone (g (shelf_at ss o)).queue → AllLone ss → AllLone (on_shelf o g ss)
 on_lone o g ss of_none here h i = dite (ℕ_discrete i o)
     (λ same. subst (λ j. Lone (shelf_at (on_shelf o g ss) j).queue) (sym same) (subst (λ (x : ObjectView). Lone x.queue) (sym (shelf_on o g ss of_none)) here))
     (λ ne. subst (λ (x : ObjectView). Lone x.queue) (sym (shelf_else o i g ss ne)) (h i))
@@ -124,17 +124,17 @@ start_lone (n ∷ ns) zero = (tt, tt)
 start_lone (n ∷ ns) (suc o) = start_lone ns o
 
 does_lone : (e : Event) (s : Seat) (ss : List ObjectView) (new : List Seat) (ss' : List ObjectView) → Does e s ss new ss'
-      → ((o : ℕ) (a : Rights) → e ≡ Enter o a → find (s.path ++ s.children ∷ []) (shelf_at ss o).queue ≡ None) → AllLone ss → AllLone ss'
+    → ((o : ℕ) (a : Rights) → e ≡ Enter o a → find (s.path ++ s.children ∷ []) (shelf_at ss o).queue ≡ None) → AllLone ss → AllLone ss'
 does_lone (Take o m) s ss new ss' d fresh h = subst AllLone (sym d.2)
-      (on_lone o (taken s.path m) ss refl (lone_at s.path (held_for m (shelf_at ss o).content) (shelf_at ss o).queue (λ x. refl) (h o)) h)
+    (on_lone o (taken s.path m) ss refl (lone_at s.path (held_for m (shelf_at ss o).content) (shelf_at ss o).queue (λ x. refl) (h o)) h)
 does_lone (Give o) s ss new ss' d fresh h = subst AllLone (sym d.1)
-      (on_lone o (given s.path) ss refl (lone_at s.path released (shelf_at ss o).queue (λ x. refl) (h o)) h)
+    (on_lone o (given s.path) ss refl (lone_at s.path released (shelf_at ss o).queue (λ x. refl) (h o)) h)
 does_lone (Enter o a) s ss new ss' d fresh h = subst AllLone (sym d.1)
-      (on_lone o (entered s.path (s.path ++ s.children ∷ []) a) ss refl
-      (lone_entered s.path (s.path ++ s.children ∷ []) a (shelf_at ss o).queue (none_away (s.path ++ s.children ∷ []) (shelf_at ss o).queue (fresh o a refl))
-      (h o)) h)
+    (on_lone o (entered s.path (s.path ++ s.children ∷ []) a) ss refl
+    (lone_entered s.path (s.path ++ s.children ∷ []) a (shelf_at ss o).queue (none_away (s.path ++ s.children ∷ []) (shelf_at ss o).queue (fresh o a refl))
+    (h o)) h)
 does_lone (Shift o a) s ss new ss' d fresh h = subst AllLone (sym d.1)
-      (on_lone o (shifted s.path a) ss refl (lone_at s.path (with_rights a) (shelf_at ss o).queue (λ x. refl) (h o)) h)
+    (on_lone o (shifted s.path a) ss refl (lone_at s.path (with_rights a) (shelf_at ss o).queue (λ x. refl) (h o)) h)
 does_lone (Leave o) s ss new ss' d fresh h = subst AllLone (sym d.1) (on_lone o (left s.path) ss refl (lone_without s.path (shelf_at ss o).queue (h o)) h)
 does_lone (TouchWrite o c v) s ss new ss' d fresh h = subst AllLone (sym d.1) (on_lone o (written c v) ss refl (h o) h)
 does_lone (Wants o c) s ss new ss' d fresh h = subst AllLone (sym d.1) h
@@ -144,12 +144,12 @@ does_lone (Resign b n) s ss new ss' d fresh h = subst AllLone (sym d.1) h
 
 module _ (key : RunPlan) (entries : EntriesAreThere key.program key.numbers key.limit) where
   reached_lone : (k : ℕ) (roll : List Seat) (ss : List ObjectView) (notes : List PartNote) → Reached key.program key.numbers key.limit k roll ss notes
-        → AllLone ss
+      → AllLone ss
   reached_lone k roll ss notes begins = start_lone (sizes key.program.items)
   reached_lone k roll ss notes (goes_on {k = k0} {roll = roll0} {ss = ss0} {notes = notes0} r place n) =
       does_lone n.step.event n.step.seat ss0 n.step.new ss n.step.does
       (λ o a e. (entries.enters k0 roll0 ss0 notes0 r place n.step.seat n.step.here o a (subst (λ d. First (upcoming n.step.seat.walker) (λ x. x
-            ≡ d)) e n.step.next)).absent)
+      ≡ d)) e n.step.next)).absent)
       (reached_lone k0 roll0 ss0 notes0 r)
 
   pub once_of : Once key

@@ -30,8 +30,8 @@ all_more zero k v a b = ap (λ i. all_touches i v) (plus_zero k) ∙ a
 all_more (suc j) k v a b =
     ap (λ i. all_touches i v) (plus_suc k j)
     ∙ both (all_touches (k + j) v) (touch_next (passed (k + j) v))
-          (all_more j k v a (and_left (all_touches j (passed k v)) (touch_next (passed j (passed k v))) b))
-      (ap touch_next (sym (passed_more j k v)) ∙ and_right (all_touches j (passed k v)) (touch_next (passed j (passed k v))) b)
+    (all_more j k v a (and_left (all_touches j (passed k v)) (touch_next (passed j (passed k v))) b))
+    (ap touch_next (sym (passed_more j k v)) ∙ and_right (all_touches j (passed k v)) (touch_next (passed j (passed k v))) b)
   where
     plus_suc : (x y : ℕ) → x + suc y ≡ suc (x + y)
     plus_suc x y = omega arith
@@ -86,7 +86,7 @@ module _ (t : Task) (r : Rests t) (events k : ℕ) (fits : events < 184467440737
     path = r.path;
     children = r.children;
     events = small events fits ∙ ap (λ x. x % 2 ^ 64) (comes.count ∙ sym (passed_done k (shown t) comes.touches)
-          ∙ ap (λ (z : View). z.seat.walker.done) (passed_more k t.touched t.seat.me.0));
+        ∙ ap (λ (z : View). z.seat.walker.done) (passed_more k t.touched t.seat.me.0));
     over = r.over;
   }
     where

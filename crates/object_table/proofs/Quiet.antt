@@ -27,8 +27,8 @@ use Rattle.object_table.proofs.Goes.{Goes, parts0, parts1}
 
 -- the next event of a task between others
 pub reach_on : (key : RunPlan) (k : ℕ) (f : List Seat) (s : Seat) (b : List Seat) (ss ss' : List ObjectView) (notes : List PartNote) (e : Event)
-      (new : List Seat) → Reached key.program key.numbers key.limit k (f ++ (s ∷ b)) ss notes → First (upcoming s.walker) (λ x. x ≡ e) → Does e s ss new ss'
-      → Reached key.program key.numbers key.limit (suc k) (f ++ (new ++ b)) ss' (noted e s notes)
+    (new : List Seat) → Reached key.program key.numbers key.limit k (f ++ (s ∷ b)) ss notes → First (upcoming s.walker) (λ x. x ≡ e) → Does e s ss new ss'
+    → Reached key.program key.numbers key.limit (suc k) (f ++ (new ++ b)) ss' (noted e s notes)
 reach_on key k f s b ss ss' notes e new r next does = goes_on r (length f) (record {
   step = record {
     seat = s;
@@ -43,7 +43,7 @@ reach_on key k f s b ss ss' notes e new r next does = goes_on r (length f) (reco
 })
 
 module _ (n : ℕ) (key : RunPlan) (s : table.State Slot View) (h : Shown n key s) (id : ℕ) (v : View) (at_v : get_elem? s.views id ≡ some v) (alive : v.live
-      ≡ true) where
+    ≡ true) where
   abbrev pub p : List ℕ
   p = v.seat.path
 
@@ -69,22 +69,25 @@ module _ (n : ℕ) (key : RunPlan) (s : table.State Slot View) (h : Shown n key 
   seat_on x t q = ap (λ l. slice_get (map h.seats l) (length q.spot.front)) q.spot.is ∙ get_owner h.seats q.spot.front x q.spot.back ∙ ap (λ a. Some a) q.is
 
   pub found : (o : ℕ) → o ≢ n → parts0 n key s h id v at_v o ≡ slot.Object (shelf_of (shelf_at h.shelves o))
-  found o ne = ap (λ z. if z then slot.Roll (record { live = paths_of (map h.seats h.owners); notes =
-        h.told }) else slot.Object (shelf_of (shelf_at h.shelves o))) (ne_eqb o n ne)
+  found o ne = ap (λ z. if z then slot.Roll (record {
+    live = paths_of (map h.seats h.owners);
+    notes =
+        h.told;
+  }) else slot.Object (shelf_of (shelf_at h.shelves o))) (ne_eqb o n ne)
 
   module _ (tells : CoreTells key.program key.numbers key.limit) where
     pub far_off : (x : ℕ) (t : Seat) → x ≢ pass_of id → OnRoll h.owners h.seats x t → same_path t.path p ≡ false
     far_off x t ne q = tells.apart h.count (map h.seats h.owners) h.shelves (core_notes h.told) h.reached (length q.spot.front) (length on.spot.front) t v.seat
-          (seat_on x t q) (seat_on (pass_of id) v.seat on) (apart_owners h.owners x (pass_of id) q.spot on.spot ne)
+        (seat_on x t q) (seat_on (pass_of id) v.seat on) (apart_owners h.owners x (pass_of id) q.spot on.spot ne)
 
     pub no_kid : (x : ℕ) (t : Seat) → x ≢ pass_of id → OnRoll h.owners h.seats x t → same_path t.path kid ≡ false
     no_kid x t ne q = tells.kids h.count (map h.seats h.owners) h.shelves (core_notes h.told) h.reached (length q.spot.front) (length on.spot.front) t v.seat
-          (seat_on x t q) (seat_on (pass_of id) v.seat on) (apart_owners h.owners x (pass_of id) q.spot on.spot ne)
+        (seat_on x t q) (seat_on (pass_of id) v.seat on) (apart_owners h.owners x (pass_of id) q.spot on.spot ne)
 
     module _ (e : Event) (u2 : Seat) (ss2 : List ObjectView) (w : View) (next : First (upcoming v.seat.walker) (λ x. x
-          ≡ e)) (does : Does e v.seat h.shelves (u2 ∷ []) ss2) (silent : (ns : List PartNote) → noted e v.seat ns ≡ ns) (path : u2.path ≡ p) (is : w.seat
-          ≡ u2) (live : w.live ≡ v.live) (unborn : w.unborn ≡ v.unborn) (plan : w.key ≡ v.key) (over : w.over ≡ v.over) (far : (q : List ℕ) → same_path q p
-          ≡ false → same_path q kid ≡ false → (hs : List (Option Held)) → Agrees q h.shelves hs → Agrees q ss2 hs) (own : Agrees p ss2 w.held) where
+        ≡ e)) (does : Does e v.seat h.shelves (u2 ∷ []) ss2) (silent : (ns : List PartNote) → noted e v.seat ns ≡ ns) (path : u2.path ≡ p) (is : w.seat
+        ≡ u2) (live : w.live ≡ v.live) (unborn : w.unborn ≡ v.unborn) (plan : w.key ≡ v.key) (over : w.over ≡ v.over) (far : (q : List ℕ) → same_path q p
+        ≡ false → same_path q kid ≡ false → (hs : List (Option Held)) → Agrees q h.shelves hs → Agrees q ss2 hs) (own : Agrees p ss2 w.held) where
       abbrev pub seats2 : ℕ → Seat
       seats2 = put_seat h.seats (pass_of id) u2
 
@@ -95,13 +98,13 @@ module _ (n : ℕ) (key : RunPlan) (s : table.State Slot View) (h : Shown n key 
       reached2 =
           subst (λ r. Reached key.program key.numbers key.limit (suc h.count) r ss2 (core_notes h.told)) (sym roll2)
           (subst (λ ns. Reached key.program key.numbers key.limit (suc h.count) (f ++ (u2 ∷ b)) ss2 ns) (silent (core_notes h.told))
-                (reach_on key h.count f v.seat b h.shelves ss2 (core_notes h.told) e (u2 ∷ []) stands next does))
+          (reach_on key h.count f v.seat b h.shelves ss2 (core_notes h.told) e (u2 ∷ []) stands next does))
 
       on_else : (x : ℕ) (t : Seat) → x ≢ pass_of id → OnRoll h.owners h.seats x t → OnRoll h.owners seats2 x t
       on_else x t ne r = record { spot = r.spot; is = seat_else h.seats (pass_of id) u2 x ne ∙ r.is }
 
       agrees_else : (x : ℕ) (t : Seat) → x ≢ pass_of id → OnRoll h.owners h.seats x t → (hs : List (Option Held)) → Agrees t.path h.shelves hs
-            → Agrees t.path ss2 hs
+          → Agrees t.path ss2 hs
       agrees_else x t ne r hs a = far t.path (far_off x t ne r) (no_kid x t ne r) hs a
 
       pub others : (j : ℕ) (z : View) → j ≢ id → Sits h.owners h.seats h.shelves j z → Sits h.owners seats2 ss2 j z
@@ -143,11 +146,14 @@ module _ (n : ℕ) (key : RunPlan) (s : table.State Slot View) (h : Shown n key 
 
       -- where an object shows the same its part is the same
       pub part_else : (i : ℕ) → shelf_of (shelf_at h.shelves i) ≡ shelf_of (shelf_at ss2 i) → parts0 n key s h id v at_v i
-            ≡ parts1 n key s h id v at_v w quiet i
+          ≡ parts1 n key s h id v at_v w quiet i
       part_else i same =
           ap (λ ps. if nat_eq i n then slot.Roll (record { live = ps; notes = h.told }) else slot.Object (shelf_of (shelf_at h.shelves i))) paths2
           ∙ ap (λ x. if nat_eq i n then slot.Roll (record { live = paths_of (map seats2 h.owners); notes = h.told }) else slot.Object x) same
 
       pub part_here : (o : ℕ) → o ≢ n → (new : Slot) → new ≡ slot.Object (shelf_of (shelf_at ss2 o)) → new ≡ parts1 n key s h id v at_v w quiet o
-      part_here o ne new e = e ∙ sym (ap (λ z. if z then slot.Roll (record { live = paths_of (map seats2 h.owners); notes =
-            h.told }) else slot.Object (shelf_of (shelf_at ss2 o))) (ne_eqb o n ne))
+      part_here o ne new e = e ∙ sym (ap (λ z. if z then slot.Roll (record {
+        live = paths_of (map seats2 h.owners);
+        notes =
+            h.told;
+      }) else slot.Object (shelf_of (shelf_at ss2 o))) (ne_eqb o n ne))

@@ -24,7 +24,7 @@ use Rattle.object_table.specs.declared.slot.Slot.{Slot}
 use Rattle.object_table.specs.declared.slot.Slot.TheVariants as slot
 
 pub slots_more : (ns : List ℕ) (o n : ℕ) → slice_get ns o ≡ Some n → start_slots (take (suc o) ns)
-      ≡ start_slots (take o ns) ++ slot.Object (started (0 ∷ []) both_rights n) ∷ []
+    ≡ start_slots (take o ns) ++ slot.Object (started (0 ∷ []) both_rights n) ∷ []
 slots_more [] o n e = absurd (cc)
 slots_more (m ∷ ns) zero n e = ap (λ x. slot.Object (started (0 ∷ []) both_rights x) ∷ []) (some_is m n e)
   where
@@ -37,7 +37,7 @@ slots_length [] y = refl
 slots_length (n ∷ ns) y = ap suc (slots_length ns y)
 
 object_at : (ns : List ℕ) (ys : List Slot) (o : ℕ) → o < length ns → get_elem? (start_slots ns ++ ys) o
-      ≡ some (slot.Object (shelf_of (shelf_at (root_shelves ns) o)))
+    ≡ some (slot.Object (shelf_of (shelf_at (root_shelves ns) o)))
 object_at [] ys o lt = absurd (omega arith)
 object_at (n ∷ ns) ys zero lt = refl
 object_at (n ∷ ns) ys (suc o) lt = object_at ns ys o (omega arith)
@@ -80,10 +80,10 @@ module _ (key : RunPlan) where
   part_at : (o : ℕ) → o < suc n → get_elem? (start_slots ns ++ slot.Roll begun ∷ []) o ≡ some (parts o)
   part_at o lt = dite (ℕ_discrete o n)
       (λ same. subst (λ i. get_elem? (start_slots ns ++ slot.Roll begun ∷ []) i ≡ some (parts i)) (sym same)
-        (last_at ns (slot.Roll begun) ∙ ap some (sym (ap (λ b. if b then slot.Roll begun else slot.Object (shelf_of (shelf_at (root_shelves ns) n)))
-              (eq-eqb n n refl)))))
+      (last_at ns (slot.Roll begun) ∙ ap some (sym (ap (λ b. if b then slot.Roll begun else slot.Object (shelf_of (shelf_at (root_shelves ns) n)))
+      (eq-eqb n n refl)))))
       (λ ne. object_at ns (slot.Roll begun ∷ []) o (omega (arith, ne, lt))
-        ∙ ap some (sym (ap (λ b. if b then slot.Roll begun else slot.Object (shelf_of (shelf_at (root_shelves ns) o))) (ne_eqb o n ne))))
+      ∙ ap some (sym (ap (λ b. if b then slot.Roll begun else slot.Object (shelf_of (shelf_at (root_shelves ns) o))) (ne_eqb o n ne))))
 
   first : SeatOk n (replicate (suc n) 0) (pass_of 0 ∷ []) (λ x. root) (λ o. 0) (root_shelves ns) parts key 0 (first_view key)
   first = record {
@@ -116,7 +116,7 @@ module _ (key : RunPlan) where
   })
     where
       seat : (id : ℕ) (v : View) → get_elem? (first_view key ∷ []) id ≡ some v
-            → SeatOk n (replicate (suc n) 0) (pass_of 0 ∷ []) (λ x. root) (λ o. 0) (root_shelves ns) parts key id v
+          → SeatOk n (replicate (suc n) 0) (pass_of 0 ∷ []) (λ x. root) (λ o. 0) (root_shelves ns) parts key id v
       seat zero v e = subst (λ (z : View). SeatOk n (replicate (suc n) 0) (pass_of 0 ∷ []) (λ x. root) (λ o. 0) (root_shelves ns) parts key 0 z)
-            (some-injective (first_view key) v e) first
+          (some-injective (first_view key) v e) first
       seat (suc id) v e = absurd (some-ne-none v (sym e))

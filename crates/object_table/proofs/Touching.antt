@@ -36,24 +36,26 @@ value_is (suc o) c q (s ∷ ss) = value_is o c q ss
 
 -- what a task that holds an object reads there is in what it holds
 held_content : (q : List ℕ) (x : ObjectView) (h : Option Held) (e : Entry) → find q x.queue ≡ Some e → is_some e.hold ≡ true → HeldOk q x h → content_for q x
-      ≡ cells_of h
+    ≡ cells_of h
 held_content q x h e f k (nothing empty none_held) = absurd (let r : e.hold ≡ None = ap hold_of (sym f) ∙ none_held in let z : false ≡ true = ap is_some (sym r)
-      ∙ k in cc)
+    ∙ k in cc)
 held_content q x h e f k (owns d a is g m t v c) = ap (λ z. version_of z x.content) g ∙ ap (λ z. version_or z x.content) v ∙ c ∙ sym (ap cells_of is)
 held_content q x h e f k (sees d a is g m t v) = ap (λ z. version_of z x.content) g ∙ ap (λ z. version_or z x.content) v ∙ sym (ap cells_of is)
 
 -- a write to what a task has out
 written_ok : (q : List ℕ) (x : ObjectView) (h : Option Held) (c : ℕ) (n : ℤ) (e : Entry) → find q x.queue ≡ Some e → takes_out e.hold ≡ true → HeldOk q x h
-      → HeldOk q (written c n x) (with_cell c n h)
+    → HeldOk q (written c n x) (with_cell c n h)
 written_ok q x h c n e f k (nothing empty none_held) = absurd (let r : e.hold ≡ None = ap hold_of (sym f) ∙ none_held in let z : false ≡ true =
-      ap takes_out (sym r) ∙ k in cc)
-written_ok q x h c n e f k (owns d a is g m t v w) = owns (record d { cells =
-      slice_set d.cells c n }) a (ap (with_cell c n) is) g m t v (ap (λ xs. slice_set xs c n) w)
+    ap takes_out (sym r) ∙ k in cc)
+written_ok q x h c n e f k (owns d a is g m t v w) = owns (record d {
+  cells =
+      slice_set d.cells c n;
+}) a (ap (with_cell c n) is) g m t v (ap (λ xs. slice_set xs c n) w)
 written_ok q x h c n e f k (sees d a is g m t v) = absurd (let same : e ≡ a = some_entry e a (sym f ∙ g) in let z : false ≡ true = sym t
-      ∙ ap (λ (y : Entry). takes_out y.hold) (sym same) ∙ k in cc)
+    ∙ ap (λ (y : Entry). takes_out y.hold) (sym same) ∙ k in cc)
 
 module _ (n : ℕ) (key : RunPlan) (s : table.State Slot View) (h : Shown n key s) (id : ℕ) (v : View) (at_v : get_elem? s.views id ≡ some v) (alive : v.live
-      ≡ true) (tells : CoreTells key.program key.numbers key.limit) where
+    ≡ true) (tells : CoreTells key.program key.numbers key.limit) where
   held : Agrees (p n key s h id v at_v alive) h.shelves v.held
   held = (h.passes id v at_v).sits.held alive
 
@@ -72,18 +74,20 @@ module _ (n : ℕ) (key : RunPlan) (s : table.State Slot View) (h : Shown n key 
 
     holding : Holding (λ x. is_some x) v.seat.path (shelf_at h.shelves o).queue
     holding = tells.reads h.count (map h.seats h.owners) h.shelves (core_notes h.told) h.reached (length (on n key s h id v at_v alive).spot.front) v.seat
-          (seat_on n key s h id v at_v alive _ v.seat (on n key s h id v at_v alive)) o c next
+        (seat_on n key s h id v at_v alive _ v.seat (on n key s h id v at_v alive)) o c next
 
     value : value_at o c v.seat.path h.shelves ≡ value_in (cells_of (held_at o v.held)) c
     value = value_is o c v.seat.path h.shelves ∙ ap (λ xs. value_in xs c)
-          (held_content v.seat.path (shelf_at h.shelves o) (held_at o v.held) holding.entry holding.there holding.hold (held.each o))
+        (held_content v.seat.path (shelf_at h.shelves o) (held_at o v.held) holding.entry holding.there holding.hold (held.each o))
 
     pub read_on : Shown n key (record { words = s.words; homes = s.homes; views = set s.views id w })
     read_on =
         renewed n key s h id v at_v w (quiet n key s h id v at_v alive tells (Wants o c) u2 h.shelves w next
-              (ap (λ z. seat_after (Some z) v.seat ∷ []) (sym value), refl) (λ ns. refl) refl refl refl refl refl refl (λ q far kin hs a. a) held)
-        (λ i. part_else n key s h id v at_v alive tells (Wants o c) u2 h.shelves w next (ap (λ z. seat_after (Some z) v.seat ∷ []) (sym value),
-              refl) (λ ns. refl) refl refl refl refl refl refl (λ q far kin hs a. a) held i refl)
+        (ap (λ z. seat_after (Some z) v.seat ∷ []) (sym value), refl) (λ ns. refl) refl refl refl refl refl refl (λ q far kin hs a. a) held)
+        (λ i. part_else n key s h id v at_v alive tells (Wants o c) u2 h.shelves w next (
+          ap (λ z. seat_after (Some z) v.seat ∷ []) (sym value),
+          refl,
+        ) (λ ns. refl) refl refl refl refl refl refl (λ q far kin hs a. a) held i refl)
         (record { turn = refl; place = λ e. refl; note = λ e. refl }) (λ e. e)
 
   module _ (o c : ℕ) (x : ℤ) (es : List Event) (q : upcoming v.seat.walker ≡ TouchWrite o c x ∷ es) where
@@ -104,7 +108,7 @@ module _ (n : ℕ) (key : RunPlan) (s : table.State Slot View) (h : Shown n key 
 
     out : Holding takes_out v.seat.path (shelf_at h.shelves o).queue
     out = tells.writes h.count (map h.seats h.owners) h.shelves (core_notes h.told) h.reached (length (on n key s h id v at_v alive).spot.front) v.seat
-          (seat_on n key s h id v at_v alive _ v.seat (on n key s h id v at_v alive)) o c x next_write
+        (seat_on n key s h id v at_v alive _ v.seat (on n key s h id v at_v alive)) o c x next_write
 
     here : shelf_at ss3 o ≡ written c x (shelf_at h.shelves o)
     here = shelf_on o (written c x) h.shelves refl
@@ -113,19 +117,19 @@ module _ (n : ℕ) (key : RunPlan) (s : table.State Slot View) (h : Shown n key 
     own = record {
       each = λ i. dite (ℕ_discrete i o)
           (λ same. subst (λ j. HeldOk v.seat.path (shelf_at ss3 j) (held_at j new_held)) (sym same)
-            (subst (λ y. HeldOk v.seat.path y (held_at o new_held)) (sym here)
-              (subst (λ y. HeldOk v.seat.path (written c x (shelf_at h.shelves o)) y) (sym (held_here o (with_cell c x (held_at o v.held)) v.held))
-                (written_ok v.seat.path (shelf_at h.shelves o) (held_at o v.held) c x out.entry out.there out.hold (held.each o)))))
+          (subst (λ y. HeldOk v.seat.path y (held_at o new_held)) (sym here)
+          (subst (λ y. HeldOk v.seat.path (written c x (shelf_at h.shelves o)) y) (sym (held_here o (with_cell c x (held_at o v.held)) v.held))
+          (written_ok v.seat.path (shelf_at h.shelves o) (held_at o v.held) c x out.entry out.there out.hold (held.each o)))))
           (λ ne. subst (λ y. HeldOk v.seat.path y (held_at i new_held)) (sym (shelf_else o i (written c x) h.shelves ne))
-            (subst (λ y. HeldOk v.seat.path (shelf_at h.shelves i) y) (sym (held_else o i (with_cell c x (held_at o v.held)) v.held ne)) (held.each i)));
+          (subst (λ y. HeldOk v.seat.path (shelf_at h.shelves i) y) (sym (held_else o i (with_cell c x (held_at o v.held)) v.held ne)) (held.each i)));
     }
 
     far : (r : List ℕ) → same_path r v.seat.path ≡ false → same_path r (v.seat.path ++ v.seat.children ∷ []) ≡ false → (hs : List (Option Held))
-          → Agrees r h.shelves hs → Agrees r ss3 hs
+        → Agrees r h.shelves hs → Agrees r ss3 hs
     far r off kin hs a = record {
       each = λ i. dite (ℕ_discrete i o)
           (λ same. subst (λ j. HeldOk r (shelf_at ss3 j) (held_at j hs)) (sym same)
-                (subst (λ y. HeldOk r y (held_at o hs)) (sym here) (other (held_at o hs) (a.each o))))
+          (subst (λ y. HeldOk r y (held_at o hs)) (sym here) (other (held_at o hs) (a.each o))))
           (λ ne. subst (λ y. HeldOk r y (held_at i hs)) (sym (shelf_else o i (written c x) h.shelves ne)) (a.each i));
     }
       where
@@ -133,7 +137,7 @@ module _ (n : ℕ) (key : RunPlan) (s : table.State Slot View) (h : Shown n key 
         other k (nothing empty none_held) = nothing empty none_held
         other k (sees d e is g m t v) = sees d e is g m t v
         other k (owns d e is g m t u z) = absurd (let y : false ≡ true = sym off
-              ∙ tells.alone h.count (map h.seats h.owners) h.shelves (core_notes h.told) h.reached o r v.seat.path e out.entry g t out.there out.hold in cc)
+            ∙ tells.alone h.count (map h.seats h.owners) h.shelves (core_notes h.told) h.reached o r v.seat.path e out.entry g t out.there out.hold in cc)
 
     shows : (i : ℕ) → shelf_of (shelf_at h.shelves i) ≡ shelf_of (shelf_at ss3 i)
     shows i = dite (ℕ_discrete i o)
@@ -148,10 +152,14 @@ module _ (n : ℕ) (key : RunPlan) (s : table.State Slot View) (h : Shown n key 
 
     pub write_on : Shown n key (record { words = s.words; homes = s.homes; views = set s.views id w3 })
     write_on =
-        renewed n key s h id v at_v w3 (quiet n key s h id v at_v alive tells (TouchWrite o c x) u3 ss3 w3 next_write (refl,
-              refl) (λ ns. refl) refl refl refl refl refl refl far own)
-        (λ i. part_else n key s h id v at_v alive tells (TouchWrite o c x) u3 ss3 w3 next_write (refl,
-              refl) (λ ns. refl) refl refl refl refl refl refl far own i (shows i))
+        renewed n key s h id v at_v w3 (quiet n key s h id v at_v alive tells (TouchWrite o c x) u3 ss3 w3 next_write (
+          refl,
+          refl,
+        ) (λ ns. refl) refl refl refl refl refl refl far own)
+        (λ i. part_else n key s h id v at_v alive tells (TouchWrite o c x) u3 ss3 w3 next_write (
+          refl,
+          refl,
+        ) (λ ns. refl) refl refl refl refl refl refl far own i (shows i))
         (record { turn = refl; place = λ e. refl; note = λ e. refl }) (λ e. e)
 
   -- one touch keeps the rule
@@ -159,7 +167,7 @@ module _ (n : ℕ) (key : RunPlan) (s : table.State Slot View) (h : Shown n key 
   touch_on t = go (upcoming v.seat.walker) refl t
     where
       go : (l : List Event) → upcoming v.seat.walker ≡ l → touches_first l ≡ true
-            → Shown n key (record { words = s.words; homes = s.homes; views = set s.views id (touched_first l v) })
+          → Shown n key (record { words = s.words; homes = s.homes; views = set s.views id (touched_first l v) })
       go [] q r = absurd (cc)
       go (Wants o c ∷ es) q r = read_on o c es q
       go (TouchWrite o c x ∷ es) q r = write_on o c x es q
@@ -187,8 +195,20 @@ pub record Same (v w : View) : Type 0 where
   pub children : w.seat.children ≡ v.seat.children
 
 all_same : (v : View) → Same v v
-all_same v = record { key = refl; live = refl; unborn = refl; over = refl; turn = refl; tries = refl; place = refl; word = refl; note = refl; path =
-      refl; children = refl }
+all_same v = record {
+  key = refl;
+  live = refl;
+  unborn = refl;
+  over = refl;
+  turn = refl;
+  tries = refl;
+  place = refl;
+  word = refl;
+  note = refl;
+  path =
+      refl;
+  children = refl;
+}
 
 abbrev same_after : (v w : View) → w ≡ record v { seat = w.seat; held = w.held } → w.seat.path ≡ v.seat.path → w.seat.children ≡ v.seat.children → Same v w
 same_after v w e p c = record {
@@ -255,13 +275,21 @@ and_right false b e = absurd (cc)
 
 -- so many touches keep the rule
 pub passing : (n : ℕ) (key : RunPlan) (s : table.State Slot View) → Shown n key s → (id : ℕ) (v : View) → get_elem? s.views id ≡ some v → v.live ≡ true
-      → CoreTells key.program key.numbers key.limit → (k : ℕ) → all_touches k v ≡ true
-      → Shown n key (record { words = s.words; homes = s.homes; views = set s.views id (passed k v) })
-passing n key s h id v at_v alive tells zero all = subst (λ l. Shown n key (record { words = s.words; homes = s.homes; views =
-      l })) (sym (set_self s.views id v at_v)) h
+    → CoreTells key.program key.numbers key.limit → (k : ℕ) → all_touches k v ≡ true
+    → Shown n key (record { words = s.words; homes = s.homes; views = set s.views id (passed k v) })
+passing n key s h id v at_v alive tells zero all = subst (λ l. Shown n key (record {
+  words = s.words;
+  homes = s.homes;
+  views =
+      l;
+})) (sym (set_self s.views id v at_v)) h
 passing n key s h id v at_v alive tells (suc k) all =
     subst (λ l. Shown n key (record { words = s.words; homes = s.homes; views = l })) (set_set s.views id (passed k v) (touched (passed k v)))
-    (touch_on n key (record { words = s.words; homes = s.homes; views =
-          set s.views id (passed k v) }) (passing n key s h id v at_v alive tells k (and_left (all_touches k v) (touch_next (passed k v)) all)) id (passed k v)
-          (set_here s.views id (passed k v) (at_inside s.views id v at_v)) ((passed_same k v).live
-          ∙ alive) tells (and_right (all_touches k v) (touch_next (passed k v)) all))
+    (touch_on n key (record {
+      words = s.words;
+      homes = s.homes;
+      views =
+          set s.views id (passed k v);
+    }) (passing n key s h id v at_v alive tells k (and_left (all_touches k v) (touch_next (passed k v)) all)) id (passed k v)
+    (set_here s.views id (passed k v) (at_inside s.views id v at_v)) ((passed_same k v).live
+    ∙ alive) tells (and_right (all_touches k v) (touch_next (passed k v)) all))

@@ -50,9 +50,9 @@ hold_of (Some e) = e.hold
 pub data HeldOk (p : List ℕ) (s : ObjectView) (h : Option Held) : Type 0 where
   nothing : h ≡ None → hold_of (find p s.queue) ≡ None → HeldOk p s h
   owns : (d : Held) (e : Entry) → h ≡ Some d → find p s.queue ≡ Some e → e.hold ≡ Some d.mode → takes_out e.hold ≡ true → e.version ≡ None → s.content ≡ d.cells
-        → HeldOk p s h
+      → HeldOk p s h
   sees : (d : Held) (e : Entry) → h ≡ Some d → find p s.queue ≡ Some e → e.hold ≡ Some d.mode → takes_out e.hold ≡ false → e.version ≡ Some d.cells
-        → HeldOk p s h
+      → HeldOk p s h
 
 pub record Agrees (p : List ℕ) (ss : List ObjectView) (hs : List (Option Held)) : Type 0 where
   pub each : (o : ℕ) → HeldOk p (shelf_at ss o) (held_at o hs)
@@ -84,7 +84,7 @@ module _ (n : ℕ) where
     taken : (v : View) → slice_index s.words o ≡ 1 → get_elem? s.views (holder o) ≡ some v → v.turn ≡ true → v.place ≡ o → PlaceOk s holder parts o
 
   pub record SeatOk (words : List ℕ) (owners : List ℕ) (seats : ℕ → Seat) (holder : ℕ → ℕ) (ss : List ObjectView) (parts : ℕ
-        → Slot) (key : RunPlan) (id : ℕ) (v : View) : Type 0 where
+      → Slot) (key : RunPlan) (id : ℕ) (v : View) : Type 0 where
     pub plan : v.live ≡ true → v.key ≡ key
     pub sits : Sits owners seats ss id v
     pub turn : v.turn ≡ true → TurnOk words holder parts id v
@@ -102,7 +102,7 @@ module _ (n : ℕ) where
     pub wide : length s.words ≡ suc n
     pub deep : length s.homes ≡ suc n
     pub passes : (id : ℕ) (v : View) → get_elem? s.views id ≡ some v
-          → SeatOk s.words owners seats holder shelves (λ o. part_of n o (map seats owners) shelves told) key id v
+        → SeatOk s.words owners seats holder shelves (λ o. part_of n o (map seats owners) shelves told) key id v
     pub only : Every (Owned s.views) owners
     pub places : (o : ℕ) → o < suc n → PlaceOk s holder (λ o. part_of n o (map seats owners) shelves told) o
 

@@ -11,13 +11,13 @@ ghost use Rattle.object_table.specs.steps.Kept.{FirstSlots, start_slots};
 
 use crate::answers::{Taken, Tried};
 use crate::pass::TaskPass;
-use jade_meaning::Plan;
 use crate::slot::Slot;
 use crate::task::Task;
 use crate::turns::{enter_at, give_at, leave_at, shift_at, take_at};
 use crate::view::{Sharing, View};
 use atomic_table::Table;
 use jade_base::{Content, Memory, Mode, ObjectId, Path, Right, Rights};
+use jade_meaning::Plan;
 use object_shelf::Shelf;
 use std::alloc::Global;
 use std::marker::Model;

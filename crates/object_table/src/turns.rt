@@ -15,12 +15,12 @@ ghost use Rattle.object_table.specs.declared.slot.Slot.{Slot as SlotOf};
 ghost use Rattle.jade_meaning.specs.Plan.{RunPlan};
 
 use crate::answers::{Taken, Tried};
-use jade_meaning::Plan;
 use crate::slot::Slot;
 use crate::task::Task;
 use crate::view::{Desist, Finish, Sharing, Try, View};
 use atomic_table::{Play, Seat, Shared};
 use jade_base::{Content, Memory, Mode, Path, Rights};
+use jade_meaning::Plan;
 use object_shelf::Shelf;
 use std::alloc::Global;
 
@@ -101,12 +101,7 @@ enum Handed {
 }
 
 // Hands the content out, where no entry keeps the task from it.
-fn hand_out(
-    shelf: &mut Shelf,
-    alloc: Global,
-    path: &Path,
-    mode: Mode,
-) -> Result<Handed, Memory>
+fn hand_out(shelf: &mut Shelf, alloc: Global, path: &Path, mode: Mode) -> Result<Handed, Memory>
     ensures { HandedAs shelf.old path.now mode result shelf.new }
 {
     match shelf.blocker(path, mode) {

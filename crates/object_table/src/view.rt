@@ -1,8 +1,8 @@
 //! What a pass knows, and how the steps on the words change it.
 
-use jade_meaning::Plan;
 use crate::slot::Slot;
 use atomic_table::{Play, TableRule};
+use jade_meaning::Plan;
 use std::marker::Model;
 
 /// What a pass shows. No value of it is made; it stands for the type of the views.

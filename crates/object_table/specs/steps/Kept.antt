@@ -50,7 +50,7 @@ Made o (Wants q c) v new = ⊥
 -- no path has two entries on an object
 pub record Once (key : RunPlan) : Type 0 where
   pub each : (k : ℕ) (roll : List Seat) (ss : List ObjectView) (notes : List PartNote) → Reached key.program key.numbers key.limit k roll ss notes
-        → (o : ℕ) (p : List ℕ) → find p (without p (shelf_at ss o).queue) ≡ None
+      → (o : ℕ) (p : List ℕ) → find p (without p (shelf_at ss o).queue) ≡ None
 
 -- what a task shows: what its seat shows, and its touches since
 abbrev pub shown : Task → View

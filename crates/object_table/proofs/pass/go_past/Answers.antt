@@ -35,7 +35,7 @@ returns-clause-shown c =
     let n = c.args.events in
     let r = c.requires.rests in
     λ k comes.
-      let top : n < 18446744073709551616 = let a = c.ranges.events.fits in omega (arith, a) in
+    let top : n < 18446744073709551616 = let a = c.ranges.events.fits in omega (arith, a) in
     let less = not_less t r n k top comes in
-      let d : n - t.events ≡ k = step_is t r n k top comes (n - t.events) (omega (arith, less)) in
-      ap (λ x. passed (t.touched + x) t.seat.me.0) d ∙ past_shown t r n k top comes
+    let d : n - t.events ≡ k = step_is t r n k top comes (n - t.events) (omega (arith, less)) in
+    ap (λ x. passed (t.touched + x) t.seat.me.0) d ∙ past_shown t r n k top comes

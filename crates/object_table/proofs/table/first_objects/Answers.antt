@@ -14,6 +14,6 @@ loop-object-preserved c =
     let n = c.size-size.result in
     let one : suc o ≡ o + 1 = omega arith in
     c.in_ok-push.ensures.items ∙ ap (λ s. c.loop-object.slots.items ++ slot.Object s ∷ []) (c.in_ok-shelf.ensures
-          ∙ ap (λ p. started p both_rights n) c.requires)
+    ∙ ap (λ p. started p both_rights n) c.requires)
     ∙ ap (λ xs. xs ++ slot.Object (started (0 ∷ []) both_rights n) ∷ []) c.loop-object.invariant ∙ sym (slots_more ns o n c.size-size.ensures)
-          ∙ ap (λ k. start_slots (take k ns)) one
+    ∙ ap (λ k. start_slots (take k ns)) one

@@ -52,9 +52,13 @@ leave_turn-requires-clause-allowed c =
     let is_kid : kid ≡ t.path ++ t.children ∷ [] = search rules in
     let new = slot.Object c.enter_in-entered.new.shelf in
     let made : c.enter_in-entered.new.shelf ≡ on_queue (entered_in t.path kid a) z = search rules in
-    may_finish t r key (c.core_laws.ensures key) slots seat1 o y new turn (Enter o c.args.rights) refl c.requires.next c.requires.fits.object
-    (refl, z, is, ap (λ q. slot.Object q) made ∙ ap (λ q. slot.Object (on_queue (entered_in t.path q a) z)) is_kid
-      ∙ λ i. slot.Object (on_queue (entered_in (path_is t r i) (path_is t r i ++ children_is t r i ∷ []) a) z))
+    may_finish t r key (c.core_laws.ensures key) slots seat1 o y new turn (Enter o c.args.rights) refl c.requires.next c.requires.fits.object (
+      refl,
+      z,
+      is,
+      ap (λ q. slot.Object q) made ∙ ap (λ q. slot.Object (on_queue (entered_in t.path q a) z)) is_kid
+          ∙ λ i. slot.Object (on_queue (entered_in (path_is t r i) (path_is t r i ++ children_is t r i ∷ []) a) z),
+    )
 
 pub returns-in-Ok-entered-clause-rests :
     goal.returns-in-Ok-entered-clause-rests
@@ -76,8 +80,8 @@ returns-in-Ok-entered-clause-rests c =
     let t3 = c.settle.new.task in
     let w = did (Enter o c.args.rights) (on_try true (suc t.seat.me.0.tries) o 0 y (shown t)) in
     let me : t3.seat.me ≡ (w, []) = ap (λ s. s.me) c.settle.ensures.seat
-          ∙ finished t r key (c.core_laws.ensures key) slots seat1 o y new turn (Enter o c.args.rights) refl c.requires.next c.leave_turn.new.seat.me
-          c.leave_turn.ensures.done in
+    ∙ finished t r key (c.core_laws.ensures key) slots seat1 o y new turn (Enter o c.args.rights) refl c.requires.next c.leave_turn.new.seat.me
+    c.leave_turn.ensures.done in
     done_rests t r t3 w me c.settle.ensures.path c.settle.ensures.events refl refl refl refl refl
 
 pub returns-in-Ok-entered-clause-answer :
@@ -100,8 +104,8 @@ returns-in-Ok-entered-clause-answer c =
     let t3 = c.settle.new.task in
     let w = did (Enter o c.args.rights) (on_try true (suc t.seat.me.0.tries) o 0 y (shown t)) in
     let me : t3.seat.me ≡ (w, []) = ap (λ s. s.me) c.settle.ensures.seat
-          ∙ finished t r key (c.core_laws.ensures key) slots seat1 o y new turn (Enter o c.args.rights) refl c.requires.next c.leave_turn.new.seat.me
-          c.leave_turn.ensures.done in
+    ∙ finished t r key (c.core_laws.ensures key) slots seat1 o y new turn (Enter o c.args.rights) refl c.requires.next c.leave_turn.new.seat.me
+    c.leave_turn.ensures.done in
     record { object = z; after = done_shown t r t3 w me c.settle.ensures.events.0 ∙ did_shown t r o z y (shown t).held is }
 
 pub leave_turn-requires-in-Err-entered-clause-allowed :
@@ -142,7 +146,7 @@ returns-clause-rests c =
     let is_kid : kid ≡ t.path ++ t.children ∷ [] = search rules in
     let new = slot.Object c.enter_in-entered.new.shelf in
     tried_rests t r c.leave_turn-in-Err-entered.new.seat (suc t.seat.me.0.tries) o 0 y
-          (off_is t r seat1 c.leave_turn-in-Err-entered.new.seat slots o y new turn c.leave_turn-in-Err-entered.ensures.done)
+    (off_is t r seat1 c.leave_turn-in-Err-entered.new.seat slots o y new turn c.leave_turn-in-Err-entered.ensures.done)
 
 pub returns-clause-unchanged :
     goal.returns-clause-unchanged

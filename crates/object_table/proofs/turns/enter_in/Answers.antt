@@ -8,6 +8,8 @@ pub returns-then-len-before : goal.returns-then-len-before
 returns-then-len-before c =
     let es = c.args.shelf.now.queue in
     let l : length (fitted_in c.args.parent.now c.args.child.now c.args.rights es) ≡ length es =
-        sym (ap (λ s. length s.queue) c.in_ok-enter.ensures.done) ∙ sym c.len.ensures ∙ c.if-len-before.true ∙ c.len-before.ensures in
-    c.in_ok-enter.ensures.done ∙ ap (λ (q : List Entry). record c.args.shelf.now { queue =
-          q }) (same-length c.args.parent.now c.args.child.now c.args.rights es l)
+    sym (ap (λ s. length s.queue) c.in_ok-enter.ensures.done) ∙ sym c.len.ensures ∙ c.if-len-before.true ∙ c.len-before.ensures in
+    c.in_ok-enter.ensures.done ∙ ap (λ (q : List Entry). record c.args.shelf.now {
+      queue =
+          q;
+    }) (same-length c.args.parent.now c.args.child.now c.args.rights es l)

@@ -68,8 +68,8 @@ returns-clause-rests c =
     let t3 = c.settle.new.task in
     let w = did (Leave o) (on_try true (suc t.seat.me.0.tries) o 0 y (shown t)) in
     let me : t3.seat.me ≡ (w, []) = ap (λ s. s.me) c.settle.ensures.seat
-          ∙ finished t r key (c.core_laws.ensures key) slots seat1 o y new turn (Leave o) refl c.requires.next c.leave_turn.new.seat.me
-          c.leave_turn.ensures.done in
+    ∙ finished t r key (c.core_laws.ensures key) slots seat1 o y new turn (Leave o) refl c.requires.next c.leave_turn.new.seat.me
+    c.leave_turn.ensures.done in
     done_rests t r t3 w me c.settle.ensures.path c.settle.ensures.events refl refl refl refl refl
 
 pub returns-clause-answer :
@@ -89,6 +89,6 @@ returns-clause-answer c =
     let t3 = c.settle.new.task in
     let w = did (Leave o) (on_try true (suc t.seat.me.0.tries) o 0 y (shown t)) in
     let me : t3.seat.me ≡ (w, []) = ap (λ s. s.me) c.settle.ensures.seat
-          ∙ finished t r key (c.core_laws.ensures key) slots seat1 o y new turn (Leave o) refl c.requires.next c.leave_turn.new.seat.me
-          c.leave_turn.ensures.done in
+    ∙ finished t r key (c.core_laws.ensures key) slots seat1 o y new turn (Leave o) refl c.requires.next c.leave_turn.new.seat.me
+    c.leave_turn.ensures.done in
     record { object = z; after = done_shown t r t3 w me c.settle.ensures.events.0 ∙ did_shown t r o z y (shown t).held is }

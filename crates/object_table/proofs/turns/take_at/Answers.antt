@@ -53,7 +53,7 @@ leave_turn-requires-clause-allowed c =
     let k = c.in-Ok-Content.content in
     let raw : HandedAs z t.path m (Ok (handing.Content k)) c.hand_out-handed.new.shelf = search rules in
     let made : HandedAs z (shown t).seat.path m (Ok (handing.Content k)) c.hand_out-handed.new.shelf =
-        subst (λ q. HandedAs z q m (Ok (handing.Content k)) c.hand_out-handed.new.shelf) (path_is t r) raw in
+    subst (λ q. HandedAs z q m (Ok (handing.Content k)) c.hand_out-handed.new.shelf) (path_is t r) raw in
     may_finish t r key (c.core_laws.ensures key) slots seat1 o y new turn (Take o c.args.mode) refl c.requires.next c.requires.fits.object
     (refl, z, is, made.0, ap (λ q. slot.Object q) made.3)
 
@@ -74,8 +74,8 @@ returns-in-Ok-Content-clause-rests c =
     let t3 = c.settle.new.task in
     let w = did (Take o c.args.mode) (on_try true (suc t.seat.me.0.tries) o 0 y (shown t)) in
     let me : t3.seat.me ≡ (w, []) = ap (λ s. s.me) c.settle.ensures.seat
-          ∙ finished t r key (c.core_laws.ensures key) slots seat1 o y new turn (Take o c.args.mode) refl c.requires.next c.leave_turn.new.seat.me
-          c.leave_turn.ensures.done in
+    ∙ finished t r key (c.core_laws.ensures key) slots seat1 o y new turn (Take o c.args.mode) refl c.requires.next c.leave_turn.new.seat.me
+    c.leave_turn.ensures.done in
     done_rests t r t3 w me c.settle.ensures.path c.settle.ensures.events refl refl refl refl refl
 
 pub returns-in-Ok-Content-clause-answer :
@@ -95,19 +95,27 @@ returns-in-Ok-Content-clause-answer c =
     let t3 = c.settle.new.task in
     let w = did (Take o c.args.mode) (on_try true (suc t.seat.me.0.tries) o 0 y (shown t)) in
     let me : t3.seat.me ≡ (w, []) = ap (λ s. s.me) c.settle.ensures.seat
-          ∙ finished t r key (c.core_laws.ensures key) slots seat1 o y new turn (Take o c.args.mode) refl c.requires.next c.leave_turn.new.seat.me
-          c.leave_turn.ensures.done in
+    ∙ finished t r key (c.core_laws.ensures key) slots seat1 o y new turn (Take o c.args.mode) refl c.requires.next c.leave_turn.new.seat.me
+    c.leave_turn.ensures.done in
     let m = c.args.mode in
     let k = c.in-Ok-Content.content in
     let raw : HandedAs z t.path m (Ok (handing.Content k)) c.hand_out-handed.new.shelf = search rules in
     let made : HandedAs z (shown t).seat.path m (Ok (handing.Content k)) c.hand_out-handed.new.shelf =
-        subst (λ q. HandedAs z q m (Ok (handing.Content k)) c.hand_out-handed.new.shelf) (path_is t r) raw in
+    subst (λ q. HandedAs z q m (Ok (handing.Content k)) c.hand_out-handed.new.shelf) (path_is t r) raw in
     let content : held_in m (handed_by (shown t).seat.path m y) ≡ Some k =
-        ap (λ q. held_in m (handed_by (shown t).seat.path m q)) is ∙ ap (held_in m) made.1 ∙ λ i. Some (record { mode = sym made.2 i; cells = k.cells }) in
-    let after : w ≡ record (on_try true (suc t.seat.me.0.tries) o 0 y (shown t)) { seat = seat_after None (shown t).seat; held =
-          put_held o (Some k) (shown t).held; turn = false } =
-        ap (λ q. record (on_try true (suc t.seat.me.0.tries) o 0 y (shown t)) { seat = seat_after None (shown t).seat; held =
-              put_held o q (shown t).held; turn = false }) content in
+    ap (λ q. held_in m (handed_by (shown t).seat.path m q)) is ∙ ap (held_in m) made.1 ∙ λ i. Some (record { mode = sym made.2 i; cells = k.cells }) in
+    let after : w ≡ record (on_try true (suc t.seat.me.0.tries) o 0 y (shown t)) {
+      seat = seat_after None (shown t).seat;
+      held =
+          put_held o (Some k) (shown t).held;
+      turn = false;
+    } =
+    ap (λ q. record (on_try true (suc t.seat.me.0.tries) o 0 y (shown t)) {
+      seat = seat_after None (shown t).seat;
+      held =
+          put_held o q (shown t).held;
+      turn = false;
+    }) content in
     record {
       object = z;
       free = made.0;
@@ -133,7 +141,7 @@ leave_turn-requires-in-Ok-Kept-clause-allowed c =
     let new = slot.Object c.hand_out-handed.new.shelf in
     let raw : HandedAs z t.path m (Ok (handing.Kept c.in-Ok-Kept.path)) c.hand_out-handed.new.shelf = search rules in
     let made : HandedAs z (shown t).seat.path m (Ok (handing.Kept c.in-Ok-Kept.path)) c.hand_out-handed.new.shelf =
-        subst (λ q. HandedAs z q m (Ok (handing.Kept c.in-Ok-Kept.path)) c.hand_out-handed.new.shelf) (path_is t r) raw in
+    subst (λ q. HandedAs z q m (Ok (handing.Kept c.in-Ok-Kept.path)) c.hand_out-handed.new.shelf) (path_is t r) raw in
     may_desist t r key (c.core_laws.ensures key) slots seat1 o y new turn (Take o c.args.mode) refl c.requires.next (ap (λ q. slot.Object q) made.0 ∙ sym is)
 
 pub returns-in-Ok-Kept-clause-rests :
@@ -153,9 +161,9 @@ returns-in-Ok-Kept-clause-rests c =
     let new = slot.Object c.hand_out-handed.new.shelf in
     let raw : HandedAs z t.path m (Ok (handing.Kept c.in-Ok-Kept.path)) c.hand_out-handed.new.shelf = search rules in
     let made : HandedAs z (shown t).seat.path m (Ok (handing.Kept c.in-Ok-Kept.path)) c.hand_out-handed.new.shelf =
-        subst (λ q. HandedAs z q m (Ok (handing.Kept c.in-Ok-Kept.path)) c.hand_out-handed.new.shelf) (path_is t r) raw in
+    subst (λ q. HandedAs z q m (Ok (handing.Kept c.in-Ok-Kept.path)) c.hand_out-handed.new.shelf) (path_is t r) raw in
     tried_rests t r c.leave_turn-in-Ok-Kept.new.seat (suc t.seat.me.0.tries) o 0 y
-          (off_is t r seat1 c.leave_turn-in-Ok-Kept.new.seat slots o y new turn c.leave_turn-in-Ok-Kept.ensures.done)
+    (off_is t r seat1 c.leave_turn-in-Ok-Kept.new.seat slots o y new turn c.leave_turn-in-Ok-Kept.ensures.done)
 
 pub returns-in-Ok-Kept-clause-answer :
     goal.returns-in-Ok-Kept-clause-answer
@@ -174,9 +182,15 @@ returns-in-Ok-Kept-clause-answer c =
     let new = slot.Object c.hand_out-handed.new.shelf in
     let raw : HandedAs z t.path m (Ok (handing.Kept c.in-Ok-Kept.path)) c.hand_out-handed.new.shelf = search rules in
     let made : HandedAs z (shown t).seat.path m (Ok (handing.Kept c.in-Ok-Kept.path)) c.hand_out-handed.new.shelf =
-        subst (λ q. HandedAs z q m (Ok (handing.Kept c.in-Ok-Kept.path)) c.hand_out-handed.new.shelf) (path_is t r) raw in
-    record { object = z; entry = made.1; keeps = made.2; path = made.3; after =
-          off_shown t r seat1 c.leave_turn-in-Ok-Kept.new.seat slots o y new turn c.leave_turn-in-Ok-Kept.ensures.done z is }
+    subst (λ q. HandedAs z q m (Ok (handing.Kept c.in-Ok-Kept.path)) c.hand_out-handed.new.shelf) (path_is t r) raw in
+    record {
+      object = z;
+      entry = made.1;
+      keeps = made.2;
+      path = made.3;
+      after =
+          off_shown t r seat1 c.leave_turn-in-Ok-Kept.new.seat slots o y new turn c.leave_turn-in-Ok-Kept.ensures.done z is;
+    }
 
 pub leave_turn-requires-in-Err-handed-clause-allowed :
     goal.leave_turn-requires-in-Err-handed-clause-allowed
@@ -195,7 +209,7 @@ leave_turn-requires-in-Err-handed-clause-allowed c =
     let new = slot.Object c.hand_out-handed.new.shelf in
     let raw : HandedAs z t.path m (Err c.in-Err-handed.field-0) c.hand_out-handed.new.shelf = search rules in
     let made : HandedAs z (shown t).seat.path m (Err c.in-Err-handed.field-0) c.hand_out-handed.new.shelf =
-        subst (λ q. HandedAs z q m (Err c.in-Err-handed.field-0) c.hand_out-handed.new.shelf) (path_is t r) raw in
+    subst (λ q. HandedAs z q m (Err c.in-Err-handed.field-0) c.hand_out-handed.new.shelf) (path_is t r) raw in
     may_desist t r key (c.core_laws.ensures key) slots seat1 o y new turn (Take o c.args.mode) refl c.requires.next (ap (λ q. slot.Object q) made ∙ sym is)
 
 pub returns-in-Err-handed-clause-rests :
@@ -215,9 +229,9 @@ returns-in-Err-handed-clause-rests c =
     let new = slot.Object c.hand_out-handed.new.shelf in
     let raw : HandedAs z t.path m (Err c.in-Err-handed.field-0) c.hand_out-handed.new.shelf = search rules in
     let made : HandedAs z (shown t).seat.path m (Err c.in-Err-handed.field-0) c.hand_out-handed.new.shelf =
-        subst (λ q. HandedAs z q m (Err c.in-Err-handed.field-0) c.hand_out-handed.new.shelf) (path_is t r) raw in
+    subst (λ q. HandedAs z q m (Err c.in-Err-handed.field-0) c.hand_out-handed.new.shelf) (path_is t r) raw in
     tried_rests t r c.leave_turn-in-Err-handed.new.seat (suc t.seat.me.0.tries) o 0 y
-          (off_is t r seat1 c.leave_turn-in-Err-handed.new.seat slots o y new turn c.leave_turn-in-Err-handed.ensures.done)
+    (off_is t r seat1 c.leave_turn-in-Err-handed.new.seat slots o y new turn c.leave_turn-in-Err-handed.ensures.done)
 
 pub returns-in-Err-handed-clause-answer :
     goal.returns-in-Err-handed-clause-answer
@@ -236,5 +250,5 @@ returns-in-Err-handed-clause-answer c =
     let new = slot.Object c.hand_out-handed.new.shelf in
     let raw : HandedAs z t.path m (Err c.in-Err-handed.field-0) c.hand_out-handed.new.shelf = search rules in
     let made : HandedAs z (shown t).seat.path m (Err c.in-Err-handed.field-0) c.hand_out-handed.new.shelf =
-        subst (λ q. HandedAs z q m (Err c.in-Err-handed.field-0) c.hand_out-handed.new.shelf) (path_is t r) raw in
+    subst (λ q. HandedAs z q m (Err c.in-Err-handed.field-0) c.hand_out-handed.new.shelf) (path_is t r) raw in
     off_before t r seat1 c.leave_turn-in-Err-handed.new.seat slots o y new turn c.leave_turn-in-Err-handed.ensures.done

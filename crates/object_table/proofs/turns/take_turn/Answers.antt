@@ -6,6 +6,9 @@ pub compare_exchange-found-requires : goal.compare_exchange-found-requires
 compare_exchange-found-requires c =
     let words = c.args.words.now in
     let wide = c.requires.table.2 in
-    let lt = c.requires.table.1 in
-    (c.requires.table.0, omega (arith, wide, lt), trying words.key words.table_id.slots c.args.seat.now.id c.args.place c.args.seat.now.me lt c.requires.rests.1
-          c.requires.rests.2)
+    let lt = c.requires.table.1 in (
+      c.requires.table.0,
+      omega (arith, wide, lt),
+      trying words.key words.table_id.slots c.args.seat.now.id c.args.place c.args.seat.now.me lt c.requires.rests.1
+          c.requires.rests.2,
+    )
