@@ -1,0 +1,354 @@
+-- The core goes on under a pass's new view, and the rule is kept: where no word changes, where a turn is taken, and where it is left.
+use Rattle.std.proofs.Common.{◌≡◌, ◌≢◌, ◌⊎◌, inl, inr, ℕ, suc, ◌<◌, true, false, eqb, List, ◌∷◌, ◌++◌}
+use Rattle.std.proofs.Common.{set, map, length, refl, sym, ap, ◌∙◌, subst, arith, eq-eqb, ne_eqb, length-set, get_or-set_same}
+use Rattle.std.specs.Prelude.{slice_index}
+use mathlib.Core.Logic.{dite}
+use mathlib.Core.Option.{none, some}
+use native.Mathlib.Decide.{ℕ_discrete}
+use lib.ListN.{get_elem?}
+use prog.Atomic.{either}
+use Rattle.atomic_table.specs.Table as table
+use Rattle.atomic_table.specs.Table.{Me, step, keeps, takes, gives, stepped, Allows, put_back, rest}
+use Rattle.atomic_table.proofs.Lists.{at_set, set_here, set_else, set_again}
+use Rattle.jade_meaning.specs.Laws.{Every}
+use Rattle.object_shelf.specs.Views.{ObjectView}
+use Rattle.schedule_core.specs.declared.steps.Seat.{Seat}
+use Rattle.task_roll.specs.declared.note.PartNote.{PartNote}
+use Rattle.schedule_core.specs.Plain.{Reached}
+use Rattle.jade_meaning.specs.Plan.{RunPlan}
+use Rattle.object_table.specs.Views.{count_of, View, part_of, core_notes}
+use Rattle.object_table.specs.Rule.{pass_of, Owned, Sits, TurnOk, PlaceOk, free, taken, SeatOk, Shown, Ruled}
+use Rattle.object_table.specs.Plays.{Told, tried_at, in_turn, tried, turned_off, left_as_it_was}
+use Rattle.object_table.specs.declared.slot.Slot.{Slot}
+use Rattle.object_table.proofs.Lists.{word_else, at_word, put, put_same, put_other, roll_split, at_inside, same_view, owned_set, every_with}
+
+-- a pass's turn is the same under another view
+pub record Still (v w : View) : Type 0 where
+  pub turn : w.turn ≡ v.turn
+  pub place : v.turn ≡ true → w.place ≡ v.place
+  pub note : v.turn ≡ true → w.note ≡ v.note
+
+module _ (n : ℕ) (key : RunPlan) (s : table.State Slot View) (h : Shown n key s) (id : ℕ) (v : View) (at_v : get_elem? s.views id ≡ some v) where
+  abbrev pub parts0 : ℕ → Slot
+  parts0 o = part_of n o (map h.seats h.owners) h.shelves h.told
+
+  -- seats, objects and notes that events reach, under a new view of this pass
+  pub record Goes (w : View) : Type 0 where
+    pub count : ℕ
+    pub owners : List ℕ
+    pub seats : ℕ → Seat
+    pub shelves : List ObjectView
+    pub told : List PartNote
+    pub reached : Reached key.program key.numbers key.limit count (map seats owners) shelves (core_notes told)
+    pub plan : w.live ≡ true → w.key ≡ key
+    pub own : Sits owners seats shelves id w
+    pub others : (j : ℕ) (z : View) → j ≢ id → get_elem? s.views j ≡ some z → Sits owners seats shelves j z
+    pub only : Every (Owned (set s.views id w)) owners
+
+  abbrev pub mine : SeatOk n s.words h.owners h.seats h.holder h.shelves parts0 key id v
+  mine = h.passes id v at_v
+
+  -- nothing is done
+  abbrev pub stays : (w : View) → (w.live ≡ true → w.key ≡ key) → w.live ≡ v.live → w.unborn ≡ v.unborn → Sits h.owners h.seats h.shelves id w → Goes w
+  stays w plan l u sits = record {
+    count = h.count;
+    owners = h.owners;
+    seats = h.seats;
+    shelves = h.shelves;
+    told = h.told;
+    reached = h.reached;
+    plan = plan;
+    own = sits;
+    others = λ j z ne e. (h.passes j z e).sits;
+    only = every_with (Owned s.views) (Owned (set s.views id w)) (λ x q. owned_set s.views id x v w at_v l u q) h.owners h.only;
+  }
+
+  module _ (w : View) (g : Goes w) where
+    abbrev pub parts1 : ℕ → Slot
+    parts1 o = part_of n o (map g.seats g.owners) g.shelves g.told
+
+    module _ (same : (p : ℕ) → parts0 p ≡ parts1 p) (still : Still v w) (alive : v.live ≡ true → w.live ≡ true) where
+      abbrev after : table.State Slot View
+      after = record { words = s.words; homes = s.homes; views = set s.views id w }
+
+      turn_on : (j : ℕ) (z : View) → TurnOk n s.words h.holder parts0 j z → TurnOk n s.words h.holder parts1 j z
+      turn_on j z t = record { inside = t.inside; word = t.word; holds = t.holds; found = t.found ∙ same z.place }
+
+      own_turn : w.turn ≡ true → TurnOk n s.words h.holder parts1 id w
+      own_turn e =
+          let had : v.turn ≡ true = sym still.turn ∙ e in
+          let t = mine.turn had in
+          let place = still.place had in
+          record {
+            inside = subst (λ p. p < suc n) (sym place) t.inside;
+            word = ap (λ p. slice_index s.words p) place ∙ t.word;
+            holds = ap h.holder place ∙ t.holds;
+            found = still.note had ∙ t.found ∙ ap parts0 (sym place) ∙ same w.place;
+          }
+
+      renewed_seat : (j : ℕ) (z : View) → get_elem? after.views j ≡ some z → SeatOk n s.words g.owners g.seats h.holder g.shelves parts1 key j z
+      renewed_seat j z e = go (at_set s.views id j w z e)
+        where
+          go : ((j ≡ id) × (w ≡ z)) ⊎ ((j ≢ id) × (get_elem? s.views j ≡ some z)) → SeatOk n s.words g.owners g.seats h.holder g.shelves parts1 key j z
+          go (inl x) =
+              subst (λ (q : ℕ × View). SeatOk n s.words g.owners g.seats h.holder g.shelves parts1 key q.0 q.1) (λ i. (sym x.0 i, x.1 i))
+              (record { plan = g.plan; sits = g.own; turn = own_turn; busy = λ e. alive (mine.busy (sym still.turn ∙ e)) })
+          go (inr x) = let q = h.passes j z x.1 in record { plan = q.plan; sits = g.others j z x.0 x.1; turn = λ e. turn_on j z (q.turn e); busy = q.busy }
+
+      renewed_place : (p : ℕ) → PlaceOk n s h.holder parts0 p → PlaceOk n after h.holder parts1 p
+      renewed_place p (free y w0 e q) = free y w0 e (q ∙ same p)
+      renewed_place p (taken z w1 e t l) = dite (ℕ_discrete (h.holder p) id)
+          (λ eq.
+          let q : v ≡ z = same_view s.views id (h.holder p) v z at_v e eq in
+          let had : v.turn ≡ true = ap (λ (k : View). k.turn) q ∙ t in
+          taken w w1 (subst (λ i. get_elem? after.views i ≡ some w) (sym eq) (set_here s.views id w (at_inside s.views id v at_v))) (still.turn
+          ∙ had) (still.place had ∙ ap (λ (k : View). k.place) q ∙ l))
+          (λ ne. taken z w1 (set_else s.views id (h.holder p) w ne ∙ e) t l)
+
+      pub renewed : Shown n key after
+      renewed = record {
+        count = g.count;
+        owners = g.owners;
+        seats = g.seats;
+        shelves = g.shelves;
+        told = g.told;
+        holder = h.holder;
+        reached = g.reached;
+        wide = h.wide;
+        deep = h.deep;
+        passes = renewed_seat;
+        only = g.only;
+        places = λ p lt. renewed_place p (h.places p lt);
+      }
+
+    module _ (o : ℕ) (turn : v.turn ≡ true) (place : v.place ≡ o) (carried : List (ℕ × Slot)) (new : Slot) (has : carried
+        ≡ (o, new) ∷ rest carried) (off : w.turn ≡ false) (here : new ≡ parts1 o) (parts : (p : ℕ) → p ≢ o → parts0 p ≡ parts1 p) where
+      abbrev back : table.State Slot View
+      back = stepped s o 0 id carried w gives
+
+      my_turn : TurnOk n s.words h.holder parts0 id v
+      my_turn = mine.turn turn
+
+      inside : o < suc n
+      inside = subst (λ p. p < suc n) place my_turn.inside
+
+      my_word : h.holder o ≡ id
+      my_word = ap h.holder (sym place) ∙ my_turn.holds
+
+      homes_are : put_back s.homes carried ≡ set s.homes o (some new)
+      homes_are = ap (put_back s.homes) has
+
+      leaving_seat : (j : ℕ) (z : View) → get_elem? back.views j ≡ some z → SeatOk n back.words g.owners g.seats h.holder g.shelves parts1 key j z
+      leaving_seat j z e = go (at_set s.views id j w z e)
+        where
+          old : j ≢ id → TurnOk n s.words h.holder parts0 j z → TurnOk n back.words h.holder parts1 j z
+          old other t =
+              let ne : z.place ≢ o = λ e. absurd (other (sym t.holds ∙ ap h.holder e ∙ my_word)) in
+              record { inside = t.inside; word = word_else s.words o z.place 0 ne ∙ t.word; holds = t.holds; found = t.found ∙ parts z.place ne }
+
+          go : ((j ≡ id) × (w ≡ z)) ⊎ ((j ≢ id) × (get_elem? s.views j ≡ some z)) → SeatOk n back.words g.owners g.seats h.holder g.shelves parts1 key j z
+          go (inl x) =
+              subst (λ (q : ℕ × View). SeatOk n back.words g.owners g.seats h.holder g.shelves parts1 key q.0 q.1) (λ i. (sym x.0 i, x.1 i))
+              (record {
+                plan = g.plan;
+                sits = g.own;
+                turn = λ e. absurd (let r : false ≡ true = sym off ∙ e in cc);
+                busy =
+                    λ e. absurd (let r : false ≡ true = sym off ∙ e in cc);
+              })
+          go (inr x) = let q = h.passes j z x.1 in record { plan = q.plan; sits = g.others j z x.0 x.1; turn = λ e. old x.0 (q.turn e); busy = q.busy }
+
+      leaving_place : (p : ℕ) → p < suc n → PlaceOk n back h.holder parts1 p
+      leaving_place p lt = dite (ℕ_discrete p o) (λ e. subst (λ q. PlaceOk n back h.holder parts1 q) (sym e) mine_now) (λ ne. other ne (h.places p lt))
+        where
+          mine_now : PlaceOk n back h.holder parts1 o
+          mine_now =
+              let wide = h.wide in
+              let deep = h.deep in
+              let lt = inside in
+              free new (get_or-set_same s.words o 0 0 (omega arith)) (ap (λ (hs : List _). get_elem? hs o) homes_are
+              ∙ set_here s.homes o (some new) (omega arith)) here
+
+          other : p ≢ o → PlaceOk n s h.holder parts0 p → PlaceOk n back h.holder parts1 p
+          other ne (free z w0 e q) = free z (word_else s.words o p 0 ne ∙ w0) (ap (λ (hs : List _). get_elem? hs p) homes_are
+              ∙ set_else s.homes o p (some new) ne ∙ e) (q ∙ parts p ne)
+          other ne (taken z w1 e t l) =
+              let apart : h.holder p ≢ id = λ same. absurd (let q : v ≡ z = same_view s.views id (h.holder p) v z at_v e same in
+              ne (sym l ∙ sym (ap (λ (k : View). k.place) q) ∙ place)) in
+              taken z (word_else s.words o p 0 ne ∙ w1) (set_else s.views id (h.holder p) w apart ∙ e) t l
+
+      pub leaving : Shown n key back
+      leaving = record {
+        count = g.count;
+        owners = g.owners;
+        seats = g.seats;
+        shelves = g.shelves;
+        told = g.told;
+        holder = h.holder;
+        reached = g.reached;
+        wide = length-set s.words o 0 ∙ h.wide;
+        deep = ap length homes_are ∙ length-set s.homes o (some new) ∙ h.deep;
+        passes = leaving_seat;
+        only = g.only;
+        places = leaving_place;
+      }
+
+  -- a turn is taken
+  module _ (o : ℕ) (room : o < suc n) (idle : v.turn ≡ false) (alive : v.live ≡ true) (y : Slot) (w0 : slice_index s.words o ≡ 0) (is : y
+      ≡ parts0 o) (carried : List (ℕ × Slot)) where
+    abbrev having : View
+    having = in_turn o y v
+
+    abbrev next : table.State Slot View
+    next = stepped s o 1 id carried having (takes o y)
+
+    taking_seat : (j : ℕ) (z : View) → get_elem? next.views j ≡ some z → SeatOk n next.words h.owners h.seats (put h.holder o id) h.shelves parts0 key j z
+    taking_seat j z e = go (at_set s.views id j having z e)
+      where
+        old : TurnOk n s.words h.holder parts0 j z → TurnOk n next.words (put h.holder o id) parts0 j z
+        old t =
+            let ne : z.place ≢ o = λ e. absurd (let a = t.word in let b : slice_index s.words z.place ≡ 0 = subst (λ i. slice_index s.words i ≡ 0) (sym e) w0 in
+            omega arith) in
+            record {
+              inside = t.inside;
+              word = word_else s.words o z.place 1 ne ∙ t.word;
+              holds = put_other h.holder o id z.place ne ∙ t.holds;
+              found =
+                  t.found;
+            }
+
+        go : ((j ≡ id) × (having ≡ z)) ⊎ ((j ≢ id) × (get_elem? s.views j ≡ some z))
+            → SeatOk n next.words h.owners h.seats (put h.holder o id) h.shelves parts0 key j z
+        go (inl x) =
+            let k = mine.sits in
+            let wide = h.wide in
+            subst (λ (q : ℕ × View). SeatOk n next.words h.owners h.seats (put h.holder o id) h.shelves parts0 key q.0 q.1) (λ i. (sym x.0 i, x.1 i)) (record {
+              plan = mine.plan;
+              sits = record { live = k.live; held = k.held; unborn = k.unborn; unheld = k.unheld; over = k.over };
+              turn = λ e. record { inside = room; word = get_or-set_same s.words o 1 0 (omega arith); holds = put_same h.holder o id; found = is };
+              busy = λ e. alive;
+            })
+        go (inr x) = let q = h.passes j z x.1 in record { plan = q.plan; sits = q.sits; turn = λ e. old (q.turn e); busy = q.busy }
+
+    taking_place : (p : ℕ) → p < suc n → PlaceOk n next (put h.holder o id) parts0 p
+    taking_place p lt = dite (ℕ_discrete p o) (λ e. subst (λ q. PlaceOk n next (put h.holder o id) parts0 q) (sym e) here) (λ ne. other ne (h.places p lt))
+      where
+        here : PlaceOk n next (put h.holder o id) parts0 o
+        here =
+            let wide = h.wide in
+            taken having (get_or-set_same s.words o 1 0 (omega arith)) (subst (λ i. get_elem? next.views i
+            ≡ some having) (sym (put_same h.holder o id)) (set_here s.views id having (at_inside s.views id v at_v))) refl refl
+
+        other : p ≢ o → PlaceOk n s h.holder parts0 p → PlaceOk n next (put h.holder o id) parts0 p
+        other ne (free z w1 e q) = free z (word_else s.words o p 1 ne ∙ w1) (set_else s.homes o p none ne ∙ e) q
+        other ne (taken z w1 e t l) =
+            let apart : h.holder p ≢ id = λ same. absurd (let q : v ≡ z = same_view s.views id (h.holder p) v z at_v e same in let r : false ≡ true = sym idle
+            ∙ ap (λ (k : View). k.turn) q ∙ t in cc) in
+            taken z (word_else s.words o p 1 ne ∙ w1) (subst (λ i. get_elem? next.views i
+            ≡ some z) (sym (put_other h.holder o id p ne)) (set_else s.views id (h.holder p) having apart ∙ e)) t l
+
+    pub taking : Shown n key next
+    taking = record {
+      count = h.count;
+      owners = h.owners;
+      seats = h.seats;
+      shelves = h.shelves;
+      told = h.told;
+      holder = put h.holder o id;
+      reached = h.reached;
+      wide = length-set s.words o 1 ∙ h.wide;
+      deep = length-set s.homes o none ∙ h.deep;
+      passes = taking_seat;
+      only = every_with (Owned s.views) (Owned next.views) (λ x q. owned_set s.views id x v having at_v refl refl q) h.owners h.only;
+      places = taking_place;
+    }
+
+    -- what the pass is told of what it found
+    pub tells : (slots : ℕ) → slots ≡ suc n → Told slots v o y
+    tells slots sized =
+        let there = mine.sits.live alive in
+        let roll : map h.seats h.owners ≡ map h.seats there.spot.front ++ (v.seat ∷ map h.seats there.spot.back) =
+        ap (map h.seats) there.spot.is ∙ roll_split h.seats (pass_of id) there.spot.front there.spot.back
+        ∙ ap (λ x. map h.seats there.spot.front ++ (x ∷ map h.seats there.spot.back)) there.is in
+        record {
+          objects = n;
+          sized = sized;
+          count = h.count;
+          front = map h.seats there.spot.front;
+          back = map h.seats there.spot.back;
+          shelves = h.shelves;
+          notes = h.told;
+          reached = subst (λ (k : RunPlan). Reached k.program k.numbers k.limit h.count (map h.seats there.spot.front ++ (v.seat ∷ map h.seats there.spot.back))
+              h.shelves (core_notes h.told)) (sym (mine.plan alive))
+              (subst (λ r. Reached key.program key.numbers key.limit h.count r h.shelves (core_notes h.told)) roll h.reached);
+          agrees = mine.sits.held alive;
+          shows = is ∙ ap (λ r. part_of n o r h.shelves h.told) roll;
+        }
+
+  -- another has the turn
+  module _ (o : ℕ) (idle : v.turn ≡ false) (room : o < suc n) (x : ℕ) (is : x ≡ slice_index s.words o) (carried : List (ℕ × Slot)) where
+    abbrev missing : View
+    missing = tried_at o 1 v
+
+    pub missed : Shown n key (stepped s o x id carried missing keeps)
+    missed =
+        let k = mine.sits in
+        let wide = h.wide in
+        let g : Goes missing = stays missing mine.plan refl refl (record {
+          live = k.live;
+          held = k.held;
+          unborn = k.unborn;
+          unheld = k.unheld;
+          over =
+              k.over;
+        }) in
+        let still : Still v missing = record { turn = refl; place = λ e. absurd (let r : false ≡ true = sym idle ∙ e in cc); note = λ e. refl } in
+        let same : s.words ≡ set s.words o x = sym (set_again s.words o x (at_word s.words o (omega arith) ∙ ap some (sym is))) in
+        subst (λ ws. Shown n key (record { words = ws; homes = s.homes; views = set s.views id missing })) same (renewed missing g (λ p. refl) still (λ e. e))
+
+  -- a turn is left with nothing changed
+  module _ (o : ℕ) (turn : v.turn ≡ true) (place : v.place ≡ o) (carried : List (ℕ × Slot)) (new : Slot) (has : carried ≡ (o, new) ∷ rest carried) (same : new
+      ≡ v.note) where
+    pub desisted : Shown n key (stepped s o 0 id carried (turned_off v) gives)
+    desisted =
+        let k = mine.sits in
+        let w = turned_off v in
+        let g : Goes w = stays w mine.plan refl refl (record { live = k.live; held = k.held; unborn = k.unborn; unheld = k.unheld; over = k.over }) in
+        leaving w g o turn place carried new has refl (same ∙ (mine.turn turn).found ∙ ap parts0 place) (λ p ne. refl)
+
+-- a try at a turn
+pub trying : (key : RunPlan) (slots id o : ℕ) (me : Me Slot View) → o < slots → me.0.turn ≡ false → me.0.live ≡ true
+    → Allows (Ruled key) slots id me o (λ x. either (eqb x 0) 1 x) (tried (step slots o 0 1 none) me)
+trying key slots id o me fits idle alive s h long at _ = go (h.places o room)
+  where
+    room : o < suc (count_of key)
+    room = let deep = h.deep in omega arith
+
+    x : ℕ
+    x = slice_index s.words o
+
+    go : PlaceOk (count_of key) s h.holder (λ p. part_of (count_of key) p (map h.seats h.owners) h.shelves h.told) o → (w : View) × (a : table.Act Slot)
+        × table.Valid s.homes me.1 a × Ruled key (stepped s o (either (eqb x 0) 1 x) id me.1 w a)
+        × tried (step slots o 0 1 none) me x (w, table.carried_after me.1 a)
+    go (free y w0 home is) = (
+      in_turn o y me.0,
+      takes o y,
+      home,
+      subst (λ z. Ruled key (stepped s o z id me.1 (in_turn o y me.0) (takes o y))) (sym (ap (λ b. either b 1 x) (eq-eqb x 0 w0)))
+          (taking (count_of key) key s h id me.0 at o room idle alive y w0 is me.1),
+      ((λ e. (y, refl, λ l. tells (count_of key) key s h id me.0 at o room idle alive y w0 is me.1 slots (sym long ∙ h.deep))), λ ne. absurd (ne w0)),
+    )
+    go (taken v w1 e t l) = (
+      tried_at o 1 me.0,
+      keeps,
+      tt,
+      subst (λ z. Ruled key (stepped s o z id me.1 (tried_at o 1 me.0) keeps)) (sym (ap (λ b. either b 1 x) (ne_eqb x 0 (λ z. absurd (omega arith)))))
+          (missed (count_of key) key s h id me.0 at o idle room x refl me.1),
+      ((λ e0. absurd (omega arith)), λ ne. (w1, refl)),
+    )
+
+-- a turn left with nothing changed
+pub desisting : (key : RunPlan) (slots id o : ℕ) (me : Me Slot View) (new : Slot) → me.0.turn ≡ true → me.0.place ≡ o → me.1 ≡ (o, new) ∷ rest me.1 → new
+    ≡ me.0.note → Allows (Ruled key) slots id me o (λ x. 0) (λ x. left_as_it_was (step slots o 0 0 none) me 0)
+desisting key slots id o me new turn place has same s h _ at _ =
+    (turned_off me.0, gives, tt, desisted (count_of key) key s h id me.0 at o turn place me.1 new has same, refl)

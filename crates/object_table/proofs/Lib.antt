@@ -1,0 +1,11 @@
+pub mod Lists
+pub mod Entries
+pub mod Goes
+pub mod Quiet
+pub mod Touching
+pub mod Effects
+pub mod Finishing
+pub mod Calls
+pub mod Onces
+pub mod Starts
+pub mod Passing

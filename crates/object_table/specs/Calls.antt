@@ -1,0 +1,92 @@
+-- What a pass is between two calls, and what the calls answer.
+use Rattle.std.specs.Prelude.{◌≡◌, ◌+◌, ℕ, suc, true, List, Option, Some, None, Result, Ok, Err}
+use Rattle.atomic_table.specs.Seated.{TableId}
+use Rattle.jade_base.specs.Held.{Held}
+use Rattle.jade_base.specs.declared.failure.Memory.{Memory}
+use Rattle.jade_base.specs.declared.rights.Mode.{Mode}
+use Rattle.jade_meaning.specs.Talk.{Event}
+use Rattle.jade_meaning.specs.Walk.{upcoming, First}
+use Rattle.object_shelf.specs.declared.queue.Entry.{Entry}
+use Rattle.object_shelf.specs.Views.{ShelfView}
+use Rattle.object_shelf.specs.Shelves.{keeper_in}
+use Rattle.object_shelf.specs.Homes.{hand_in}
+use Rattle.schedule_core.specs.Plain.{seat_after}
+use Rattle.jade_meaning.specs.Plan.{RunPlan}
+use Rattle.object_table.specs.Views.{View}
+use Rattle.object_table.specs.Touches.{put_held, all_touches}
+use Rattle.object_table.specs.declared.slot.Slot.TheVariants as slot
+use Rattle.object_table.specs.declared.answers.Taken.{Taken}
+use Rattle.object_table.specs.declared.answers.Taken.TheVariants as taken
+use Rattle.object_table.specs.declared.answers.Tried.{Tried}
+use Rattle.object_table.specs.declared.answers.Tried.TheVariants as tried
+
+-- which table it is, which all its passes have too, and the plan that it is of
+pub record Desk : Type 0 where
+  pub mark : TableId
+  pub plan : RunPlan
+
+-- the pass of a task: the mark of its table, and what it shows
+pub record Pass : Type 0 where
+  pub mark : TableId
+  pub shows : View
+
+-- an event is the next one of a live pass, whose children all have passes
+pub record Next (e : Event) (v : View) : Type 0 where
+  pub live : v.live ≡ true
+  pub born : v.unborn ≡ None
+  pub first : First (upcoming v.seat.walker) (λ x. x ≡ e)
+
+-- as before, but for the tries and what the last of them found
+pub record AsBefore (v w : View) : Type 0 where
+  pub same : w ≡ record v { tries = w.tries; place = w.place; word = w.word; note = w.note }
+
+-- one try more, which read 0 at this object, whose slot showed this
+abbrev pub saw : ℕ → ShelfView → View → View
+saw o x v = record v { tries = suc v.tries; place = o; word = 0; note = slot.Object x }
+
+-- one try more, which read 1 at this place
+abbrev pub found_busy : ℕ → View → View
+found_busy o v = record v { tries = suc v.tries; place = o; word = 1 }
+
+-- a Take: no entry keeps the task from it, the content is the one that the object hands out, and it is held from then on
+pub record Took (o : ℕ) (m : Mode) (c : Held) (v w : View) : Type 0 where
+  pub object : ShelfView
+  pub free : keeper_in v.seat.path m object.queue ≡ None
+  pub content : hand_in v.seat.path m object ≡ Some c.cells
+  pub mode : c.mode ≡ m
+  pub after : w ≡ record (saw o object v) { seat = seat_after None v.seat; held = put_held o (Some c) v.held }
+
+-- the entry of this path keeps the task from a Take, as it was read in this turn
+pub record KeptBy (q : List ℕ) (o : ℕ) (m : Mode) (v w : View) : Type 0 where
+  pub object : ShelfView
+  pub entry : Entry
+  pub keeps : keeper_in v.seat.path m object.queue ≡ Some entry
+  pub path : q ≡ entry.path
+  pub after : w ≡ saw o object v
+
+-- this try read that the word is taken
+pub record IsBusy (n : ℕ) (o : ℕ) (v w : View) : Type 0 where
+  pub word : n ≡ 1
+  pub after : w ≡ found_busy o v
+
+-- what a try to take an object answers
+abbrev pub TakenAs : ℕ → Mode → View → Result Taken Memory → View → Type 0
+TakenAs o m v (Ok (taken.Got c)) w = Took o m c v w
+TakenAs o m v (Ok (taken.NotYet q)) w = KeptBy q o m v w
+TakenAs o m v (Ok (taken.Busy n)) w = IsBusy n o v w
+TakenAs o m v (Err e) w = AsBefore v w
+
+-- an event on an object that changes what the task holds to this
+pub record Did (o : ℕ) (held : List (Option Held)) (v w : View) : Type 0 where
+  pub object : ShelfView
+  pub after : w ≡ record (saw o object v) { seat = seat_after None v.seat; held = held }
+
+-- what a try at such an event answers
+abbrev pub TriedAs : ℕ → View → Tried → View → Type 0
+TriedAs o v tried.Done w = Did o v.held v w
+TriedAs o v (tried.Busy n) w = IsBusy n o v w
+
+-- the next k events are touches, after which so many events are done
+pub record Comes (k events : ℕ) (v : View) : Type 0 where
+  pub count : events ≡ v.seat.walker.done + k
+  pub touches : all_touches k v ≡ true

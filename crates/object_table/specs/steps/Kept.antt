@@ -1,0 +1,122 @@
+-- What the calls keep between their steps.
+use Rattle.std.specs.Prelude.{◌≡◌, ◌<◌, ◌%◌, ◌^◌, ℕ, suc, true, false, List, [], ◌∷◌, ◌++◌, Some, None, Result, Ok, Err}
+use mathlib.Core.Option.{none}
+use Rattle.atomic_table.specs.Table.{Me, Step, step, rest, Allows}
+use Rattle.jade_base.specs.Held.{Held}
+use Rattle.jade_base.specs.declared.failure.Memory.{Memory}
+use Rattle.jade_base.specs.declared.rights.Mode.{Mode}
+use Rattle.jade_base.specs.declared.rights.Rights.{Rights}
+use Rattle.object_shelf.specs.declared.queue.Entry.{Entry}
+use Rattle.jade_meaning.specs.Talk.{Event, Enter, Enroll, Take, TouchRead, TouchWrite, Wants, Give, Leave, Shift, Resign}
+use Rattle.object_shelf.specs.Views.{ObjectView, ShelfView}
+use Rattle.object_shelf.specs.Shelves.{find, keeper_in, at, without, entered_in, with_rights}
+use Rattle.object_shelf.specs.Homes.{hand_in, handed, returned, on_queue, started}
+use Rattle.task_roll.specs.Rolls.{started as begun}
+use Rattle.jade_base.specs.Rights.{both_rights}
+use Rattle.schedule_core.specs.declared.steps.Seat.{Seat}
+use Rattle.task_roll.specs.declared.note.PartNote.{PartNote}
+use Rattle.schedule_core.specs.ByNumber.{shelf_at}
+use Rattle.schedule_core.specs.Plain.{Reached}
+use Rattle.schedule_core.specs.Tells.{CoreTells, EntriesAreThere}
+use Rattle.jade_meaning.specs.Plan.{RunPlan}
+use Rattle.object_table.specs.Views.{count_of, View}
+use Rattle.object_table.specs.Touches.{held_at, passed, all_touches}
+use Rattle.object_table.specs.Rule.{Ruled}
+use Rattle.object_table.specs.Plays.{Told, in_turn}
+use Rattle.object_table.specs.declared.task.Task.{Task}
+use Rattle.atomic_table.specs.Seated.{TableId}
+use Rattle.object_table.specs.declared.turns.Handed.{Handed}
+use Rattle.object_table.specs.declared.turns.Handed.TheVariants as handing
+use Rattle.object_table.specs.declared.slot.Slot.{Slot}
+use Rattle.object_table.specs.declared.slot.Slot.TheVariants as slot
+
+-- the value that an event on an object makes of the slot's that was found
+abbrev pub Made : ℕ → Event → View → Slot → Type 0
+Made o (Take q m) v new =
+    (q ≡ o) × (y : ShelfView) × (v.note ≡ slot.Object y) × (keeper_in v.seat.path m y.queue ≡ None) × (new ≡ slot.Object (handed v.seat.path m y))
+Made o (Give q) v new =
+    (q ≡ o) × (y : ShelfView) × (c : Held) × (v.note ≡ slot.Object y) × (held_at o v.held ≡ Some c) × (new ≡ slot.Object (returned v.seat.path c y))
+Made o (Enter q a) v new =
+    (q ≡ o) × (y : ShelfView) × (v.note ≡ slot.Object y) × (new ≡ slot.Object (on_queue (entered_in v.seat.path (v.seat.path ++ v.seat.children ∷ []) a) y))
+Made o (Shift q a) v new =
+    (q ≡ o) × (y : ShelfView) × (v.note ≡ slot.Object y) × (new ≡ slot.Object (on_queue (at v.seat.path (with_rights a)) y))
+Made o (Leave q) v new = (q ≡ o) × (y : ShelfView) × (v.note ≡ slot.Object y) × (new ≡ slot.Object (on_queue (without v.seat.path) y))
+Made o (Enroll t n) v new = ⊥
+Made o (Resign b n) v new = ⊥
+Made o (TouchRead q c x) v new = ⊥
+Made o (TouchWrite q c x) v new = ⊥
+Made o (Wants q c) v new = ⊥
+
+-- no path has two entries on an object
+pub record Once (key : RunPlan) : Type 0 where
+  pub each : (k : ℕ) (roll : List Seat) (ss : List ObjectView) (notes : List PartNote) → Reached key.program key.numbers key.limit k roll ss notes
+      → (o : ℕ) (p : List ℕ) → find p (without p (shelf_at ss o).queue) ≡ None
+
+-- what a task shows: what its seat shows, and its touches since
+abbrev pub shown : Task → View
+shown t = passed t.touched t.seat.me.0
+
+-- a pass between two calls: it has no slot and no turn, and its fields are what it shows
+pub record Rests (t : Task) : Type 0 where
+  pub holds : t.seat.me.1 ≡ []
+  pub idle : t.seat.me.0.turn ≡ false
+  pub touches : all_touches t.touched t.seat.me.0 ≡ true
+  pub path : t.path ≡ t.seat.me.0.seat.path
+  pub children : t.children ≡ t.seat.me.0.seat.children
+  pub events : t.events ≡ (shown t).seat.walker.done % 2 ^ 64
+  pub over : t.over ≡ t.seat.me.0.over
+
+-- the words and slots are those of the objects and of the roll
+pub record Laid (z : TableId) (key : RunPlan) : Type 0 where
+  pub wide : z.words ≡ z.slots
+  pub deep : z.slots ≡ suc (count_of key)
+
+-- the task is of this table, and the object is one of its program's
+pub record Fits (z : TableId) (key : RunPlan) (t : Task) (o : ℕ) : Type 0 where
+  pub laid : Laid z key
+  pub mark : t.seat.table_id ≡ z
+  pub object : o < count_of key
+
+-- a seat has the turn at a place, and the value that the slot showed
+pub record InTurn (slots o : ℕ) (y : Slot) (old new : Me Slot View) : Type 0 where
+  pub me : new ≡ (in_turn o y old.0, (o, slot.Away) ∷ [])
+  pub told : Told slots old.0 o y
+
+-- the seat with this value in place of the slot's that it took last
+abbrev pub with_slot : ℕ → Slot → Me Slot View → Me Slot View
+with_slot o new me = (me.0, (o, new) ∷ rest me.1)
+
+-- a seat may leave a turn in this way
+abbrev pub Leaves : (Step Slot → Me Slot View → ℕ → Me Slot View → Type 0) → RunPlan → (slots id : ℕ) → Me Slot View → ℕ → Type 0
+Leaves play key slots id me o = Allows (Ruled key) slots id me o (λ x. 0) (λ x. play (step slots o 0 0 none) me 0)
+
+-- what is true of every core of a plan
+pub record Laws (key : RunPlan) : Type 0 where
+  pub tells : CoreTells key.program key.numbers key.limit
+  pub entries : EntriesAreThere key.program key.numbers key.limit
+  pub once : Once key
+
+-- a slot's value is an object's
+abbrev pub IsObject : Slot → Type 0
+IsObject (slot.Object y) = Unit {0}
+IsObject slot.Away = ⊥
+IsObject (slot.Roll r) = ⊥
+
+-- what a Take makes of an object: the content is handed out, or an entry keeps the task from it
+abbrev pub HandedAs : ShelfView → List ℕ → Mode → Result Handed Memory → ShelfView → Type 0
+HandedAs y p m (Ok (handing.Content c)) z = (keeper_in p m y.queue ≡ None) × (hand_in p m y ≡ Some c.cells) × (c.mode ≡ m) × (z ≡ handed p m y)
+HandedAs y p m (Ok (handing.Kept q)) z = (z ≡ y) × (e : Entry) × (keeper_in p m y.queue ≡ Some e) × (q ≡ e.path)
+HandedAs y p m (Err e) z = z ≡ y
+
+-- what an Enter makes of an object
+abbrev pub EnteredAs : ShelfView → (parent child : List ℕ) → Rights → Result (Unit {0}) Memory → ShelfView → Type 0
+EnteredAs y p c a (Ok _) z = z ≡ on_queue (entered_in p c a) y
+EnteredAs y p c a (Err e) z = z ≡ y
+
+-- the slots at the start
+abbrev pub start_slots : List ℕ → List Slot
+start_slots [] = []
+start_slots (n ∷ ns) = slot.Object (started (0 ∷ []) both_rights n) ∷ start_slots ns
+
+pub record FirstSlots (ns : List ℕ) (xs : List Slot) : Type 0 where
+  pub is : xs ≡ start_slots ns ++ slot.Roll begun ∷ []

@@ -1,0 +1,14 @@
+//! The running objects: threads share them, each by a word and a slot of its own.
+#![tactic(auto)]
+
+mod answers;
+mod pass;
+mod slot;
+mod table;
+mod task;
+mod turns;
+mod view;
+
+pub use answers::{Taken, Tried};
+pub use pass::TaskPass;
+pub use table::ObjectTable;

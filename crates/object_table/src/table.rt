@@ -1,0 +1,220 @@
+//! The table of a run's objects.
+
+ghost use Rattle.std.specs.Prelude.{◌≡◌, ◌<◌, ◌∷◌, [], true, Some, None, IfOk, IfErr, OnOk, OnErr, length};
+ghost use Rattle.jade_meaning.specs.Talk.{Take, Give, Enter, Shift, Leave};
+ghost use Rattle.jade_syntax.specs.Objects.{sizes};
+ghost use Rattle.object_table.specs.Views.{count_of};
+ghost use Rattle.object_table.specs.Rule.{first_view};
+ghost use Rattle.object_table.specs.Touches.{held_at, put_held};
+ghost use Rattle.object_table.specs.Calls.{Next, TakenAs, TriedAs, AsBefore, Did, IsBusy};
+ghost use Rattle.object_table.specs.steps.Kept.{FirstSlots, start_slots};
+
+use crate::answers::{Taken, Tried};
+use crate::pass::TaskPass;
+use crate::slot::Slot;
+use crate::task::Task;
+use crate::turns::{enter_at, give_at, leave_at, shift_at, take_at};
+use crate::view::{Sharing, View};
+use atomic_table::Table;
+use jade_base::{Content, Memory, Mode, ObjectId, Path, Right, Rights};
+use jade_meaning::Plan;
+use object_shelf::Shelf;
+use std::alloc::Global;
+use std::marker::Model;
+use task_roll::Roll;
+
+/// The objects of one run. Threads share it, and each task has a pass. There is one word and one
+/// slot for each object, with its shelf, and one for the roll. No call waits: each makes one try at
+/// one word.
+#[derive(Drop)]
+pub struct ObjectTable<'c> {
+    table: Table<Slot, View, Plan<'c>, Sharing, Global>,
+}
+
+impl<'c> Model for ObjectTable<'c> {
+    ghost use Rattle.object_table.specs.Calls.{Desk};
+    ghost use Rattle.object_table.specs.Codes.{coded_desk};
+    ghost use Rattle.object_table.specs.steps.Kept.{Laid};
+
+    ghost Value = { Desk };
+
+    ghost coded = { coded_desk };
+
+    ghost view = { λ t. record { mark = t.table.shared.table_id; plan = t.table.shared.key } };
+
+    ghost invariant = { λ t. Laid t.table.shared.table_id t.table.shared.key };
+}
+
+// The root's rights.
+const BOTH: Rights = Rights {
+    reads: Right::Immediate,
+    writes: Right::Immediate,
+    commutes: Right::Absent,
+};
+
+// The slots at the start: each object with the root's entry alone, and the roll with the root.
+fn first_slots(alloc: Global, root: &Path, plan: &Plan) -> Result<Vec<Slot>, Memory>
+    requires { root.now ≡ 0 ∷ [] }
+    ensures { IfOk result (λ slots. FirstSlots (sizes plan.now.program.items) slots.items) }
+{
+    let mut slots = first_objects(alloc, root, plan)?;
+    let roll = Roll::start(alloc)?;
+    slots.push(Slot::Roll(roll))?;
+    Ok(slots)
+}
+
+// The slots of the objects at the start.
+fn first_objects(alloc: Global, root: &Path, plan: &Plan) -> Result<Vec<Slot>, Memory>
+    requires { root.now ≡ 0 ∷ [] }
+    ensures { IfOk result (λ slots. slots.items ≡ start_slots (sizes plan.now.program.items)) }
+{
+    let mut slots = Vec::new(alloc);
+    for object in 0..plan.objects() {
+        let size = plan.size(ObjectId(object));
+        let shelf = Shelf::start(alloc, root, BOTH, size as usize)?;
+        slots.push(Slot::Object(shelf))?;
+    }
+    Ok(slots)
+}
+
+impl<'c> ObjectTable<'c> {
+    /// The objects of the plan's program, with zeros, and the pass of its root, with no event done.
+    /// The error is want of memory.
+    pub fn start(alloc: Global, plan: &Plan<'c>) -> Result<(ObjectTable<'c>, TaskPass), Memory>
+        ensures table { IfOk result (λ r. r.0.plan ≡ plan.now) }
+        ensures pass { IfOk result (λ r. (r.1.mark ≡ r.0.mark) × (r.1.shows ≡ first_view plan.now)) }
+    {
+        let path = Path::root(alloc)?;
+        let slots = first_slots(alloc, &path, plan)?;
+        let words = Vec::from_elem(alloc, 0, slots.len())?;
+        match Table::new(alloc, words.as_slice(), slots, plan) {
+            Ok((table, seat)) => {
+                let task = Task {
+                    seat,
+                    path,
+                    children: 0,
+                    events: 0,
+                    touched: 0,
+                    over: false,
+                };
+                Ok((ObjectTable { table }, TaskPass { task }))
+            }
+            Err(_) => Err(Memory),
+        }
+    }
+
+    /// One try to take an object in a mode, which is the pass's next event. Got hands the content
+    /// out, of which no cell is copied where it can be shared; NotYet names the task whose entry, as
+    /// it was read in this turn, is the first before the pass's own that conflicts. The error is want
+    /// of memory. All but Got leave the pass and the objects as before.
+    pub fn take(
+        &self,
+        alloc: Global,
+        pass: &mut TaskPass,
+        object: ObjectId,
+        mode: Mode,
+    ) -> Result<Taken, Memory>
+        requires mark { pass.old.mark ≡ self.now.mark }
+        requires declared { object.0 < count_of self.now.plan }
+        requires next { Next (Take object.0 mode) pass.old.shows }
+        ensures mark { pass.new.mark ≡ pass.old.mark }
+        ensures answer { TakenAs object.0 mode pass.old.shows result pass.new.shows }
+    {
+        take_at(
+            &self.table.shared,
+            alloc,
+            &mut pass.task,
+            object.0 as usize,
+            mode,
+        )
+    }
+
+    /// One try to give an object's content back, which is the pass's next event; the content is the
+    /// one that the pass holds. The error is Busy: it hands the content back, with the word read. It
+    /// takes no memory.
+    pub fn give(
+        &self,
+        pass: &mut TaskPass,
+        object: ObjectId,
+        content: Content,
+    ) -> Result<(), (Content, u64)>
+        requires mark { pass.old.mark ≡ self.now.mark }
+        requires declared { object.0 < count_of self.now.plan }
+        requires next { Next (Give object.0) pass.old.shows }
+        requires held { held_at object.0 pass.old.shows.held ≡ Some content }
+        ensures mark { pass.new.mark ≡ pass.old.mark }
+        ensures done { OnOk result (Did object.0 (put_held object.0 None pass.old.shows.held) pass.old.shows pass.new.shows) }
+        ensures busy { IfErr result (λ r. (r.0 ≡ content) × IsBusy r.1 object.0 pass.old.shows pass.new.shows) }
+    {
+        give_at(
+            &self.table.shared,
+            &mut pass.task,
+            object.0 as usize,
+            content,
+        )
+    }
+
+    /// One try to put the next child's entry on an object before the task's own, which is the pass's
+    /// next event. The error is want of memory, and leaves the pass and the objects as before.
+    pub fn enter(
+        &self,
+        alloc: Global,
+        pass: &mut TaskPass,
+        object: ObjectId,
+        rights: Rights,
+    ) -> Result<Tried, Memory>
+        requires mark { pass.old.mark ≡ self.now.mark }
+        requires declared { object.0 < count_of self.now.plan }
+        requires next { Next (Enter object.0 rights) pass.old.shows }
+        ensures mark { pass.new.mark ≡ pass.old.mark }
+        ensures answer { IfOk result (λ r. TriedAs object.0 pass.old.shows r pass.new.shows) }
+        ensures unchanged { OnErr result (AsBefore pass.old.shows pass.new.shows) }
+    {
+        enter_at(
+            &self.table.shared,
+            alloc,
+            &mut pass.task,
+            object.0 as usize,
+            rights,
+        )
+    }
+
+    /// One try to give the task's entry on an object other rights, which is the pass's next event.
+    /// It takes no memory.
+    pub fn shift(&self, pass: &mut TaskPass, object: ObjectId, rights: Rights) -> Tried
+        requires mark { pass.old.mark ≡ self.now.mark }
+        requires declared { object.0 < count_of self.now.plan }
+        requires next { Next (Shift object.0 rights) pass.old.shows }
+        ensures mark { pass.new.mark ≡ pass.old.mark }
+        ensures answer { TriedAs object.0 pass.old.shows result pass.new.shows }
+    {
+        shift_at(
+            &self.table.shared,
+            &mut pass.task,
+            object.0 as usize,
+            rights,
+        )
+    }
+
+    /// One try to take the task's entry off an object, which is the pass's next event. It takes no
+    /// memory.
+    pub fn leave(&self, pass: &mut TaskPass, object: ObjectId) -> Tried
+        requires mark { pass.old.mark ≡ self.now.mark }
+        requires declared { object.0 < count_of self.now.plan }
+        requires next { Next (Leave object.0) pass.old.shows }
+        ensures mark { pass.new.mark ≡ pass.old.mark }
+        ensures answer { TriedAs object.0 pass.old.shows result pass.new.shows }
+    {
+        leave_at(&self.table.shared, &mut pass.task, object.0 as usize)
+    }
+}
+
+fn is_shared<T: Sync>(_thing: &T) {}
+
+fn is_sent<T: Send>(_thing: &T) {}
+
+/// Threads may share a table, and a pass may go to another thread.
+pub fn crosses(table: &ObjectTable, pass: &TaskPass) {
+    is_shared(table);
+    is_sent(pass);
+}

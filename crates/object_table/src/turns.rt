@@ -1,0 +1,281 @@
+//! Turns at the words, and what is done in them.
+
+ghost use Rattle.std.specs.Prelude.{◌≡◌, ◌<◌, ◌%◌, ◌+◌, ◌^◌, ◌∷◌, ◌++◌, [], ℕ, true, false, None, Some, IfOk, IfErr, OnOk, OnErr, MatchOption};
+ghost use mathlib.Core.Option.{none};
+ghost use Rattle.atomic_table.specs.Table.{Me, Step, step, rest};
+ghost use Rattle.jade_meaning.specs.Talk.{Take, Give, Enter, Shift, Leave};
+ghost use Rattle.object_shelf.specs.Views.{ShelfView};
+ghost use Rattle.object_shelf.specs.Shelves.{keeper_in, at, without, entered_in, with_rights};
+ghost use Rattle.object_shelf.specs.Homes.{hand_in, handed, returned, on_queue};
+ghost use Rattle.object_table.specs.Plays.{tried_at};
+ghost use Rattle.object_table.specs.Touches.{held_at, put_held};
+ghost use Rattle.object_table.specs.Calls.{Next, TakenAs, TriedAs, AsBefore, Did, IsBusy};
+ghost use Rattle.object_table.specs.steps.Kept.{Rests, Fits, Laid, InTurn, Leaves, Laws, with_slot, shown, IsObject, HandedAs, EnteredAs};
+ghost use Rattle.object_table.specs.declared.slot.Slot.{Slot as SlotOf};
+ghost use Rattle.jade_meaning.specs.Plan.{RunPlan};
+
+use crate::answers::{Taken, Tried};
+use crate::slot::Slot;
+use crate::task::Task;
+use crate::view::{Desist, Finish, Sharing, Try, View};
+use atomic_table::{Play, Seat, Shared};
+use jade_base::{Content, Memory, Mode, Path, Rights};
+use jade_meaning::Plan;
+use object_shelf::Shelf;
+use std::alloc::Global;
+
+/// The words and slots of a table.
+pub(crate) type Words<'c> = Shared<Slot, View, Plan<'c>, Sharing>;
+
+// What is true of every core.
+fn core_laws()
+    ensures { (key : RunPlan) → Laws key }
+{
+    schedule_core::laws::core_tells();
+    schedule_core::laws::entries_are_there();
+}
+
+// One try at a turn; with it the slot's value is taken out.
+pub(crate) fn take_turn(
+    words: &Words,
+    seat: &mut Seat<Slot, View>,
+    place: usize,
+) -> Result<Slot, u64>
+    requires table { (seat.old.table_id ≡ words.now.table_id) × (place < words.now.table_id.slots) × (words.now.table_id.words ≡ words.now.table_id.slots) }
+    requires rests { (seat.old.me.1 ≡ []) × (seat.old.me.0.turn ≡ false) × (seat.old.me.0.live ≡ true) }
+    ensures mark { seat.new.table_id ≡ seat.old.table_id }
+    ensures got { IfOk result (λ y. InTurn words.now.table_id.slots place y seat.old.me seat.new.me) }
+    ensures busy { IfErr result (λ n. (n ≡ 1) × (seat.new.me ≡ (tried_at place 1 seat.old.me.0, []))) }
+{
+    let found = words.compare_exchange::<Try>(seat, place, 0, 1);
+    if found != 0 {
+        return Err(found);
+    }
+    let slot = words.exchange(seat, place, Slot::Away);
+    Ok(slot)
+}
+
+// Puts the slot's value back, and leaves the turn.
+pub(crate) fn leave_turn<P: Play<Slot, View>>(
+    words: &Words,
+    seat: &mut Seat<Slot, View>,
+    place: usize,
+    slot: Slot,
+)
+    requires table { (seat.old.table_id ≡ words.now.table_id) × (place < words.now.table_id.words) }
+    requires out { (y : SlotOf) × (seat.old.me.1 ≡ (place, y) ∷ rest seat.old.me.1) }
+    requires allowed { Leaves P.then words.now.key words.now.table_id.slots seat.old.id (with_slot place slot seat.old.me) place }
+    ensures mark { seat.new.table_id ≡ seat.old.table_id }
+    ensures done { P.then (step words.now.table_id.slots place 0 0 none) (with_slot place slot seat.old.me) 0 seat.new.me }
+{
+    let _ = words.exchange(seat, place, slot);
+    words.store::<P>(seat, place, 0);
+}
+
+// An event is done, with the touches before it.
+fn settle(task: &mut Task)
+    ensures seat { task.new.seat ≡ task.old.seat }
+    ensures path { (task.new.path ≡ task.old.path) × (task.new.children ≡ task.old.children) × (task.new.over ≡ task.old.over) }
+    ensures events { (task.new.touched ≡ 0) × (task.new.events ≡ (task.old.events + 1) % 2 ^ 64) }
+{
+    task.events = task.events.wrapping_add(1);
+    task.touched = 0;
+}
+
+// The shelf of an object's slot.
+fn shelf_in(slot: Slot) -> Shelf
+    requires { IsObject slot }
+    ensures { slot ≡ SlotOf.Object result }
+{
+    match slot {
+        Slot::Object(shelf) => shelf,
+        Slot::Away => unreachable!(),
+        Slot::Roll(_) => unreachable!(),
+    }
+}
+
+// What a shelf hands out, or the path that keeps the task from it.
+enum Handed {
+    Content(Content),
+    Kept(Path),
+}
+
+// Hands the content out, where no entry keeps the task from it.
+fn hand_out(shelf: &mut Shelf, alloc: Global, path: &Path, mode: Mode) -> Result<Handed, Memory>
+    ensures { HandedAs shelf.old path.now mode result shelf.new }
+{
+    match shelf.blocker(path, mode) {
+        Some(entry) => return Ok(Handed::Kept(entry.path.copy(alloc)?)),
+        None => {}
+    }
+    match shelf.take(alloc, path, mode)? {
+        Some(content) => Ok(Handed::Content(content)),
+        None => Err(Memory),
+    }
+}
+
+/// One try at a take.
+pub(crate) fn take_at(
+    words: &Words,
+    alloc: Global,
+    task: &mut Task,
+    object: usize,
+    mode: Mode,
+) -> Result<Taken, Memory>
+    requires fits { Fits words.now.table_id words.now.key task.old object }
+    requires rests { Rests task.old }
+    requires next { Next (Take object mode) (shown task.old) }
+    ensures mark { task.new.seat.table_id ≡ task.old.seat.table_id }
+    ensures rests { Rests task.new }
+    ensures answer { TakenAs object mode (shown task.old) result (shown task.new) }
+{
+    core_laws();
+    let slot = match take_turn(words, &mut task.seat, object) {
+        Ok(slot) => slot,
+        Err(word) => return Ok(Taken::Busy(word)),
+    };
+    let mut shelf = shelf_in(slot);
+    let handed = hand_out(&mut shelf, alloc, &task.path, mode);
+    let slot = Slot::Object(shelf);
+    match handed {
+        Ok(Handed::Content(content)) => {
+            leave_turn::<Finish>(words, &mut task.seat, object, slot);
+            settle(task);
+            Ok(Taken::Got(content))
+        }
+        Ok(Handed::Kept(path)) => {
+            leave_turn::<Desist>(words, &mut task.seat, object, slot);
+            Ok(Taken::NotYet(path))
+        }
+        Err(_) => {
+            leave_turn::<Desist>(words, &mut task.seat, object, slot);
+            Err(Memory)
+        }
+    }
+}
+
+/// One try at a give.
+pub(crate) fn give_at(
+    words: &Words,
+    task: &mut Task,
+    object: usize,
+    content: Content,
+) -> Result<(), (Content, u64)>
+    requires fits { Fits words.now.table_id words.now.key task.old object }
+    requires rests { Rests task.old }
+    requires next { Next (Give object) (shown task.old) }
+    requires held { held_at object (shown task.old).held ≡ Some content }
+    ensures mark { task.new.seat.table_id ≡ task.old.seat.table_id }
+    ensures rests { Rests task.new }
+    ensures done { OnOk result (Did object (put_held object None (shown task.old).held) (shown task.old) (shown task.new)) }
+    ensures busy { IfErr result (λ r. (r.0 ≡ content) × IsBusy r.1 object (shown task.old) (shown task.new)) }
+{
+    core_laws();
+    let slot = match take_turn(words, &mut task.seat, object) {
+        Ok(slot) => slot,
+        Err(word) => return Err((content, word)),
+    };
+    let mut shelf = shelf_in(slot);
+    shelf.give(&task.path, content);
+    leave_turn::<Finish>(words, &mut task.seat, object, Slot::Object(shelf));
+    settle(task);
+    Ok(())
+}
+
+/// One try at a change of the rights of the task's entry.
+pub(crate) fn shift_at(words: &Words, task: &mut Task, object: usize, rights: Rights) -> Tried
+    requires fits { Fits words.now.table_id words.now.key task.old object }
+    requires rests { Rests task.old }
+    requires next { Next (Shift object rights) (shown task.old) }
+    ensures mark { task.new.seat.table_id ≡ task.old.seat.table_id }
+    ensures rests { Rests task.new }
+    ensures answer { TriedAs object (shown task.old) result (shown task.new) }
+{
+    core_laws();
+    let slot = match take_turn(words, &mut task.seat, object) {
+        Ok(slot) => slot,
+        Err(word) => return Tried::Busy(word),
+    };
+    let mut shelf = shelf_in(slot);
+    shelf.shift(&task.path, rights);
+    leave_turn::<Finish>(words, &mut task.seat, object, Slot::Object(shelf));
+    settle(task);
+    Tried::Done
+}
+
+/// One try at a leave of the task's entry.
+pub(crate) fn leave_at(words: &Words, task: &mut Task, object: usize) -> Tried
+    requires fits { Fits words.now.table_id words.now.key task.old object }
+    requires rests { Rests task.old }
+    requires next { Next (Leave object) (shown task.old) }
+    ensures mark { task.new.seat.table_id ≡ task.old.seat.table_id }
+    ensures rests { Rests task.new }
+    ensures answer { TriedAs object (shown task.old) result (shown task.new) }
+{
+    core_laws();
+    let slot = match take_turn(words, &mut task.seat, object) {
+        Ok(slot) => slot,
+        Err(word) => return Tried::Busy(word),
+    };
+    let mut shelf = shelf_in(slot);
+    shelf.leave(&task.path);
+    leave_turn::<Finish>(words, &mut task.seat, object, Slot::Object(shelf));
+    settle(task);
+    Tried::Done
+}
+
+// Enters a child, or changes nothing.
+fn enter_in(
+    shelf: &mut Shelf,
+    alloc: Global,
+    parent: &Path,
+    child: &Path,
+    rights: Rights,
+) -> Result<(), Memory>
+    ensures { EnteredAs shelf.old parent.now child.now rights result shelf.new }
+{
+    let before = shelf.len();
+    shelf.enter(alloc, parent, child, rights)?;
+    if shelf.len() == before {
+        return Err(Memory);
+    }
+    Ok(())
+}
+
+/// One try at an entry of the next child.
+pub(crate) fn enter_at(
+    words: &Words,
+    alloc: Global,
+    task: &mut Task,
+    object: usize,
+    rights: Rights,
+) -> Result<Tried, Memory>
+    requires fits { Fits words.now.table_id words.now.key task.old object }
+    requires rests { Rests task.old }
+    requires next { Next (Enter object rights) (shown task.old) }
+    ensures mark { task.new.seat.table_id ≡ task.old.seat.table_id }
+    ensures rests { Rests task.new }
+    ensures answer { IfOk result (λ r. TriedAs object (shown task.old) r (shown task.new)) }
+    ensures unchanged { OnErr result (AsBefore (shown task.old) (shown task.new)) }
+{
+    core_laws();
+    let child = task.path.child(alloc, task.children)?;
+    let slot = match take_turn(words, &mut task.seat, object) {
+        Ok(slot) => slot,
+        Err(word) => return Ok(Tried::Busy(word)),
+    };
+    let mut shelf = shelf_in(slot);
+    let entered = enter_in(&mut shelf, alloc, &task.path, &child, rights);
+    let slot = Slot::Object(shelf);
+    match entered {
+        Ok(()) => {
+            leave_turn::<Finish>(words, &mut task.seat, object, slot);
+            settle(task);
+            Ok(Tried::Done)
+        }
+        Err(_) => {
+            leave_turn::<Desist>(words, &mut task.seat, object, slot);
+            Err(Memory)
+        }
+    }
+}
