@@ -19,7 +19,7 @@ use Rattle.jade_base.specs.declared.rights.Rights.{Rights}
 use Rattle.jade_base.specs.Specification.{AllAbove, IsAscending}
 use Rattle.task_machine.specs.Executions.{with_content, without_content}
 use Rattle.task_machine.specs.steps.Holding.{RowsAbove, RowsAscend, contents_of, row_from, written, Written, written_in, whole_row}
-use Rattle.task_machine.specs.steps.Holding.{whole_rows}
+use Rattle.task_machine.specs.steps.Holding.{whole_from}
 
 above_at : (n : ℕ) (rs : List Row) (k : ℕ) (d : Row) → RowsAbove n rs → k < length rs → n < (slice_index_or rs k d).object.0
 above_at n [] k d h lt = absurd (omega (arith, lt))
@@ -205,45 +205,45 @@ rows_whole es i rs le h e = subst RowsAscend (sym (e ∙ ap (map without_content
 
 -- ---- all objects of a program
 
-row_next : (n : ℕ) (sizes : List ℕ) (i s : ℕ) → slice_get sizes i ≡ Some s → whole_rows n (take (suc i) sizes)
-    ≡ whole_rows n (take i sizes) ++ whole_row (n + i) s ∷ []
+row_next : (n : ℕ) (sizes : List ℕ) (i s : ℕ) → slice_get sizes i ≡ Some s → whole_from n (take (suc i) sizes)
+    ≡ whole_from n (take i sizes) ++ whole_row (n + i) s ∷ []
 row_next n [] i s h = absurd (none-some s h)
 row_next n (x ∷ sizes) zero s h =
     let z : n ≡ n + 0 = omega arith in
     ap (λ y. whole_row n y ∷ []) (same_Some x s h) ∙ ap (λ m. whole_row m s ∷ []) z
 row_next n (x ∷ sizes) (suc i) s h =
     let z : suc n + i ≡ n + suc i = omega arith in
-    ap (λ l. whole_row n x ∷ l) (row_next (suc n) sizes i s h ∙ ap (λ m. whole_rows (suc n) (take i sizes) ++ whole_row m s ∷ []) z)
+    ap (λ l. whole_row n x ∷ l) (row_next (suc n) sizes i s h ∙ ap (λ m. whole_from (suc n) (take i sizes) ++ whole_row m s ∷ []) z)
 
 -- one object more
-pub whole_next : (rs : List Row) (sizes : List ℕ) (i s : ℕ) → slice_get sizes i ≡ Some s → rs ≡ whole_rows 0 (take i sizes)
-    → rs ++ whole_row i s ∷ [] ≡ whole_rows 0 (take (i + 1) sizes)
+pub whole_next : (rs : List Row) (sizes : List ℕ) (i s : ℕ) → slice_get sizes i ≡ Some s → rs ≡ whole_from 0 (take i sizes)
+    → rs ++ whole_row i s ∷ [] ≡ whole_from 0 (take (i + 1) sizes)
 whole_next rs sizes i s h e =
     let z : 0 + i ≡ i = omega arith in
     let y : suc i ≡ i + 1 = omega arith in
-    ap (λ l. l ++ whole_row i s ∷ []) e ∙ ap (λ m. whole_rows 0 (take i sizes) ++ whole_row m s ∷ []) (sym z) ∙ sym (row_next 0 sizes i s h)
-    ∙ ap (λ j. whole_rows 0 (take j sizes)) y
+    ap (λ l. l ++ whole_row i s ∷ []) e ∙ ap (λ m. whole_from 0 (take i sizes) ++ whole_row m s ∷ []) (sym z) ∙ sym (row_next 0 sizes i s h)
+    ∙ ap (λ j. whole_from 0 (take j sizes)) y
 
-pub whole_all : (rs : List Row) (sizes : List ℕ) (i : ℕ) → length sizes ≤ i → rs ≡ whole_rows 0 (take i sizes) → rs ≡ whole_rows 0 sizes
-whole_all rs sizes i le e = e ∙ ap (whole_rows 0) (take_all i sizes le)
+pub whole_all : (rs : List Row) (sizes : List ℕ) (i : ℕ) → length sizes ≤ i → rs ≡ whole_from 0 (take i sizes) → rs ≡ whole_from 0 sizes
+whole_all rs sizes i le e = e ∙ ap (whole_from 0) (take_all i sizes le)
 
-whole_above : (m n : ℕ) (sizes : List ℕ) → m < n → RowsAbove m (whole_rows n sizes)
+whole_above : (m n : ℕ) (sizes : List ℕ) → m < n → RowsAbove m (whole_from n sizes)
 whole_above m n [] lt = tt
 whole_above m n (s ∷ sizes) lt = (lt, whole_above m (suc n) sizes (omega (arith, lt)))
 
-pub whole_ascend : (n : ℕ) (sizes : List ℕ) → RowsAscend (whole_rows n sizes)
+pub whole_ascend : (n : ℕ) (sizes : List ℕ) → RowsAscend (whole_from n sizes)
 whole_ascend n [] = tt
 whole_ascend n (s ∷ sizes) = (whole_above n (suc n) sizes (omega arith), whole_ascend (suc n) sizes)
 
-whole_at : (n : ℕ) (sizes : List ℕ) (k : ℕ) → contents_of (whole_rows n sizes) (n + k) ≡ all_held (zeros sizes) k
+whole_at : (n : ℕ) (sizes : List ℕ) (k : ℕ) → contents_of (whole_from n sizes) (n + k) ≡ all_held (zeros sizes) k
 whole_at n [] k = refl
 whole_at n (s ∷ sizes) zero = let z : n ≡ n + 0 = omega arith in rw (eq-eqb n (n + 0) z) refl
 whole_at n (s ∷ sizes) (suc k) =
     let z : n + suc k ≡ suc n + k = omega arith in
-    rw (ne_eqb n (n + suc k) (λ q. omega (arith, q))) (ap (contents_of (whole_rows (suc n) sizes)) z ∙ whole_at (suc n) sizes k)
+    rw (ne_eqb n (n + suc k) (λ q. omega (arith, q))) (ap (contents_of (whole_from (suc n) sizes)) z ∙ whole_at (suc n) sizes k)
 
-pub whole_held : (rs : List Row) (sizes : List ℕ) → rs ≡ whole_rows 0 sizes → contents_of rs ≡ all_held (zeros sizes)
-whole_held rs sizes e = ap contents_of e ∙ fun_ext (λ k. let z : k ≡ 0 + k = omega arith in ap (contents_of (whole_rows 0 sizes)) z ∙ whole_at 0 sizes k)
+pub whole_held : (rs : List Row) (sizes : List ℕ) → rs ≡ whole_from 0 sizes → contents_of rs ≡ all_held (zeros sizes)
+whole_held rs sizes e = ap contents_of e ∙ fun_ext (λ k. let z : k ≡ 0 + k = omega arith in ap (contents_of (whole_from 0 sizes)) z ∙ whole_at 0 sizes k)
 
 -- a content that is taken out
 pub taken_row : (k l : Contents) (o : ℕ) → ((p : ℕ) → l p ≡ cond (eqb p o) None (k p)) → l ≡ without o k

@@ -6,7 +6,7 @@ ghost use Rattle.jade_meaning.specs.Serial.{zeros};
 ghost use Rattle.task_machine.specs.Whole.{all_held, without};
 ghost use Rattle.task_machine.specs.Playing.{cell_of};
 ghost use Rattle.task_machine.specs.Executions.{with_content, without_content};
-ghost use Rattle.task_machine.specs.steps.Holding.{RowsAscend, contents_of, row_from, cell_in, Written, WrittenIn, whole_rows};
+ghost use Rattle.task_machine.specs.steps.Holding.{RowsAscend, contents_of, row_from, cell_in, Written, WrittenIn, whole_from};
 
 use jade_base::{Content, Memory, Mode, Numbers, ObjectId, Spec};
 use jade_syntax::Checked;
@@ -97,7 +97,7 @@ impl Holdings {
 
 // A row for each object of a program, held for writing, with zero in each cell.
 fn rows_of(alloc: Global, checked: &Checked) -> Result<Vec<Row>, Memory>
-    ensures { IfOk result (λ rows. rows.items ≡ whole_rows 0 (sizes checked.now.program.items)) }
+    ensures { IfOk result (λ rows. rows.items ≡ whole_from 0 (sizes checked.now.program.items)) }
 {
     let mut rows = Vec::new(alloc);
     for object in 0..checked.objects() {

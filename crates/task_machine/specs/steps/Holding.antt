@@ -47,6 +47,6 @@ abbrev pub whole_row : (number size : ℕ) → Row
 whole_row n size = record { object = record { 0 = n }; content = Some (record { mode = Writing; cells = replicate size (pos 0) }) }
 
 -- objects of these sizes, numbered from n on
-abbrev pub whole_rows : ℕ → List ℕ → List Row
-whole_rows n [] = []
-whole_rows n (size ∷ sizes) = whole_row n size ∷ whole_rows (suc n) sizes
+abbrev pub whole_from : ℕ → List ℕ → List Row
+whole_from n [] = []
+whole_from n (size ∷ sizes) = whole_row n size ∷ whole_from (suc n) sizes
