@@ -12,11 +12,11 @@ use Rattle.jade_meaning.specs.declared.values.Value.{Value}
 use Rattle.jade_meaning.specs.declared.values.Value.TheVariants.{IntOf}
 use Rattle.jade_meaning.specs.declared.resolve.Range.{Range}
 use Rattle.jade_meaning.specs.declared.resolve.ResolvedObject.{ResolvedObject}
-use Rattle.jade_meaning.specs.Values.{Given, Gives, Fails, operated, decides, signed, whole, is_index, magnitude}
+use Rattle.jade_meaning.specs.Values.{Given, Gives, Fails, operated, decides, signed, whole, is_index, magnitude, index_in}
 use Rattle.jade_meaning.specs.Specification.{Specification, rights_on}
 use Rattle.jade_meaning.specs.Course.{Course, Reads, Writes, Steps, Creates, Changes, Ends, Setting, Mine, On, fault, choose, given, place_of, member}
 use Rattle.jade_meaning.specs.Course.{reach, read_cell, write_cell, eval, eval_links, find, run, range_from}
-use Rattle.jade_meaning.specs.steps.Direct.{◌>>=◌, blamed, blame_at, indexed, index_in, member_of}
+use Rattle.jade_meaning.specs.steps.Direct.{◌>>=◌, blamed, blame_at, indexed, member_of}
 use Rattle.jade_meaning.specs.steps.Evaluation.{Evaluation, Got, Awaits, Faults, Answers, kept, ◌>>>◌, answered, evaluate, evaluate_links, evaluate_object}
 use Rattle.jade_meaning.specs.steps.Evaluation.{evaluate_read}
 use Rattle.jade_meaning.specs.steps.Frames.{fed, Tells, evaluate_write, evaluate_store, evaluate_bounds}

@@ -16,7 +16,7 @@ use Rattle.jade_meaning.specs.declared.values.Value.{Value}
 use Rattle.jade_meaning.specs.declared.values.Value.TheVariants.{IntOf}
 use Rattle.jade_meaning.specs.declared.resolve.Range.{Range}
 use Rattle.jade_meaning.specs.declared.resolve.ResolvedObject.{ResolvedObject}
-use Rattle.jade_meaning.specs.Values.{Given, Gives, Fails, operated, decides, signed, whole, holds, is_index, magnitude, turn_count}
+use Rattle.jade_meaning.specs.Values.{Given, Gives, Fails, operated, decides, signed, whole, holds, is_index, magnitude, turn_count, index_in}
 use Rattle.jade_meaning.specs.Changes.{amended}
 use Rattle.jade_meaning.specs.Specification.{Specification, rights_on, covers, fitted}
 use Rattle.jade_meaning.specs.Course.{Course, Reads, Writes, Steps, Creates, Ends, Setting, Mine, On, Draft, NoDraft, Building, Amending, drafted, finish}
@@ -25,7 +25,7 @@ use Rattle.jade_meaning.specs.Course.{declare, create, change, child_start, copi
 use Rattle.jade_meaning.specs.Course.{none_of}
 use Rattle.jade_meaning.specs.Serial.{Path, cell}
 use Rattle.jade_meaning.specs.steps.Carry.{carried, noted, put}
-use Rattle.jade_meaning.specs.steps.Direct.{◌>>=◌, blamed, blame_at, indexed, index_in, member_of, read_of, worth, linked, located, drafted_with, amended_with}
+use Rattle.jade_meaning.specs.steps.Direct.{◌>>=◌, blamed, blame_at, indexed, member_of, read_of, worth, linked, located, drafted_with, amended_with}
 use Rattle.jade_meaning.specs.steps.Perform.{Outcome, Goes, Stops, mine_of, then_on, valued, with_variable, begun, within, written, turned_once, turned}
 use Rattle.jade_meaning.specs.steps.Perform.{ended, child_task, next_path, created, changed, value_at, object_at, stored_in, perform, perform_all}
 

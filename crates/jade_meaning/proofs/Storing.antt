@@ -10,11 +10,11 @@ use Rattle.jade_syntax.specs.Abstract.{Expression, Whole, Truth, Variable, Group
 use Rattle.jade_meaning.specs.declared.values.Value.{Value}
 use Rattle.jade_meaning.specs.declared.values.Value.TheVariants.{IntOf}
 use Rattle.jade_meaning.specs.declared.resolve.ResolvedObject.{ResolvedObject}
-use Rattle.jade_meaning.specs.Values.{operated, decides, signed, whole}
+use Rattle.jade_meaning.specs.Values.{operated, decides, signed, whole, index_in}
 use Rattle.jade_meaning.specs.Specification.{Specification, rights_on}
 use Rattle.jade_meaning.specs.Course.{Environment, range_from, place_of}
 use Rattle.jade_meaning.specs.Serial.{Store, cell}
-use Rattle.jade_meaning.specs.steps.Direct.{◌>>=◌, blamed, blame_at, indexed, index_in, member_of, read_of, worth, linked, located}
+use Rattle.jade_meaning.specs.steps.Direct.{◌>>=◌, blamed, blame_at, indexed, member_of, read_of, worth, linked, located}
 use Rattle.jade_meaning.specs.steps.Evaluation.{Evaluation, Got, Awaits, Faults, Stored, kept, ◌>>>◌, evaluate, evaluate_links, evaluate_object, evaluate_read}
 
 bind_kept : {A B : Type 0} (r : Result A Blame) (f : A → ℕ → Evaluation B) (g : A → Result B Blame) (n : ℕ) → ((x : A) → f x n ≡ kept (g x) n)

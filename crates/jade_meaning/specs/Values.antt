@@ -1,5 +1,5 @@
 -- Values, and what the operators give.
-use Rattle.std.specs.Prelude.{ℕ, ◌^◌, Bool, true, false, not, ℤ, pos, negsuc, ◌+ℤ◌, ◌-ℤ◌, ◌*ℤ◌, neg_ℤ}
+use Rattle.std.specs.Prelude.{ℕ, ◌^◌, Bool, true, false, not, Option, Some, None, Result, Ok, Err, ℤ, pos, negsuc, ◌+ℤ◌, ◌-ℤ◌, ◌*ℤ◌, neg_ℤ}
 use Rattle.std.specs.Prelude.{int_lt, int_le, int_div, int_rem, nat_lt, if◌then◌else◌}
 use Rattle.std.specs.Ordering.{int_eq}
 use Rattle.jade_base.specs.declared.report.FaultKind.{FaultKind}
@@ -20,6 +20,16 @@ use Rattle.jade_meaning.specs.declared.values.Value.TheVariants.{IntOf, BoolOf}
 pub data Given : Type 0 where
   Gives : Value → Given
   Fails : FaultKind → Given
+
+-- a number or a fault, as what an operator gives
+abbrev pub number_given : Result ℤ FaultKind → Given
+number_given (Ok z) = Gives (IntOf z)
+number_given (Err kind) = Fails kind
+
+-- a number that is there, or the fault `overflow`
+abbrev pub number_or_overflow : Option ℤ → Given
+number_or_overflow (Some z) = Gives (IntOf z)
+number_or_overflow None = Fails Overflow
 
 -- the numbers of 64 bits with a sign
 abbrev pub in_range : ℤ → Bool
@@ -96,6 +106,10 @@ is_index (negsuc i) n = false
 abbrev pub magnitude : ℤ → ℕ
 magnitude (pos i) = i
 magnitude (negsuc i) = 0
+
+-- a number as an index, where it is one below n
+abbrev pub index_in : ℤ → ℕ → Option ℕ
+index_in z n = if is_index z n then Some (magnitude z) else None
 
 -- how many turns a loop makes
 abbrev pub turn_count : ℤ → ℤ → ℕ

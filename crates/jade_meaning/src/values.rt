@@ -2,9 +2,10 @@
 
 ghost use Rattle.std.specs.Prelude.{◌≡◌};
 ghost use Rattle.jade_syntax.specs.Abstract.{Or, And, Relates, Adds, Multiplies};
-ghost use Rattle.jade_meaning.specs.Values.{Gives, operated, decides, related, signed, whole, holds, added, multiplied};
-ghost use Rattle.jade_meaning.specs.steps.Direct.{as_given, as_fitting, index_in};
+ghost use Rattle.jade_meaning.specs.Values.{Gives, number_given, operated, decides, signed, whole, holds};
+ghost use Rattle.jade_meaning.specs.steps.Direct.{as_given};
 
+use crate::numbers::{add, is_related, multiply, negate};
 use jade_base::FaultKind;
 use jade_syntax::tree::{ProductOp, Relation, SumOp, UnaryOp};
 
@@ -62,14 +63,14 @@ impl Value {
     pub(crate) fn added(self, op: SumOp, other: Value) -> Result<Value, FaultKind>
         ensures { as_given result ≡ operated (Adds op) self other }
     {
-        add(op, self.whole(), other.whole())
+        as_value(add(op, self.whole(), other.whole()))
     }
 
     /// A product, a quotient or a remainder.
     pub(crate) fn multiplied(self, op: ProductOp, other: Value) -> Result<Value, FaultKind>
         ensures { as_given result ≡ operated (Multiplies op) self other }
     {
-        multiply(op, self.whole(), other.whole())
+        as_value(multiply(op, self.whole(), other.whole()))
     }
 
     /// A value after a sign.
@@ -77,73 +78,18 @@ impl Value {
         ensures { as_given result ≡ signed sign self }
     {
         match sign {
-            UnaryOp::Negative => fitting(self.whole().checked_neg()),
+            UnaryOp::Negative => as_value(negate(self.whole())),
             UnaryOp::Not => Ok(Value::BoolOf(!self.holds())),
         }
     }
 }
 
-fn is_related(relation: Relation, left: i64, right: i64) -> bool
-    ensures { result ≡ related relation left right }
-{
-    match relation {
-        Relation::Equal => left == right,
-        Relation::Unequal => left != right,
-        Relation::Less => left < right,
-        Relation::LessEqual => left <= right,
-        Relation::Greater => left > right,
-        Relation::GreaterEqual => left >= right,
-    }
-}
-
-// A number, where it is not too large.
-fn fitting(number: Option<i64>) -> Result<Value, FaultKind>
-    ensures { as_given result ≡ as_fitting number }
+// A number as a value.
+fn as_value(number: Result<i64, FaultKind>) -> Result<Value, FaultKind>
+    ensures { as_given result ≡ number_given number }
 {
     match number {
-        Some(number) => Ok(Value::IntOf(number)),
-        None => Err(FaultKind::Overflow),
-    }
-}
-
-fn add(op: SumOp, left: i64, right: i64) -> Result<Value, FaultKind>
-    ensures { as_given result ≡ added op left right }
-{
-    match op {
-        SumOp::Plus => fitting(left.checked_add(right)),
-        SumOp::Minus => fitting(left.checked_sub(right)),
-    }
-}
-
-fn multiply(op: ProductOp, left: i64, right: i64) -> Result<Value, FaultKind>
-    ensures { as_given result ≡ multiplied op left right }
-{
-    match op {
-        ProductOp::Times => fitting(left.checked_mul(right)),
-        ProductOp::Over => {
-            if right == 0 {
-                Err(FaultKind::Zero)
-            } else {
-                fitting(left.checked_div(right))
-            }
-        }
-        ProductOp::Remainder => {
-            if right == 0 {
-                Err(FaultKind::Zero)
-            } else {
-                fitting(left.checked_rem(right))
-            }
-        }
-    }
-}
-
-/// The number as an index, where it is one below `count`.
-pub(crate) fn index_below(number: i64, count: usize) -> Option<usize>
-    ensures { result ≡ index_in number count }
-{
-    if number >= 0 && (number as u64) < (count as u64) {
-        Some(number as usize)
-    } else {
-        None
+        Ok(number) => Ok(Value::IntOf(number)),
+        Err(kind) => Err(kind),
     }
 }

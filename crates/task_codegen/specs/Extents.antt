@@ -5,17 +5,13 @@ use Rattle.jade_syntax.specs.declared.tree.Item.{Item}
 use Rattle.jade_syntax.specs.Abstract.{Name}
 use Rattle.jade_syntax.specs.Numbering.{same_name}
 use Rattle.jade_syntax.specs.Objects.{sizes}
-use Rattle.jade_meaning.specs.declared.resolve.Range.{Range as RangeOf}
+use Rattle.jade_meaning.specs.declared.resolve.Range.{Range}
 use Rattle.jade_meaning.specs.Course.{range_from}
-use Rattle.task_codegen.specs.declared.ranges.Range.{Range}
-
-abbrev pub as_range : Range → RangeOf
-as_range r = record { first = r.first; count = r.count; size = r.size }
 
 -- what was found of a name, or no objects, after all that there are
-abbrev pub range_or_none : (objects : ℕ) → Option Range → RangeOf
+abbrev pub range_or_none : (objects : ℕ) → Option Range → Range
 range_or_none objects None = record { first = objects; count = 0; size = 0 }
-range_or_none objects (Some r) = as_range r
+range_or_none objects (Some r) = r
 
 -- each name is found with the objects for which it stands in these items
 pub record Finds (items : List Item) (named : List (Name × Range)) : Type 0 where

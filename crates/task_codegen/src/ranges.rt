@@ -1,33 +1,20 @@
 //! The objects that names stand for.
 
 ghost use Rattle.std.specs.Prelude.{◌≡◌, ◌+◌, ◌≤◌, [], ◌∷◌, ◌++◌, length, replicate, IfOk, OnOk};
-ghost use Rattle.jade_syntax.specs.Objects.{sizes, sizes as sizes_of, amount};
+ghost use Rattle.jade_syntax.specs.Objects.{sizes, sizes as sizes_of};
+ghost use Rattle.jade_syntax.specs.declared.objects.TheConstants.{OBJECT_LIMIT};
 ghost use Rattle.jade_meaning.specs.Course.{range_from};
-ghost use Rattle.task_codegen.specs.Extents.{as_range, Declares, Finds};
+ghost use Rattle.task_codegen.specs.Extents.{Declares, Finds};
 
 use crate::expressions::small;
 use jade_base::Memory;
+use jade_meaning::resolve::Range;
 use jade_syntax::Name;
+use jade_syntax::objects::{amount_of, count_objects};
 use jade_syntax::tree::{Item, Items};
 use name_scope::NameScope;
 use std::alloc::Global;
 use std::marker::Model;
-
-/// The objects that a name stands for: their first number, how many they are, and the cells of
-/// each.
-#[derive(Clone, Copy, Debug, PartialEq, Eq)]
-pub(crate) struct Range {
-    pub(crate) first: usize,
-    pub(crate) count: usize,
-    pub(crate) size: usize,
-}
-
-// A number of cells or members; none where it is below zero.
-fn amount_of(number: i64) -> usize
-    ensures { result ≡ amount number }
-{
-    if number < 0 { 0 } else { number as usize }
-}
 
 /// The items of a program of at most 4,096 objects, which contracts see as the list of them. `named`
 /// has for each name the objects of the first item of that name.
@@ -58,7 +45,7 @@ impl<'p> Model for Ranges<'p> {
 impl<'p> Ranges<'p> {
     /// These items.
     pub(crate) fn of(alloc: Global, items: &'p Items) -> Result<Ranges<'p>, Memory>
-        requires { length (sizes items.now) ≤ 4096 }
+        requires { length (sizes items.now) ≤ OBJECT_LIMIT }
         ensures { IfOk result (λ ranges. ranges ≡ items.now) }
     {
         let named = named_ranges(alloc, items)?;
@@ -86,7 +73,7 @@ impl<'p> Ranges<'p> {
     /// The objects that a name stands for, in constant time; one that is not declared has the number
     /// after the last, and no cell.
     pub(crate) fn range(&self, name: &Name) -> Range
-        ensures { as_range result ≡ range_from 0 name.now self.now }
+        ensures { result ≡ range_from 0 name.now self.now }
     {
         match self.named.get(name.bytes()) {
             Some(range) => range,
@@ -97,22 +84,6 @@ impl<'p> Ranges<'p> {
             },
         }
     }
-}
-
-// The number of objects.
-fn count_objects(items: &Items) -> usize
-    requires { length (sizes items.now) ≤ 4096 }
-    ensures { result ≡ length (sizes items.now) }
-{
-    let mut count = 0;
-    for i in 0..items.len() {
-        match items.at(i) {
-            Item::Input { .. } => {}
-            Item::Single { .. } => count += 1,
-            Item::Family { count: members, .. } => count += amount_of(members.value),
-        }
-    }
-    count
 }
 
 // One more item is declared before the others, the first of whose objects has this number; the
@@ -151,7 +122,7 @@ fn declare_item<'p>(
 
 // The objects that each name stands for: the first item of a name is declared last.
 fn named_ranges<'p>(alloc: Global, items: &'p Items) -> Result<NameScope<'p, Range>, Memory>
-    requires { length (sizes items.now) ≤ 4096 }
+    requires { length (sizes items.now) ≤ OBJECT_LIMIT }
     ensures { IfOk result (Finds items.now) }
 {
     let mut named = NameScope::none(alloc);

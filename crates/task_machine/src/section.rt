@@ -5,7 +5,7 @@ ghost use Rattle.jade_base.specs.Rights.{both_rights, is_immediate, join, no_rig
 ghost use Rattle.jade_base.specs.Specification.{joined_in, kept, rights_in, settled};
 ghost use Rattle.jade_meaning.specs.Specification.{rights_on, covers};
 ghost use Rattle.jade_meaning.specs.Spread.{spread};
-ghost use Rattle.jade_meaning.specs.Changes.{change_of, declared};
+ghost use Rattle.jade_meaning.specs.Changes.{change_of};
 ghost use Rattle.jade_meaning.specs.Course.{Building, Amending};
 ghost use Rattle.jade_syntax.specs.declared.tree.DeclareWord.{DeclareWord as WordOf};
 ghost use Rattle.task_machine.specs.steps.Owning.{copy_spread, rights_of, draft_of};
@@ -14,6 +14,7 @@ ghost use Rattle.task_machine.specs.steps.Acting.{KeepsRights, SaidBy};
 use access_spec::{Change, WorkingCopy};
 use jade_base::{Memory, ObjectId, Right, Rights, Spec};
 use jade_meaning::laws::spread_agrees;
+use jade_meaning::section_words::{change_of, declared};
 use jade_syntax::tree::DeclareWord;
 use spec_cover::uncovered;
 use std::alloc::Global;
@@ -46,46 +47,6 @@ pub enum Said {
     Asks(ObjectId, Rights),
     /// The word asks for a right that is not there.
     Refused,
-}
-
-fn rights(reads: Right, writes: Right) -> Rights
-    ensures { result ≡ record { reads = reads; writes = writes; commutes = Right.Absent } }
-{
-    Rights {
-        reads,
-        writes,
-        commutes: Right::Absent,
-    }
-}
-
-// The rights that a word gives a child.
-fn declared(word: DeclareWord) -> Rights
-    ensures { result ≡ declared word }
-{
-    match word {
-        DeclareWord::Rd => rights(Right::Immediate, Right::Absent),
-        DeclareWord::Wr => rights(Right::Absent, Right::Immediate),
-        DeclareWord::RdWr => rights(Right::Immediate, Right::Immediate),
-        DeclareWord::DfRd => rights(Right::Deferred, Right::Absent),
-        DeclareWord::DfWr => rights(Right::Absent, Right::Deferred),
-        DeclareWord::DfRdWr => rights(Right::Deferred, Right::Deferred),
-        DeclareWord::NoRd | DeclareWord::NoWr | DeclareWord::NoRdWr => Rights::NONE,
-    }
-}
-
-// The change that a word of a `with` asks for, if it asks for one.
-fn change_of(word: DeclareWord) -> Option<Change>
-    ensures { result ≡ change_of word }
-{
-    match word {
-        DeclareWord::Rd => Some(Change::Reads),
-        DeclareWord::Wr => Some(Change::Writes),
-        DeclareWord::RdWr => Some(Change::Both),
-        DeclareWord::NoRd => Some(Change::NoReads),
-        DeclareWord::NoWr => Some(Change::NoWrites),
-        DeclareWord::NoRdWr => Some(Change::Neither),
-        DeclareWord::DfRd | DeclareWord::DfWr | DeclareWord::DfRdWr => None,
-    }
 }
 
 // The rights on an object. Where a task has rights on all objects, they are found at once.
@@ -230,7 +191,11 @@ pub(crate) fn commit(own: &mut Own)
 fn both_rights() -> Rights
     ensures { result ≡ both_rights }
 {
-    rights(Right::Immediate, Right::Immediate)
+    Rights {
+        reads: Right::Immediate,
+        writes: Right::Immediate,
+        commutes: Right::Absent,
+    }
 }
 
 /// Immediate reading and writing of so many objects. The error is want of memory.

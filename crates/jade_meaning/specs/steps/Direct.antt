@@ -3,7 +3,7 @@
 use Rattle.std.specs.Prelude.{ℕ, ◌+◌, List, Option, Some, None, Result, Ok, Err, ℤ, slice_set, if◌then◌else◌}
 use Rattle.jade_base.specs.declared.place.Pos.{Pos}
 use Rattle.jade_base.specs.declared.report.FaultKind.{FaultKind}
-use Rattle.jade_base.specs.declared.report.FaultKind.TheVariants.{Overflow, Index, Object, Right as RightFault, Change}
+use Rattle.jade_base.specs.declared.report.FaultKind.TheVariants.{Index, Object, Right as RightFault, Change}
 use Rattle.jade_base.specs.declared.report.Blame.{Blame}
 use Rattle.jade_base.specs.declared.rights.Rights.{Rights}
 use Rattle.jade_base.specs.Rights.{is_immediate, join}
@@ -14,7 +14,7 @@ use Rattle.jade_meaning.specs.declared.values.Value.{Value}
 use Rattle.jade_meaning.specs.declared.values.Value.TheVariants.{IntOf, BoolOf}
 use Rattle.jade_meaning.specs.declared.resolve.Range.{Range}
 use Rattle.jade_meaning.specs.declared.resolve.ResolvedObject.{ResolvedObject}
-use Rattle.jade_meaning.specs.Values.{Given, Gives, Fails, operated, decides, signed, whole, is_index, magnitude}
+use Rattle.jade_meaning.specs.Values.{Given, Gives, Fails, operated, decides, signed, whole, index_in}
 use Rattle.jade_meaning.specs.Specification.{Specification, rights_on}
 use Rattle.jade_meaning.specs.Course.{Environment, Draft, NoDraft, Building, Amending, value_of, range_from, place_of}
 use Rattle.jade_meaning.specs.Changes.{declared, amended}
@@ -24,15 +24,6 @@ use Rattle.jade_meaning.specs.Serial.{Store, cell}
 abbrev pub as_given : Result Value FaultKind → Given
 as_given (Ok v) = Gives v
 as_given (Err kind) = Fails kind
-
--- a number that is there, or the fault `overflow`
-abbrev pub as_fitting : Option ℤ → Given
-as_fitting (Some z) = Gives (IntOf z)
-as_fitting None = Fails Overflow
-
--- a number as an index, where it is one below n
-abbrev pub index_in : ℤ → ℕ → Option ℕ
-index_in z n = if is_index z n then Some (magnitude z) else None
 
 -- a fault at a place
 abbrev pub blame_at : FaultKind → Pos → Blame

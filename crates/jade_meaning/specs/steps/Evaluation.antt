@@ -13,11 +13,11 @@ use Rattle.jade_meaning.specs.declared.source.Pause.TheVariants.{Fault, Awaits a
 use Rattle.jade_meaning.specs.declared.values.Value.{Value}
 use Rattle.jade_meaning.specs.declared.values.Value.TheVariants.{IntOf, BoolOf}
 use Rattle.jade_meaning.specs.declared.resolve.ResolvedObject.{ResolvedObject}
-use Rattle.jade_meaning.specs.Values.{operated, decides, signed, whole}
+use Rattle.jade_meaning.specs.Values.{operated, decides, signed, whole, index_in}
 use Rattle.jade_meaning.specs.Specification.{Specification, rights_on}
 use Rattle.jade_meaning.specs.Course.{Environment, value_of, range_from, place_of}
 use Rattle.jade_meaning.specs.Serial.{Store, cell}
-use Rattle.jade_meaning.specs.steps.Direct.{blame_at, blamed, indexed, index_in, member_of, first_of}
+use Rattle.jade_meaning.specs.steps.Direct.{blame_at, blamed, indexed, member_of, first_of}
 
 -- a value, with the number of answers that are used by then; a read that has no answer; or a fault
 pub data Evaluation (A : Type 0) : Type 0 where

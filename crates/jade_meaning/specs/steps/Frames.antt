@@ -15,12 +15,12 @@ use Rattle.jade_meaning.specs.declared.frames.Transition.TheVariants.{Silent, St
 use Rattle.jade_meaning.specs.declared.frames.Running.{Running}
 use Rattle.jade_meaning.specs.declared.source.Pause.{Pause}
 use Rattle.jade_meaning.specs.declared.source.Pause.TheVariants.{Fault, Awaits as AwaitsOf}
-use Rattle.jade_meaning.specs.Values.{whole, turn_count}
+use Rattle.jade_meaning.specs.Values.{whole, turn_count, index_in}
 use Rattle.jade_meaning.specs.Specification.{Specification, rights_on}
 use Rattle.jade_meaning.specs.Course.{Course, Reads, Writes, Steps, Creates, Changes, Ends, Environment, Setting, On, finish, turns, create, change}
 use Rattle.jade_meaning.specs.Course.{child_start, run, run_all, place_of}
 use Rattle.jade_meaning.specs.steps.Perform.{mine_of}
-use Rattle.jade_meaning.specs.steps.Direct.{blame_at, indexed, index_in}
+use Rattle.jade_meaning.specs.steps.Direct.{blame_at, indexed}
 use Rattle.jade_meaning.specs.steps.Evaluation.{Evaluation, Got, Awaits, Faults, Source, kept, ◌>>>◌, evaluate, evaluate_object}
 
 -- a course whose next reads are answered already, so that no event tells of them

@@ -15,13 +15,13 @@ use Rattle.jade_meaning.specs.declared.stop.Stop.TheVariants.{Fault, Memory}
 use Rattle.jade_meaning.specs.declared.values.Value.{Value}
 use Rattle.jade_meaning.specs.declared.values.Value.TheVariants.{IntOf}
 use Rattle.jade_meaning.specs.declared.resolve.ResolvedObject.{ResolvedObject}
-use Rattle.jade_meaning.specs.Values.{whole, holds, turn_count}
+use Rattle.jade_meaning.specs.Values.{whole, holds, turn_count, index_in}
 use Rattle.jade_meaning.specs.Specification.{Specification, rights_on, covers, fitted}
 use Rattle.jade_meaning.specs.Course.{Environment, Setting, Mine, NoDraft, Building, Amending, assigned, copied, drafted, working, limit_blame, none_of}
 use Rattle.jade_meaning.specs.Course.{place_of}
 use Rattle.jade_meaning.specs.Serial.{Path}
 use Rattle.jade_meaning.specs.steps.Carry.{noted, put}
-use Rattle.jade_meaning.specs.steps.Direct.{worth, located, blame_at, indexed, index_in, drafted_with}
+use Rattle.jade_meaning.specs.steps.Direct.{worth, located, blame_at, indexed, drafted_with}
 use Rattle.jade_meaning.specs.steps.Tallied.{stepped, parted}
 
 -- what every task of a run has, as the meaning has it
