@@ -8,7 +8,8 @@ use jade_base::Memory;
 
 // A body whose code is finished takes the place that was kept for it.
 pub(crate) fn fill(bodies: &mut Vec<Body>, at: usize, body: Body) -> Result<(), Memory>
-    ensures { (base rest : List BodyOf) (old : BodyOf) → bodies.old.items ≡ base ++ old ∷ rest → length base ≡ at → OnOk result (bodies.new.items ≡ base ++ body ∷ rest) }
+    ensures { (base rest : List BodyOf) (old : BodyOf) → bodies.old.items ≡ base ++ old ∷ rest → length base ≡ at → OnOk result (bodies.new.items
+        ≡ base ++ body ∷ rest) }
 {
     if at >= bodies.len() {
         return Err(Memory);

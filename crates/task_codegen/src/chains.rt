@@ -58,7 +58,8 @@ fn counted(instr: Instruction, count: u32) -> Instruction
 
 /// The jump at a place is written, now that all that it passes is there.
 pub(crate) fn patch(code: &mut Vec<Instruction>, at: usize) -> Result<(), Memory>
-    ensures { (base rest : List InstructionOf) (old : InstructionOf) → code.old.items ≡ base ++ old ∷ rest → length base ≡ at → OnOk result (code.new.items ≡ base ++ counted old (length rest) ∷ rest) }
+    ensures { (base rest : List InstructionOf) (old : InstructionOf) → code.old.items ≡ base ++ old ∷ rest → length base ≡ at → OnOk result (code.new.items
+        ≡ base ++ counted old (length rest) ∷ rest) }
 {
     if at >= code.len() {
         return Err(Memory);
@@ -74,7 +75,8 @@ pub(crate) fn patch(code: &mut Vec<Instruction>, at: usize) -> Result<(), Memory
 
 /// The jumps of a chain are written, the last first.
 pub(crate) fn close(code: &mut Vec<Instruction>, places: &Vec<usize>) -> Result<(), Memory>
-    ensures { (l : Logic) (t : ℕ) (base : List InstructionOf) (cs : Codes) → Places l t base cs places.now.items → code.old.items ≡ base ++ opened l t cs → OnOk result (code.new.items ≡ base ++ closed l t cs) }
+    ensures { (l : Logic) (t : ℕ) (base : List InstructionOf) (cs : Codes) → Places l t base cs places.now.items → code.old.items ≡ base ++ opened l t cs
+        → OnOk result (code.new.items ≡ base ++ closed l t cs) }
 {
     let mut left = places.len();
     while left > 0 {

@@ -40,7 +40,9 @@ impl Model for Compiled {
 
     ghost Value = { CheckedProgram };
 
-    ghost coded = { code_by (ProgramTree × List StandOf) (coded× tree.the_row.coded (coded_list stand.the_row.coded)) (λ c. (c.program, c.stands)) (λ p. record { program = p.0; stands = p.1 }) (λ _. refl) };
+    ghost coded = { code_by (ProgramTree
+        × List StandOf) (coded× tree.the_row.coded (coded_list stand.the_row.coded)) (λ c. (c.program, c.stands))
+        (λ p. record { program = p.0; stands = p.1 }) (λ _. refl) };
 
     ghost view = { λ c. c.checked };
 

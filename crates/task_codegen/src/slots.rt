@@ -128,7 +128,8 @@ fn slots_of(bodies: &[Body], inputs: u32, body: &Body) -> Result<u32, Memory>
 /// A body gets its slots.
 fn set_slots(bodies: &mut Vec<Body>, at: usize, slots: u32)
     requires { at < length bodies.old.items }
-    ensures { (base rest : List BodyOf) (old : BodyOf) → bodies.old.items ≡ base ++ old ∷ rest → length base ≡ at → bodies.new.items ≡ base ++ record { call = old.call; slots = slots; code = old.code } ∷ rest }
+    ensures { (base rest : List BodyOf) (old : BodyOf) → bodies.old.items ≡ base ++ old ∷ rest → length base ≡ at → bodies.new.items
+        ≡ base ++ record { call = old.call; slots = slots; code = old.code } ∷ rest }
 {
     bodies[at].slots = slots;
 }
