@@ -8,3 +8,4 @@ mod Acting
 mod Running
 mod Executing
 mod Filling
+mod Telling

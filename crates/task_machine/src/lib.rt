@@ -4,6 +4,7 @@
 mod execution;
 pub mod frame;
 pub mod holdings;
+pub mod laws;
 mod numbers;
 pub mod play;
 pub mod section;
