@@ -52,9 +52,6 @@ or_less a b c d f g h = go (or_true a b h)
     go (inl x) = or_left c d (f x)
     go (inr x) = or_right c d (g x)
 
-and_less : (a b c d : Bool) → (a ≡ true → c ≡ true) → (b ≡ true → d ≡ true) → a && b ≡ true → c && d ≡ true
-and_less a b c d f g h = let r = both a b h in and c d (f r.0) (g r.1)
-
 -- an entry with no more rights, and a version where the other has one and changes nothing, conflicts no more
 calmer : (m : Mode) (d e : Entry) → Lessened d.rights e.rights → (is_none d.version ≡ true → changes e.rights || is_none e.version ≡ true) → conflicts m d
     ≡ true → conflicts m e ≡ true

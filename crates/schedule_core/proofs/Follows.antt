@@ -3,6 +3,8 @@ use Rattle.std.proofs.Common.{◌≡◌, ℕ, suc, List, [], ◌∷◌, ◌++◌
 use Rattle.std.specs.Prelude.{ℤ, if◌then◌else◌}
 use Rattle.std.specs.List.{filter_map, cons_option}
 use Rattle.std.proofs.lemmas.List.Elements.{filter_map-append}
+use Rattle.jade_base.specs.declared.rights.Rights.{Rights}
+use Rattle.jade_meaning.specs.Specification.{rights_on}
 use Rattle.jade_meaning.specs.Course.{Course, Reads, Writes, Steps, Creates, Changes, Ends}
 use Rattle.jade_meaning.specs.Talk.{Task, Event, Enter, Enroll, Take, TouchRead, TouchWrite, Wants, Give, Leave, Shift, Resign}
 use Rattle.jade_meaning.specs.Serial.{Mark, Path, Deed, DidRead, DidWrite, DidCreate, DidEnd, deeds_at, reads_at, read_of, same_path}
@@ -18,6 +20,7 @@ use Rattle.schedule_core.specs.Sound.{Orderly}
 use Rattle.schedule_core.specs.Plain.{seat_after, value_at, Does}
 use Rattle.schedule_core.specs.Shown.{Sits, Seated}
 use Rattle.schedule_core.specs.Serially.{IsTask, is_created}
+use Rattle.schedule_core.specs.EntryRights.{rights_then, rights_after}
 use Rattle.schedule_core.proofs.Walks.{Walks, walks_start, walks_quiet, walks_read, walks_write, walks_create}
 use Rattle.schedule_core.proofs.Showing.{path_same}
 use Rattle.schedule_core.proofs.Frames.{none_there}
@@ -30,6 +33,12 @@ pub record Follows (run : List Mark) (root : Task) (log : List Mark) (s : Seat) 
   pub deeds : deeds done ≡ deeds_at s.path log
   pub answers : reads_at s.path log ≡ s.walker.answers
   pub task : IsTask run root s.path (task_of s.walker)
+  pub rights : (o : ℕ) → t.rights o ≡ rights_after o done (rights_on (task_of s.walker).spec o)
+
+-- one event more
+rights_more : (o : ℕ) (es : List Event) (e : Event) (a : Rights) → rights_after o (es ++ e ∷ []) a ≡ rights_then o e (rights_after o es a)
+rights_more o [] e a = refl
+rights_more o (x ∷ es) e a = rights_more o es e (rights_then o x a)
 
 -- a fact of each seat and its task
 abbrev pub Beside : (Seat → Live → Type 0) → List Seat → List Live → Type 0
@@ -57,6 +66,7 @@ follows_still run root log added s t none x = record {
   deeds = x.deeds ∙ sym (deeds_both s.path log added ∙ ap (λ ds. deeds_at s.path log ++ ds) none ∙ append-nil (deeds_at s.path log));
   answers = reads_both s.path log added ∙ ap (λ ds. reads_at s.path log ++ filter_map read_of ds) none ∙ append-nil (reads_at s.path log) ∙ x.answers;
   task = x.task;
+  rights = x.rights;
 }
 
 pub others_follow : (run : List Mark) (root : Task) (log added : List Mark) (seats : List Seat) (ts : List Live) → Seated seats ts
@@ -115,8 +125,8 @@ module _ (run : List Mark) (root : Task) (log : List Mark) (s : Seat) (t : Live)
       ∙ ap (deeds_at s.path) (sym (append-nil log))
 
   quiet_follows : (e : Event) (es : List Event) → t.doing.pending ≡ e ∷ es → deed_of e ≡ None → (u : Live) → u.doing ≡ record t.doing { pending = es }
-      → Follows run root (log ++ []) (seat_after None s) u
-  quiet_follows e es is q u d = record {
+      → ((o : ℕ) → u.rights o ≡ rights_then o e (t.rights o)) → Follows run root (log ++ []) (seat_after None s) u
+  quiet_follows e es is q u d r = record {
     done = x.done ++ e ∷ [];
     walks = subst (Walks (task_of w) w.answers (x.done ++ e ∷ [])) (sym d)
         (walks_quiet (task_of w) w.answers x.done es e t.doing.spec t.doing.plan t.doing.steps t.doing.course
@@ -125,6 +135,7 @@ module _ (run : List Mark) (root : Task) (log : List Mark) (s : Seat) (t : Live)
     deeds = no_more e q;
     answers = ap (reads_at s.path) (append-nil log) ∙ x.answers;
     task = x.task;
+    rights = λ o. r o ∙ ap (rights_then o e) (x.rights o) ∙ sym (rights_more o x.done e (rights_on (task_of w).spec o));
   }
 
   -- the task at its deed
@@ -153,6 +164,7 @@ module _ (run : List Mark) (root : Task) (log : List Mark) (s : Seat) (t : Live)
           deeds = more_deeds (TouchRead o c v) deed refl;
           answers = more_reads deed;
           task = x.task;
+          rights = λ q. x.rights q ∙ sym (rights_more q x.done (TouchRead o c v) (rights_on (task_of w).spec q));
         } in
         subst (λ z. Beside (Follows run root (log ++ mark t deed ∷ [])) z (u ∷ [])) (sym (d.0
         ∙ ap (λ z. seat_after (Some z) s ∷ []) (value o c on is p))) (mine, tt)
@@ -167,6 +179,7 @@ module _ (run : List Mark) (root : Task) (log : List Mark) (s : Seat) (t : Live)
           deeds = more_deeds (TouchWrite o c v) deed refl;
           answers = more_reads deed ∙ append-nil w.answers;
           task = x.task;
+          rights = λ q. x.rights q ∙ sym (rights_more q x.done (TouchWrite o c v) (rights_on (task_of w).spec q));
         } in
         subst (λ z. Beside (Follows run root (log ++ mark t deed ∷ [])) z (u ∷ [])) (sym d.0) (mine, tt)
     deed_follows (Creates child body on) is p inside e first does =
@@ -186,6 +199,7 @@ module _ (run : List Mark) (root : Task) (log : List Mark) (s : Seat) (t : Live)
           deeds = more_deeds (Enroll kid_task t.doing.steps) deed refl;
           answers = more_reads deed ∙ append-nil w.answers;
           task = x.task;
+          rights = λ q. x.rights q ∙ sym (rights_more q x.done (Enroll kid_task t.doing.steps) (rights_on (task_of w).spec q));
         } in
         let path : s.path ++ s.children ∷ [] ≡ t.path ++ t.part ∷ [] = ap (λ q. q ++ s.children ∷ []) (sym sits.path)
         ∙ ap (λ k. t.path ++ k ∷ []) (sym sits.part) in
@@ -201,6 +215,7 @@ module _ (run : List Mark) (root : Task) (log : List Mark) (s : Seat) (t : Live)
           answers = ap (filter_map read_of) none ∙ sym born.answers;
           task = subst (IsTask run root (s.path ++ s.children ∷ [])) (sym born.task)
               (is_created t.path t.part t.doing.steps among.front among.back path among.is);
+          rights = λ q. ap (λ (y : Task). rights_on y.spec q) (sym born.task);
         } in
         subst (λ z. Beside (Follows run root (log ++ m ∷ [])) z (kid ∷ (u ∷ []))) (sym d.2) (young, (mine, tt))
       where
@@ -221,23 +236,23 @@ module _ (run : List Mark) (root : Task) (log : List Mark) (s : Seat) (t : Live)
     event_follows (Take o m ∷ es) is order inside e first does =
         let d = subst (λ y. Does y s ss new ss') (sym first) does in
         let u = with_pending es (quietly (Take o m) f t) in
-        subst (λ z. Beside (Follows run root (log ++ [])) z (u ∷ [])) (sym d.1) (quiet_follows (Take o m) es is refl u refl, tt)
+        subst (λ z. Beside (Follows run root (log ++ [])) z (u ∷ [])) (sym d.1) (quiet_follows (Take o m) es is refl u refl (λ q. refl), tt)
     event_follows (Give o ∷ es) is order inside e first does =
         let d = subst (λ y. Does y s ss new ss') (sym first) does in
         let u = with_pending es (quietly (Give o) f t) in
-        subst (λ z. Beside (Follows run root (log ++ [])) z (u ∷ [])) (sym d.0) (quiet_follows (Give o) es is refl u refl, tt)
+        subst (λ z. Beside (Follows run root (log ++ [])) z (u ∷ [])) (sym d.0) (quiet_follows (Give o) es is refl u refl (λ q. refl), tt)
     event_follows (Shift o a ∷ es) is order inside e first does =
         let d = subst (λ y. Does y s ss new ss') (sym first) does in
         let u = with_pending es (quietly (Shift o a) f t) in
-        subst (λ z. Beside (Follows run root (log ++ [])) z (u ∷ [])) (sym d.0) (quiet_follows (Shift o a) es is refl u refl, tt)
+        subst (λ z. Beside (Follows run root (log ++ [])) z (u ∷ [])) (sym d.0) (quiet_follows (Shift o a) es is refl u refl (λ q. refl), tt)
     event_follows (Leave o ∷ es) is order inside e first does =
         let d = subst (λ y. Does y s ss new ss') (sym first) does in
         let u = with_pending es (quietly (Leave o) f t) in
-        subst (λ z. Beside (Follows run root (log ++ [])) z (u ∷ [])) (sym d.0) (quiet_follows (Leave o) es is refl u refl, tt)
+        subst (λ z. Beside (Follows run root (log ++ [])) z (u ∷ [])) (sym d.0) (quiet_follows (Leave o) es is refl u refl (λ q. refl), tt)
     event_follows (Enter o a ∷ es) is order inside e first does =
         let d = subst (λ y. Does y s ss new ss') (sym first) does in
         let u = with_pending es (quietly (Enter o a) f t) in
-        subst (λ z. Beside (Follows run root (log ++ [])) z (u ∷ [])) (sym d.0) (quiet_follows (Enter o a) es is refl u refl, tt)
+        subst (λ z. Beside (Follows run root (log ++ [])) z (u ∷ [])) (sym d.0) (quiet_follows (Enter o a) es is refl u refl (λ q. refl), tt)
     event_follows (Enroll y n ∷ es) is order inside e first does = absurd order
     event_follows (TouchRead o c v ∷ es) is order inside e first does = absurd order
     event_follows (TouchWrite o c v ∷ es) is order inside e first does = absurd order

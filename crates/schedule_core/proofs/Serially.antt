@@ -1,5 +1,5 @@
 -- Live tasks stand in the serial run, and have its contents there.
-use Rattle.std.proofs.Common.{◌≡◌, ℕ, suc, Bool, true, false, List, [], ◌∷◌, ◌++◌, length, take, map, refl, sym, ap, ◌∙◌, subst, Option, Some, None, arith}
+use Rattle.std.proofs.Common.{◌≡◌, ℕ, suc, Bool, true, false, List, [], ◌∷◌, ◌++◌, length, take, drop, map, refl, sym, ap, ◌∙◌, subst, Option, Some, None, arith}
 use Rattle.std.proofs.Common.{append-nil, append_assoc}
 use Rattle.std.specs.Prelude.{ℤ, slice_get, is_some, if◌then◌else◌}
 use Rattle.std.specs.List.{filter_map}
@@ -7,44 +7,46 @@ use Rattle.std.proofs.lemmas.List.Elements.{filter_map-append}
 use Rattle.std.proofs.Math.Seq.{take-append_seam}
 use Rattle.jade_base.specs.declared.rights.Rights.{Rights}
 use Rattle.jade_base.specs.declared.rights.Mode.{Mode}
-use Rattle.jade_base.specs.Rights.{mode_of}
+use Rattle.jade_base.specs.Rights.{mode_of, no_rights}
 use Rattle.jade_syntax.specs.declared.tree.Program.{Program}
 use Rattle.jade_syntax.specs.Abstract.{AbstractProgram}
 use Rattle.jade_syntax.specs.Image.{program}
 use Rattle.jade_syntax.specs.Objects.{sizes}
-use Rattle.jade_meaning.specs.Specification.{rights_on}
+use Rattle.jade_meaning.specs.Specification.{Specification, rights_on}
 use Rattle.jade_meaning.specs.Course.{Course, Reads, Writes, Steps, Creates, Changes, Ends, root_spec, root_course}
-use Rattle.jade_meaning.specs.Talk.{Take, Wants, talk}
+use Rattle.jade_meaning.specs.Talk.{Holds, Event, Enter, Enroll, Take, TouchRead, TouchWrite, Wants, Give, Leave, Shift, Resign, events, talk}
 use Rattle.jade_meaning.specs.Serial.{Path, Store, Mark, Deed, DidRead, DidWrite, DidCreate, DidEnd, serial, own, under, after, cell, with_cell, deeds_at}
 use Rattle.jade_meaning.specs.Serial.{reads_at, read_of, serial_run, zeros, same_path, at_object}
-use Rattle.jade_meaning.specs.Laws.{Every, deeds, child_path, root_task}
+use Rattle.jade_meaning.specs.Laws.{Every, deeds, deed_of, child_path, root_task}
 use Rattle.jade_meaning.specs.Proper.{Proper}
 use Rattle.jade_meaning.specs.Report.{ReportAscends}
 use Rattle.jade_meaning.specs.Answer.{PartsStandByKey}
 use Rattle.jade_meaning.specs.Walk.{upcoming, First, task_of}
-use Rattle.jade_meaning.specs.Doing.{to_come}
+use Rattle.jade_meaning.specs.Doing.{from_deed, to_come}
 use Rattle.object_shelf.specs.declared.queue.Entry.{Entry}
 use Rattle.object_shelf.specs.Views.{ObjectView}
 use Rattle.object_shelf.specs.Shelves.{find, keeper_in, version_of}
 use Rattle.object_shelf.specs.Shelves as shelves
 use Rattle.schedule_core.specs.declared.steps.Seat.{Seat}
 use Rattle.task_roll.specs.declared.note.PartNote.{PartNote}
-use Rattle.schedule_core.specs.Core.{Cells, below, content_for, value_in, touches, enters_still, handed_on, all_allow, if_read_only, version_or, changes}
+use Rattle.schedule_core.specs.Core.{Cells, put, below, content_for, value_in, touches, enters_still, handed_on, all_allow, if_read_only, version_or, changes}
 use Rattle.schedule_core.specs.Unplaced.{Live, State}
 use Rattle.schedule_core.specs.Sited as sited
-use Rattle.schedule_core.specs.Sound.{Sound, Fit, Apart, Pairs, Within, Orderly, Lessened, left, all_left}
+use Rattle.schedule_core.specs.Sound.{Sound, Fit, Apart, Pairs, Within, Orderly, Lessened, left, all_left, write_to, writes_on}
 use Rattle.schedule_core.specs.More.{Placed}
 use Rattle.schedule_core.specs.Plain.{Reached, value_at}
-use Rattle.schedule_core.specs.Shown.{slot, born_slots, slots, line, shelf_at}
+use Rattle.schedule_core.specs.Shown.{Seated, slot, born_slots, slots, line, shelf_at}
 use Rattle.schedule_core.specs.Serially.{at_deed, events_done, store_at, child_store, ContentsAreSerial, Begins, TasksAreSerial}
+use Rattle.schedule_core.specs.EntryRights.{rights_after, rights_now, if_some, rights_of, ChildEntry, EntriesHaveRights}
+use Rattle.schedule_core.specs.Remains.{IsLeft, WritesGoFirst}
 use Rattle.schedule_core.proofs.Showing.{Away, Elsewhere, path_same, born_away, slot_away, before_away, after_away, line_away, line_both, free_is, keeper_none}
 use Rattle.schedule_core.proofs.Lines.{every_with, every_back, every_append, pairs_front, pairs_back, come, see_at}
-use Rattle.schedule_core.proofs.Frames.{none_there, cover_lessens, lessened_twice}
+use Rattle.schedule_core.proofs.Frames.{none_there, left_within, cover_lessens, lessened_twice}
 use Rattle.schedule_core.proofs.Places.{count_before, deeds_both, after_both}
 use Rattle.schedule_core.proofs.Given.{place_is, given_content}
 use Rattle.schedule_core.proofs.Quiet.{state}
 use Rattle.schedule_core.proofs.Deeds.{held_content, may_some}
-use Rattle.schedule_core.proofs.Changing.{mode_may}
+use Rattle.schedule_core.proofs.Changing.{mode_may, touches_is}
 use Rattle.schedule_core.proofs.Acts.{touch_less}
 use Rattle.schedule_core.proofs.Bare.{Found, found, trim, all_allow_bare}
 use Rattle.schedule_core.proofs.Moves.{ahead_is}
@@ -131,6 +133,7 @@ record Kid_entry (o : ℕ) (t : Live) (e : Entry) : Type 0 where
   creates : t.doing.course ≡ Creates child body on
   some : touches (rights_on child o) ≡ true
   version : e.version ≡ handed_on t o
+  rights : e.rights ≡ rights_on child o
 
 kid_entry : (o : ℕ) (b l : List Live) (t : Live) → Pairs Apart (b ++ (t ∷ l)) → (e : Entry) → find (t.path ++ t.part ∷ []) (line o (b ++ (t ∷ l))) ≡ Some e
     → Kid_entry o t e
@@ -176,6 +179,8 @@ kid_entry o b l t far e h = by t.doing.course refl
           some = r;
           version =
               ap (λ (z : Entry). z.version) (sym (some_entry row e (sym (ap (λ b. if b then Some row else find kid behind) (path_same kid)) ∙ g)));
+          rights =
+              ap (λ (z : Entry). z.rights) (sym (some_entry row e (sym (ap (λ b. if b then Some row else find kid behind) (path_same kid)) ∙ g)));
         }
         there false r g = absurd (never [] refl g)
 
@@ -194,6 +199,39 @@ handed_is a v xs h = go (changes a) h
     go : (b : Bool) → (if b then None else v) ≡ Some xs → v ≡ Some xs
     go true e = absurd (cc)
     go false e = e
+
+-- what is pending is no deed
+quiet_pending : (spec : Specification) (plan : Holds) (c : Course) (es : List Event) (r : ℕ → Rights) (h : ℕ → Option Mode) → Orderly spec plan c es r h
+    → Every (λ x. deed_of x ≡ None) es
+quiet_pending spec plan c [] r h k = tt
+quiet_pending spec plan c (Take o m ∷ es) r h k = (refl, quiet_pending spec plan c es r (put h o (Some m)) k.2)
+quiet_pending spec plan c (Give o ∷ es) r h k = (refl, quiet_pending spec plan c es r (put h o None) k.1)
+quiet_pending spec plan c (Enter o a ∷ es) r h k = (refl, quiet_pending spec plan c es r h k.2)
+quiet_pending spec plan c (Shift o a ∷ es) r h k = (refl, quiet_pending spec plan c es (put r o a) h k.5)
+quiet_pending spec plan c (Leave o ∷ es) r h k = (refl, quiet_pending spec plan c es (put r o no_rights) h k.3)
+quiet_pending spec plan c (Enroll t n ∷ es) r h k = absurd k
+quiet_pending spec plan c (TouchRead o d v ∷ es) r h k = absurd k
+quiet_pending spec plan c (TouchWrite o d v ∷ es) r h k = absurd k
+quiet_pending spec plan c (Wants o d ∷ es) r h k = absurd k
+quiet_pending spec plan c (Resign b n ∷ es) r h k = absurd k
+
+-- what is left is that of live tasks
+later_left : (s : Seat) (seats : List Seat) (m : Mark) → IsLeft seats m → IsLeft (s ∷ seats) m
+later_left s seats m y = record { place = suc y.place; seat = y.seat; live = y.live; within = y.within }
+
+each_left : (seats : List Seat) (ts : List sited.Live) → Seated seats (map sited.bare ts) → Every (IsLeft seats) (all_left ts)
+each_left [] [] h = tt
+each_left [] (t ∷ ts) h = absurd h
+each_left (s ∷ seats) [] h = absurd h
+each_left (s ∷ seats) (t ∷ ts) h =
+    every_append (IsLeft (s ∷ seats)) (left t) (all_left ts)
+    (every_with (λ (m : Mark). Within t.path t.part m.path) (IsLeft (s ∷ seats)) (λ m w. let y : IsLeft (s ∷ seats) m = record {
+      place = 0;
+      seat = s;
+      live = refl;
+      within = subst (λ n. Within s.path n m.path) h.0.part (subst (λ q. Within q t.part m.path) h.0.path w);
+    } in y) (left t) (left_within t))
+    (every_with (IsLeft seats) (IsLeft (s ∷ seats)) (λ m y. later_left s seats m y) (all_left ts) (each_left seats ts h.1))
 
 module _ (p : Program) (ns : List ℤ) (limit k : ℕ) (seats : List Seat) (ss : List ObjectView) (notes : List PartNote) (x : Kept p ns limit k seats ss notes)
     (i : ℕ) (s : Seat) (at : slice_get seats i ≡ Some s) where
@@ -346,19 +384,65 @@ module _ (p : Program) (ns : List ℤ) (limit k : ℕ) (seats : List Seat) (ss :
       let some = read_holds sp.task o c fit.orderly (ahead_is s sp.task (λ y. y ≡ Wants o c) sp.sits first) in
       value_is o c s.path ss ∙ ap (λ xs. value_in xs c) (held_here o some)
 
+  kid_at : (o : ℕ) (e : Entry) → find (child_path s.path s.children) (shelf_at ss o).queue ≡ Some e → Kid_entry o sp.task e
+  kid_at o e h =
+      let kid : child_path s.path s.children ≡ sp.task.path ++ sp.task.part ∷ [] = ap (λ q. q ++ s.children ∷ []) (sym sp.sits.path)
+      ∙ ap (λ n. sp.task.path ++ n ∷ []) (sym sp.sits.part) in
+      kid_entry o sp.before sp.later sp.task apart e (ap (λ q. find q (line o (sp.before ++ (sp.task ∷ sp.later)))) (sym kid)
+      ∙ ap (find (child_path s.path s.children)) (sym (rows o)) ∙ h)
+
   child_of_it : (o : ℕ) (e : Entry) → find (child_path s.path s.children) (shelf_at ss o).queue ≡ Some e → (xs : Cells) → e.version ≡ Some xs → xs
       ≡ at_object (child_store p ns limit s) o
   child_of_it o e h xs v =
-      let kid : child_path s.path s.children ≡ sp.task.path ++ sp.task.part ∷ [] = ap (λ q. q ++ s.children ∷ []) (sym sp.sits.path)
-      ∙ ap (λ n. sp.task.path ++ n ∷ []) (sym sp.sits.part) in
-      let row = kid_entry o sp.before sp.later sp.task apart e (ap (λ q. find q (line o (sp.before ++ (sp.task ∷ sp.later)))) (sym kid)
-      ∙ ap (find (child_path s.path s.children)) (sym (rows o)) ∙ h) in
+      let row = kid_at o e h in
       let less : Lessened (rights_on row.child o) (sp.task.rights o) =
       lessened_twice (rights_on row.child o) (rights_on sp.task.doing.spec o) (sp.task.rights o)
       (cover_lessens sp.task.doing.spec row.child (proper_covers (subst (Proper sp.task.doing.spec) row.creates fit.proper)) o) (fit.less o) in
       let had = touch_less (rights_on row.child o) (sp.task.rights o) less row.some in
       let version = handed_is (sp.task.rights o) (sp.task.versions o) xs (sym row.version ∙ v) in
       seen o had xs version ∙ ap (λ st. at_object st o) (sym (child_is row.child row.body row.on (ap (λ (z : Live). z.doing.course) r.same_here ∙ row.creates)))
+
+  own_rights : (o : ℕ) → rights_of (find s.path (shelf_at ss o).queue) ≡ if_some (rights_now s o)
+  own_rights o =
+      go (touches (sp.task.rights o)) refl
+      ∙ ap if_some (follow.rights o ∙ ap (λ es. rights_after o es (rights_on (task_of s.walker).spec o)) (sym events_are))
+    where
+      a : Rights
+      a = sp.task.rights o
+
+      own : find s.path (shelf_at ss o).queue ≡ find sp.task.path (line o (sp.before ++ (sp.task ∷ sp.later)))
+      own = ap (find s.path) (rows o) ∙ ap (λ q. find q (line o (sp.before ++ (sp.task ∷ sp.later)))) (sym sp.sits.path)
+
+      some : (b : Bool) → touches a ≡ b → if_some a ≡ (if b then Some a else None)
+      some b q = ap (λ x. if x then Some a else None) (sym (touches_is a) ∙ q)
+
+      none : (z : Option Entry) → find s.path (shelf_at ss o).queue ≡ z → touches a ≡ false → rights_of z ≡ None
+      none None h q = refl
+      none (Some e) h q = let r : false ≡ true = sym q ∙ (entry_at o e h).0 in absurd (cc)
+
+      go : (b : Bool) → touches a ≡ b → rights_of (find s.path (shelf_at ss o).queue) ≡ if_some a
+      go true q = ap rights_of (own ∙ own_found o sp.before sp.later sp.task apart q) ∙ sym (some true q)
+      go false q = none (find s.path (shelf_at ss o).queue) refl q ∙ sym (some false q)
+
+  child_rights : (o : ℕ) (e : Entry) → find (child_path s.path s.children) (shelf_at ss o).queue ≡ Some e → ChildEntry s o e
+  child_rights o e h =
+      let row = kid_at o e h in
+      let d = sp.task.doing in
+      record {
+        child = record { spec = row.child; course = row.body };
+        steps = d.steps;
+        before = d.pending;
+        later = events row.on d.spec d.plan 0 [];
+        next = ap (λ vs. drop s.walker.done (talk (task_of s.walker) vs)) (sym (append-nil s.walker.answers)) ∙ sp.sits.known []
+            ∙ ap (λ c. d.pending ++ from_deed c d.spec d.plan d.steps []) row.creates;
+        no_deed = quiet_pending d.spec d.plan d.course d.pending sp.task.rights sp.task.held fit.orderly;
+        rights = row.rights;
+      }
+
+  own_left : deeds_at s.path run ≡ deeds (events_done s.walker) ++ deeds_at s.path (all_left x.somewhere.placed.roll)
+  own_left =
+      x.somewhere.sound.deeds s.path ∙ deeds_both s.path x.somewhere.placed.log (all_left x.somewhere.placed.roll)
+      ∙ ap (λ ds. ds ++ deeds_at s.path (all_left x.somewhere.placed.roll)) (ap (deeds_at s.path) log_is ∙ sym follow.deeds ∙ ap deeds (sym events_are))
 
   answers_of : Begins (reads_at s.path run) s.walker.answers
   answers_of =
@@ -397,4 +481,26 @@ module _ (proper : (p : AbstractProgram) (ns : List ℤ) (limit : ℕ)
     task = λ k roll ss notes r i s e. (follow p ns limit k roll ss notes (whole k roll ss notes r) i s e).task;
     answers = λ k roll ss notes r i s e. answers_of p ns limit k roll ss notes (whole k roll ss notes r) i s e;
     events = λ k roll ss notes r i s e. events_of p ns limit k roll ss notes (whole k roll ss notes r) i s e;
+  }
+
+  pub entries_have_rights : EntriesHaveRights p ns limit
+  entries_have_rights = record {
+    own = λ k roll ss notes r i s e. own_rights p ns limit k roll ss notes (whole k roll ss notes r) i s e;
+    child = λ k roll ss notes r i s e. child_rights p ns limit k roll ss notes (whole k roll ss notes r) i s e;
+  }
+
+  pub writes_go_first : WritesGoFirst p ns limit
+  writes_go_first = record {
+    remains = λ k roll ss notes r. let x = whole k roll ss notes r in
+        let placed = x.somewhere.placed in
+        let sound = x.somewhere.sound in
+        record {
+          left = all_left placed.roll;
+          among = x.somewhere.ranged.order;
+          each = each_left roll placed.roll (subst (λ (y : State). Seated roll y.roll) (sym x.somewhere.same) x.shown.seated);
+          own = λ i s e. own_left p ns limit k roll ss notes x i s e;
+          gone = λ o. writes_on o placed.log;
+          first = λ o. sound.writes o ∙ filter_map-append (λ m. write_to o m.deed) placed.log (all_left placed.roll);
+          content = λ o. ap (λ (y : ObjectView). y.content) (x.shown.shelves o) ∙ ap (λ (y : State). y.contents o) (sym x.somewhere.same) ∙ sound.contents o;
+        };
   }

@@ -16,7 +16,6 @@ use Rattle.object_shelf.specs.declared.queue.Entry.{Entry}
 use Rattle.object_shelf.specs.Views.{ObjectView}
 use Rattle.object_shelf.specs.Shelves.{same_path, find, takes_out}
 use Rattle.schedule_core.specs.declared.steps.Seat.{Seat}
-use Rattle.task_roll.specs.declared.note.PartNote.{PartNote}
 use Rattle.schedule_core.specs.Core.{Cells, changes, touches, enters_still, handed_on, quiet, is_writing}
 use Rattle.schedule_core.specs.Unplaced.{Live}
 use Rattle.schedule_core.specs.Sited as sited

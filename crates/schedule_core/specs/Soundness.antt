@@ -12,6 +12,8 @@ use Rattle.schedule_core.specs.Plain.{Reached, free_in}
 use Rattle.schedule_core.specs.ByNumber.{shelf_at}
 use Rattle.schedule_core.specs.Tells.{CoreTells, EntriesAreThere}
 use Rattle.schedule_core.specs.Serially.{ContentsAreSerial, TasksAreSerial}
+use Rattle.schedule_core.specs.EntryRights.{EntriesHaveRights}
+use Rattle.schedule_core.specs.Remains.{WritesGoFirst}
 use Rattle.schedule_core.specs.Queued.{EntriesAreOwned, InSerialOrder, HeldAlone, StaysEnabled}
 use Rattle.schedule_core.specs.Parts.{NotesAreSerial}
 
@@ -20,12 +22,16 @@ pub record CoreIsSound (p : Program) (ns : List ℤ) (limit : ℕ) : Type 0 wher
   pub tasks : TasksAreSerial p ns limit
   -- the entries of an object are those of live tasks, and of children that are about to be made
   pub entries : EntriesAreOwned p ns limit
+  -- and have exactly the rights of these tasks
+  pub rights : EntriesHaveRights p ns limit
   -- tasks and entries stand in the serial order
   pub order : InSerialOrder p ns limit
   -- one task alone has a content out, and a reader beside it is seen and stands before it
   pub held : HeldAlone p ns limit
   -- what is handed out, held or kept is the serial run's content at its task's place
   pub contents : ContentsAreSerial p ns limit
+  -- the writes on an object that are gone come first among the serial run's
+  pub writes : WritesGoFirst p ns limit
   -- steps and faults that are noted are the serial run's, of the parts that have ended
   pub notes : NotesAreSerial p ns limit
   -- paths differ; a take that is not kept from finds what it is to be handed; a write or a read finds the hold that it needs

@@ -4,6 +4,7 @@
 pub mod note;
 pub mod order;
 pub mod roll;
+pub mod rows;
 
 pub use note::PartNote;
 pub use order::OnPath;

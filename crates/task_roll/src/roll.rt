@@ -9,6 +9,7 @@ ghost use Rattle.std.specs.VecDeque.{deque_capacity};
 
 use crate::note::PartNote;
 use crate::order::{fits_at, place_of};
+use crate::rows::{make_room, one_row, push, put, take_out};
 use jade_base::{Blame, Memory, Path};
 use std::alloc::Global;
 use std::collections::VecDeque;
@@ -42,12 +43,7 @@ impl Roll {
     pub fn start(alloc: Global) -> Result<Roll, Memory>
         ensures { IfOk result (λ roll. roll ≡ started) }
     {
-        let root = Path::root(alloc)?;
-        let mut live = VecDeque::new(alloc);
-        match live.push_back(root) {
-            Ok(()) => {}
-            Err(_) => return Err(Memory),
-        }
+        let live = one_row(alloc, Path::root(alloc)?)?;
         let mut notes = Vec::new(alloc);
         notes.reserve(1)?;
         Ok(Roll { live, notes })
@@ -205,43 +201,6 @@ fn enroll_in(
     Ok(())
 }
 
-// Makes room for one live task more, for its note and for one beside.
-fn make_room(live: &mut VecDeque<Path>, notes: &mut Vec<PartNote>) -> Result<(), Memory>
-    ensures live { live.new.items ≡ live.old.items }
-    ensures notes { notes.new.items ≡ notes.old.items }
-    ensures kept { vec_capacity notes.old ≤ vec_capacity notes.new }
-    ensures place { OnOk result (deque_len live.new < deque_capacity live.new) }
-    ensures room { OnOk result (vec_len notes.new + deque_len live.new + 2 ≤ vec_capacity notes.new) }
-{
-    live.reserve(1)?;
-    notes.reserve(live.len() + 2)?;
-    Ok(())
-}
-
-// Puts a path at a place, where there is room.
-fn put(live: &mut VecDeque<Path>, place: usize, path: Path)
-    requires place { place < length live.old.items }
-    requires room { deque_len live.old < deque_capacity live.old }
-    ensures { live.new.items ≡ insert live.old.items place path }
-{
-    match live.insert(place, path) {
-        Ok(()) => {}
-        Err(_) => unreachable!(),
-    }
-}
-
-// Notes a part, where there is room.
-fn push(notes: &mut Vec<PartNote>, note: PartNote)
-    requires { vec_len notes.old < vec_capacity notes.old }
-    ensures notes { notes.new.items ≡ noting note notes.old.items }
-    ensures kept { vec_capacity notes.old ≤ vec_capacity notes.new }
-{
-    match notes.push(note) {
-        Ok(()) => {}
-        Err(_) => unreachable!(),
-    }
-}
-
 // A task leaves, and its last part leaves its note.
 fn resign_in(
     live: &mut VecDeque<Path>,
@@ -271,17 +230,4 @@ fn resign_in(
             blame,
         },
     );
-}
-
-// Takes the path at a place out.
-fn take_out(live: &mut VecDeque<Path>, place: usize) -> Path
-    requires { place < length live.old.items }
-    ensures path { result ≡ slice_index_or live.old.items place result }
-    ensures rest { live.new.items ≡ remove live.old.items place }
-    ensures fewer { deque_len live.new + 1 ≡ deque_len live.old }
-{
-    match live.remove(place) {
-        Some(path) => path,
-        None => unreachable!(),
-    }
 }

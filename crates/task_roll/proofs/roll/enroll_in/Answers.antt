@@ -36,7 +36,7 @@ returns-clause-done c =
     let lt : n < length es = omega (arith, c.len.ensures, c.if-place-len.false) in
     let f : fits p k es ≡ true = sym (there p k es n c.requires.ordered c.place_in-place.ensures lt) ∙ ap (λ x. fits_at n x es) (sym c.in_ok-child.ensures) ∙
     sym c.child_fits.ensures ∙ c.if-not-child_fits.false in
-    let put = c.put.ensures ∙ ap (λ xs. insert xs n c.in_ok-child.child) c.in_ok-make_room.ensures.live ∙ ap (λ x. insert es n x) c.in_ok-child.ensures ∙
+    let put = c.put.ensures ∙ ap (λ xs. insert xs n c.in_ok-child.child) c.in_ok-make_room.ensures.rows ∙ ap (λ x. insert es n x) c.in_ok-child.ensures ∙
     ap (λ m. insert es m k) c.place_in-place.ensures ∙ entered-insert p k es (subst (λ m. m < length es) c.place_in-place.ensures lt) in
     ap (λ (ps : List (List ℕ)). on_roll ps c.push.new.notes.items) put ∙
     ap (λ (ns : List PartNote). on_roll (entered p k es) ns) (c.push.ensures.notes ∙
@@ -54,6 +54,6 @@ returns-clause-order c =
     let lt : n < length es = omega (arith, c.len.ensures, c.if-place-len.false) in
     let f : fits p k es ≡ true = sym (there p k es n c.requires.ordered c.place_in-place.ensures lt) ∙ ap (λ x. fits_at n x es) (sym c.in_ok-child.ensures) ∙
     sym c.child_fits.ensures ∙ c.if-not-child_fits.false in
-    ap is_ordered (c.put.ensures ∙ ap (λ xs. insert xs n c.in_ok-child.child) c.in_ok-make_room.ensures.live ∙ ap (λ x. insert es n x) c.in_ok-child.ensures ∙
+    ap is_ordered (c.put.ensures ∙ ap (λ xs. insert xs n c.in_ok-child.child) c.in_ok-make_room.ensures.rows ∙ ap (λ x. insert es n x) c.in_ok-child.ensures ∙
     ap (λ m. insert es m k) c.place_in-place.ensures ∙ entered-insert p k es (subst (λ m. m < length es) c.place_in-place.ensures lt)) ∙
     entered-ordered p k es c.requires.ordered f

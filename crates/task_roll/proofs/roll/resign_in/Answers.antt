@@ -21,7 +21,7 @@ returns-clause-done c =
     let at = c.place_in-place.ensures in
     let lt : place_among p es < length es = subst (λ n. n < length es) at (omega (arith, c.len.ensures, c.if-place-len.false)) in
     let out = c.take_out-path.ensures.rest ∙ ap (λ n. remove es n) at ∙ without-remove p es lt in
-    let own = at-place p c.take_out-path.result es lt (c.take_out-path.ensures.path ∙ ap (λ n. slice_index_or es n c.take_out-path.result) at) in
+    let own = at-place p c.take_out-path.result es lt (c.take_out-path.ensures.row ∙ ap (λ n. slice_index_or es n c.take_out-path.result) at) in
     ap (λ (ps : List (List ℕ)). on_roll ps c.push.new.notes.items) out ∙
     ap (λ (ns : List PartNote). on_roll (without p es) ns) (c.push.ensures.notes ∙ ap (λ (q : List ℕ).
     noting (record { path = q; children = c.args.children; steps = c.args.steps; blame = c.args.blame }) c.args.notes.now.items) own) ∙
