@@ -9,3 +9,4 @@ mod Running
 mod Executing
 mod Filling
 mod Telling
+mod Left

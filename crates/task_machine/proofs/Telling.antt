@@ -10,7 +10,7 @@ use Rattle.jade_meaning.specs.Specification.{Specification, rights_on}
 use Rattle.jade_meaning.specs.Talk.{Event, TouchRead, TouchWrite, Holds, held, take_in, first_take, touched, events}
 use Rattle.jade_meaning.specs.Course.{Course, Reads, Writes, Steps, Creates, Changes, Ends}
 use Rattle.task_machine.specs.Playing.{Contents, with_cell, put_in, where_held, writable, for_writing, cell_of, counted, Played, played, answers, touches}
-use Rattle.task_machine.specs.Telling.{Agrees, TellsAsPlayed}
+use Rattle.task_machine.specs.Telling.{mode_held, Agrees, TellsAsPlayed}
 
 set_same : (h : Holds) (o : ℕ) → slice_set h o (slice_index_or h o None) ≡ h
 set_same [] o = refl
@@ -43,6 +43,17 @@ module _ (spec : Specification) (h : Holds) (k : Contents) (o c : ℕ) (v : ℤ)
     rights = λ j x e. (either_fits (nat_eq j o) j x e).1;
   }
 
+put_mode : (c : ℕ) (v : ℤ) (w : Option Held) → mode_held (put_in c v w) ≡ mode_held w
+put_mode c v None = refl
+put_mode c v (Some x) = refl
+
+cell_mode : (o c : ℕ) (v : ℤ) (k : Contents) (j : ℕ) → mode_held (with_cell o c v k j) ≡ mode_held (k j)
+cell_mode o c v k j = at (nat_eq j o)
+  where
+    at : (t : Bool) → mode_held (if t then put_in c v (k j) else k j) ≡ mode_held (k j)
+    at true = put_mode c v (k j)
+    at false = refl
+
 for_writing_is : (m : Mode) (h x : Held) → for_writing m h ≡ Some x → h ≡ x
 for_writing_is Reading h x e = absurd (none-some x e)
 for_writing_is Writing h x e = same_Some h x e
@@ -68,15 +79,33 @@ module _ (spec : Specification) (h : Holds) (k : Contents) (n e : ℕ) (fit : Ag
       ∙ ap (λ es. TouchRead o c v ∷ es) ((ih v spec h n (counted e) fit).tells vs)
 
   reads_agree : (o c : ℕ) (on : ℤ → Course) (w : Option Held) → ((v : ℤ) → TellsAs (on v) k)
-      → Agrees spec h (where_held w (λ x. played (on (cell_of x c)) k n (counted e)) (record { course = Reads o c on; contents = k; steps = n; events = e })).contents
+      → Agrees spec h
+      (where_held w (λ x. played (on (cell_of x c)) k n (counted e)) (record { course = Reads o c on; contents = k; steps = n; events = e })).contents
   reads_agree o c on None ih = fit
   reads_agree o c on (Some x) ih = (ih (cell_of x c) spec h n (counted e) fit).agrees
+
+  reads_keep : (o c : ℕ) (on : ℤ → Course) (w : Option Held) → ((v : ℤ) → TellsAs (on v) k) → (j : ℕ)
+      → mode_held
+      ((where_held w (λ x. played (on (cell_of x c)) k n (counted e)) (record { course = Reads o c on; contents = k; steps = n; events = e })).contents j)
+      ≡ mode_held (k j)
+  reads_keep o c on None ih j = refl
+  reads_keep o c on (Some x) ih j = (ih (cell_of x c) spec h n (counted e) fit).modes j
+
+  writes_keep : (o c : ℕ) (v : ℤ) (on : Course) (w : Option Held) → TellsAs on (with_cell o c v k) → (j : ℕ)
+      → mode_held
+      ((where_held w (λ x. played on (with_cell o c v k) n (counted e)) (record { course = Writes o c v on; contents = k; steps = n; events = e })).contents
+      j)
+      ≡ mode_held (k j)
+  writes_keep o c v on None ih j = refl
+  writes_keep o c v on (Some x) ih j = (ih spec h n (counted e) (kept_fit spec h k o c v fit)).modes j ∙ cell_mode o c v k j
 
   writes_tell : (o c : ℕ) (v : ℤ) (on : Course) (w : Option Held) → writable (k o) ≡ w → TellsAs on (with_cell o c v k) → (vs : List ℤ)
       → events (Writes o c v on) spec h n (where_held w (λ x. answers on (with_cell o c v k)) [] ++ vs)
       ≡ where_held w (λ x. TouchWrite o c v ∷ touches on (with_cell o c v k)) []
-      ++ events (where_held w (λ x. played on (with_cell o c v k) n (counted e)) (record { course = Writes o c v on; contents = k; steps = n; events = e })).course
-      spec h (where_held w (λ x. played on (with_cell o c v k) n (counted e)) (record { course = Writes o c v on; contents = k; steps = n; events = e })).steps vs
+      ++ events
+      (where_held w (λ x. played on (with_cell o c v k) n (counted e)) (record { course = Writes o c v on; contents = k; steps = n; events = e })).course
+      spec h (where_held w (λ x. played on (with_cell o c v k) n (counted e)) (record { course = Writes o c v on; contents = k; steps = n; events = e })).steps
+      vs
   writes_tell o c v on None q ih vs = refl
   writes_tell o c v on (Some x) q ih vs =
       let l = with_cell o c v k in
@@ -85,20 +114,24 @@ module _ (spec : Specification) (h : Holds) (k : Contents) (n e : ℕ) (fit : Ag
       ∙ ap (λ es. TouchWrite o c v ∷ es) ((ih spec h n (counted e) (kept_fit spec h k o c v fit)).tells vs)
 
   writes_agree : (o c : ℕ) (v : ℤ) (on : Course) (w : Option Held) → TellsAs on (with_cell o c v k)
-      → Agrees spec h (where_held w (λ x. played on (with_cell o c v k) n (counted e)) (record { course = Writes o c v on; contents = k; steps = n; events = e })).contents
+      → Agrees spec h
+      (where_held w (λ x. played on (with_cell o c v k) n (counted e)) (record { course = Writes o c v on; contents = k; steps = n; events = e })).contents
   writes_agree o c v on None ih = fit
   writes_agree o c v on (Some x) ih = (ih spec h n (counted e) (kept_fit spec h k o c v fit)).agrees
 
 pub tells_as_played : (c : Course) (k : Contents) → TellsAs c k
 tells_as_played (Reads o c on) k spec h n e fit = record {
   tells = reads_tell spec h k n e fit o c on (k o) refl (λ v. tells_as_played (on v) k);
+  modes = reads_keep spec h k n e fit o c on (k o) (λ v. tells_as_played (on v) k);
   agrees = reads_agree spec h k n e fit o c on (k o) (λ v. tells_as_played (on v) k);
 }
 tells_as_played (Writes o c v on) k spec h n e fit = record {
   tells = writes_tell spec h k n e fit o c v on (writable (k o)) refl (tells_as_played on (with_cell o c v k));
+  modes = writes_keep spec h k n e fit o c v on (writable (k o)) (tells_as_played on (with_cell o c v k));
   agrees = writes_agree spec h k n e fit o c v on (writable (k o)) (tells_as_played on (with_cell o c v k));
 }
-tells_as_played (Steps on) k spec h n e fit = let t = tells_as_played on k spec h (suc n) e fit in record { tells = t.tells; agrees = t.agrees }
-tells_as_played (Creates child body on) k spec h n e fit = record { tells = λ vs. refl; agrees = fit }
-tells_as_played (Changes new on) k spec h n e fit = record { tells = λ vs. refl; agrees = fit }
-tells_as_played (Ends b) k spec h n e fit = record { tells = λ vs. refl; agrees = fit }
+tells_as_played (Steps on) k spec h n e fit = let t = tells_as_played on k spec h (suc n) e fit in
+    record { tells = t.tells; modes = t.modes; agrees = t.agrees }
+tells_as_played (Creates child body on) k spec h n e fit = record { tells = λ vs. refl; modes = λ o. refl; agrees = fit }
+tells_as_played (Changes new on) k spec h n e fit = record { tells = λ vs. refl; modes = λ o. refl; agrees = fit }
+tells_as_played (Ends b) k spec h n e fit = record { tells = λ vs. refl; modes = λ o. refl; agrees = fit }

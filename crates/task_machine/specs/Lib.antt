@@ -3,5 +3,6 @@ pub mod Whole
 pub mod Stages
 pub mod Executions
 pub mod Telling
+pub mod Left
 -- What only serves the contracts of private functions.
 pub mod steps
