@@ -10,3 +10,7 @@ mod Executing
 mod Filling
 mod Telling
 mod Left
+mod Tables
+mod Marks
+mod Asking
+mod Beginning

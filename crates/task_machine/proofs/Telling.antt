@@ -1,6 +1,7 @@
 -- What a task tells, from what is played of it.
-use Rattle.std.proofs.Common.{◌≡◌, ℕ, zero, suc, List, [], ◌∷◌, ◌++◌, Bool, true, false, Option, Some, None, refl, sym, ap, ap₂, ◌∙◌}
+use Rattle.std.proofs.Common.{◌≡◌, ℕ, zero, suc, ◌+◌, ◌^◌, ◌%◌, length, arith, List, [], ◌∷◌, ◌++◌, Bool, true, false, Option, Some, None, refl, sym, ap, ap₂, ◌∙◌}
 use Rattle.std.specs.Prelude.{ℤ, nat_eq, slice_index_or, slice_set, is_none, if◌then◌else◌}
+use Rattle.std.proofs.Math.Nat.{mod-add-mod}
 use Rattle.std.proofs.lemmas.Option.{none-some, same_Some}
 use Rattle.jade_base.specs.declared.rights.Mode.{Mode}
 use Rattle.jade_base.specs.declared.rights.Mode.TheVariants.{Reading, Writing, Commuting}
@@ -63,6 +64,53 @@ held_to_write : (w : Option Held) (x : Held) → writable w ≡ Some x → w ≡
 held_to_write None x e = e
 held_to_write (Some h) x e = ap Some (for_writing_is h.mode h x e)
 
+-- each touch is counted
+one_more : (e p : ℕ) (n : ℕ) → p % 2 ^ 64 ≡ (counted e + n) % 2 ^ 64 → p % 2 ^ 64 ≡ (e + suc n) % 2 ^ 64
+one_more e p n h =
+    let z : e + 1 + n ≡ e + suc n = omega arith in
+    h ∙ mod-add-mod (e + 1) (2 ^ 64) n ∙ ap (λ k. k % 2 ^ 64) z
+
+touches_counted : (c : Course) (k : Contents) (n e : ℕ) → (played c k n e).events % 2 ^ 64 ≡ (e + length (touches c k)) % 2 ^ 64
+touches_counted (Reads p c on) k n e = at (k p) (λ v. touches_counted (on v) k n (counted e))
+  where
+    at : (w : Option Held) → ((v : ℤ) → (played (on v) k n (counted e)).events % 2 ^ 64 ≡ (counted e + length (touches (on v) k)) % 2 ^ 64)
+        → (where_held w (λ x. played (on (cell_of x c)) k n (counted e)) (record { course = Reads p c on; contents = k; steps = n; events = e })).events % 2 ^ 64
+        ≡ (e + length (where_held w (λ x. TouchRead p c (cell_of x c) ∷ touches (on (cell_of x c)) k) [])) % 2 ^ 64
+    at None ih = let z : e ≡ e + 0 = omega arith in ap (λ k. k % 2 ^ 64) z
+    at (Some x) ih = one_more e (played (on (cell_of x c)) k n (counted e)).events (length (touches (on (cell_of x c)) k)) (ih (cell_of x c))
+touches_counted (Writes p c v on) k n e = at (writable (k p)) (touches_counted on (with_cell p c v k) n (counted e))
+  where
+    at : (w : Option Held) → (played on (with_cell p c v k) n (counted e)).events % 2 ^ 64 ≡ (counted e + length (touches on (with_cell p c v k))) % 2 ^ 64
+        → (where_held w (λ x. played on (with_cell p c v k) n (counted e)) (record { course = Writes p c v on; contents = k; steps = n; events = e })).events % 2 ^ 64
+        ≡ (e + length (where_held w (λ x. TouchWrite p c v ∷ touches on (with_cell p c v k)) [])) % 2 ^ 64
+    at None ih = let z : e ≡ e + 0 = omega arith in ap (λ k. k % 2 ^ 64) z
+    at (Some x) ih = one_more e (played on (with_cell p c v k) n (counted e)).events (length (touches on (with_cell p c v k))) ih
+touches_counted (Steps on) k n e = touches_counted on k (suc n) e
+touches_counted (Creates child body on) k n e = let z : e ≡ e + 0 = omega arith in ap (λ k. k % 2 ^ 64) z
+touches_counted (Changes new on) k n e = let z : e ≡ e + 0 = omega arith in ap (λ k. k % 2 ^ 64) z
+touches_counted (Ends b) k n e = let z : e ≡ e + 0 = omega arith in ap (λ k. k % 2 ^ 64) z
+
+-- what is held stays held in its mode
+pub modes_kept : (c : Course) (k : Contents) (n e o : ℕ) → mode_held ((played c k n e).contents o) ≡ mode_held (k o)
+modes_kept (Reads p c on) k n e o = at (k p) (λ v. modes_kept (on v) k n (counted e) o)
+  where
+    at : (w : Option Held) → ((v : ℤ) → mode_held ((played (on v) k n (counted e)).contents o) ≡ mode_held (k o))
+        → mode_held ((where_held w (λ x. played (on (cell_of x c)) k n (counted e)) (record { course = Reads p c on; contents = k; steps = n; events = e })).contents o)
+        ≡ mode_held (k o)
+    at None ih = refl
+    at (Some x) ih = ih (cell_of x c)
+modes_kept (Writes p c v on) k n e o = at (writable (k p)) (modes_kept on (with_cell p c v k) n (counted e) o)
+  where
+    at : (w : Option Held) → mode_held ((played on (with_cell p c v k) n (counted e)).contents o) ≡ mode_held (with_cell p c v k o)
+        → mode_held ((where_held w (λ x. played on (with_cell p c v k) n (counted e)) (record { course = Writes p c v on; contents = k; steps = n; events = e })).contents o)
+        ≡ mode_held (k o)
+    at None ih = refl
+    at (Some x) ih = ih ∙ cell_mode p c v k o
+modes_kept (Steps on) k n e o = modes_kept on k (suc n) e o
+modes_kept (Creates child body on) k n e o = refl
+modes_kept (Changes new on) k n e o = refl
+modes_kept (Ends b) k n e o = refl
+
 abbrev TellsAs : Course → Contents → Type 0
 TellsAs c k = (spec : Specification) (h : Holds) (n e : ℕ) → Agrees spec h k → TellsAsPlayed c spec h k n e
 
@@ -79,33 +127,15 @@ module _ (spec : Specification) (h : Holds) (k : Contents) (n e : ℕ) (fit : Ag
       ∙ ap (λ es. TouchRead o c v ∷ es) ((ih v spec h n (counted e) fit).tells vs)
 
   reads_agree : (o c : ℕ) (on : ℤ → Course) (w : Option Held) → ((v : ℤ) → TellsAs (on v) k)
-      → Agrees spec h
-      (where_held w (λ x. played (on (cell_of x c)) k n (counted e)) (record { course = Reads o c on; contents = k; steps = n; events = e })).contents
+      → Agrees spec h (where_held w (λ x. played (on (cell_of x c)) k n (counted e)) (record { course = Reads o c on; contents = k; steps = n; events = e })).contents
   reads_agree o c on None ih = fit
   reads_agree o c on (Some x) ih = (ih (cell_of x c) spec h n (counted e) fit).agrees
-
-  reads_keep : (o c : ℕ) (on : ℤ → Course) (w : Option Held) → ((v : ℤ) → TellsAs (on v) k) → (j : ℕ)
-      → mode_held
-      ((where_held w (λ x. played (on (cell_of x c)) k n (counted e)) (record { course = Reads o c on; contents = k; steps = n; events = e })).contents j)
-      ≡ mode_held (k j)
-  reads_keep o c on None ih j = refl
-  reads_keep o c on (Some x) ih j = (ih (cell_of x c) spec h n (counted e) fit).modes j
-
-  writes_keep : (o c : ℕ) (v : ℤ) (on : Course) (w : Option Held) → TellsAs on (with_cell o c v k) → (j : ℕ)
-      → mode_held
-      ((where_held w (λ x. played on (with_cell o c v k) n (counted e)) (record { course = Writes o c v on; contents = k; steps = n; events = e })).contents
-      j)
-      ≡ mode_held (k j)
-  writes_keep o c v on None ih j = refl
-  writes_keep o c v on (Some x) ih j = (ih spec h n (counted e) (kept_fit spec h k o c v fit)).modes j ∙ cell_mode o c v k j
 
   writes_tell : (o c : ℕ) (v : ℤ) (on : Course) (w : Option Held) → writable (k o) ≡ w → TellsAs on (with_cell o c v k) → (vs : List ℤ)
       → events (Writes o c v on) spec h n (where_held w (λ x. answers on (with_cell o c v k)) [] ++ vs)
       ≡ where_held w (λ x. TouchWrite o c v ∷ touches on (with_cell o c v k)) []
-      ++ events
-      (where_held w (λ x. played on (with_cell o c v k) n (counted e)) (record { course = Writes o c v on; contents = k; steps = n; events = e })).course
-      spec h (where_held w (λ x. played on (with_cell o c v k) n (counted e)) (record { course = Writes o c v on; contents = k; steps = n; events = e })).steps
-      vs
+      ++ events (where_held w (λ x. played on (with_cell o c v k) n (counted e)) (record { course = Writes o c v on; contents = k; steps = n; events = e })).course
+      spec h (where_held w (λ x. played on (with_cell o c v k) n (counted e)) (record { course = Writes o c v on; contents = k; steps = n; events = e })).steps vs
   writes_tell o c v on None q ih vs = refl
   writes_tell o c v on (Some x) q ih vs =
       let l = with_cell o c v k in
@@ -114,24 +144,24 @@ module _ (spec : Specification) (h : Holds) (k : Contents) (n e : ℕ) (fit : Ag
       ∙ ap (λ es. TouchWrite o c v ∷ es) ((ih spec h n (counted e) (kept_fit spec h k o c v fit)).tells vs)
 
   writes_agree : (o c : ℕ) (v : ℤ) (on : Course) (w : Option Held) → TellsAs on (with_cell o c v k)
-      → Agrees spec h
-      (where_held w (λ x. played on (with_cell o c v k) n (counted e)) (record { course = Writes o c v on; contents = k; steps = n; events = e })).contents
+      → Agrees spec h (where_held w (λ x. played on (with_cell o c v k) n (counted e)) (record { course = Writes o c v on; contents = k; steps = n; events = e })).contents
   writes_agree o c v on None ih = fit
   writes_agree o c v on (Some x) ih = (ih spec h n (counted e) (kept_fit spec h k o c v fit)).agrees
 
 pub tells_as_played : (c : Course) (k : Contents) → TellsAs c k
 tells_as_played (Reads o c on) k spec h n e fit = record {
   tells = reads_tell spec h k n e fit o c on (k o) refl (λ v. tells_as_played (on v) k);
-  modes = reads_keep spec h k n e fit o c on (k o) (λ v. tells_as_played (on v) k);
+  counts = touches_counted (Reads o c on) k n e;
+  modes = modes_kept (Reads o c on) k n e;
   agrees = reads_agree spec h k n e fit o c on (k o) (λ v. tells_as_played (on v) k);
 }
 tells_as_played (Writes o c v on) k spec h n e fit = record {
   tells = writes_tell spec h k n e fit o c v on (writable (k o)) refl (tells_as_played on (with_cell o c v k));
-  modes = writes_keep spec h k n e fit o c v on (writable (k o)) (tells_as_played on (with_cell o c v k));
+  counts = touches_counted (Writes o c v on) k n e;
+  modes = modes_kept (Writes o c v on) k n e;
   agrees = writes_agree spec h k n e fit o c v on (writable (k o)) (tells_as_played on (with_cell o c v k));
 }
-tells_as_played (Steps on) k spec h n e fit = let t = tells_as_played on k spec h (suc n) e fit in
-    record { tells = t.tells; modes = t.modes; agrees = t.agrees }
-tells_as_played (Creates child body on) k spec h n e fit = record { tells = λ vs. refl; modes = λ o. refl; agrees = fit }
-tells_as_played (Changes new on) k spec h n e fit = record { tells = λ vs. refl; modes = λ o. refl; agrees = fit }
-tells_as_played (Ends b) k spec h n e fit = record { tells = λ vs. refl; modes = λ o. refl; agrees = fit }
+tells_as_played (Steps on) k spec h n e fit = let t = tells_as_played on k spec h (suc n) e fit in record { tells = t.tells; counts = t.counts; modes = t.modes; agrees = t.agrees }
+tells_as_played (Creates child body on) k spec h n e fit = record { tells = λ vs. refl; counts = touches_counted (Creates child body on) k n e; modes = λ o. refl; agrees = fit }
+tells_as_played (Changes new on) k spec h n e fit = record { tells = λ vs. refl; counts = touches_counted (Changes new on) k n e; modes = λ o. refl; agrees = fit }
+tells_as_played (Ends b) k spec h n e fit = record { tells = λ vs. refl; counts = touches_counted (Ends b) k n e; modes = λ o. refl; agrees = fit }

@@ -53,12 +53,15 @@ no_holds spec = map (λ a. None) spec
 abbrev pub IsFull : Specification → Holds → Type 0
 IsFull spec h = length h ≡ length spec
 
--- everything that a task has a mode for is due when it begins
-abbrev pub due_first : Specification → Due
-due_first spec o = is_some (mode_of (rights_on spec o))
+-- there is a mode for the object
+abbrev pub has_mode : Specification → ℕ → Bool
+has_mode spec o = is_some (mode_of (rights_on spec o))
 
-abbrev pub BeginsDue : Task → Type 0
-BeginsDue t = (vs : List ℤ) → talk t vs ≡ left_to_tell (due_first t.spec) t.course t.spec (no_holds t.spec) 0 vs
+-- where everything is due that there is a mode for, a task begins
+abbrev pub BeginsDue : Due → Task → Type 0
+BeginsDue due t =
+    ((o : ℕ) → has_mode t.spec o ≡ true → due o ≡ true)
+    → (vs : List ℤ) → talk t vs ≡ left_to_tell due t.course t.spec (no_holds t.spec) 0 vs
 
 -- this is the least object for which the test holds
 pub record IsLeast (test : ℕ → Bool) (n o : ℕ) : Type 0 where
@@ -72,7 +75,7 @@ IsNone test n = (j : ℕ) → j < n → test j ≡ false
 
 -- the object is due, and there is a mode for it
 abbrev pub to_take : Due → Specification → ℕ → Bool
-to_take due spec o = if due o then is_some (mode_of (rights_on spec o)) else false
+to_take due spec o = if due o then has_mode spec o else false
 
 -- the least object that is due is taken first
 abbrev pub TakesLeast : Due → Course → Specification → Holds → (steps : ℕ) → (o : ℕ) → Mode → Type 0
@@ -80,9 +83,11 @@ TakesLeast due c spec h n o m =
     IsFull spec h → IsLeast (to_take due spec) (length spec) o → mode_of (rights_on spec o) ≡ Some m
     → (vs : List ℤ) → left_to_tell due c spec h n vs ≡ Take o m ∷ left_to_tell (but o due) c spec (slice_set h o (Some m)) n vs
 
--- where nothing is due, the course is told
+-- where nothing is left to take, the course is told
 abbrev pub TellsOn : Due → Course → Specification → Holds → (steps : ℕ) → Type 0
-TellsOn due c spec h n = IsFull spec h → IsNone due (length spec) → (vs : List ℤ) → left_to_tell due c spec h n vs ≡ events c spec h n vs
+TellsOn due c spec h n =
+    IsFull spec h → IsNone (to_take due spec) (length spec) → ((o : ℕ) → due o ≡ true → held h o ≡ None)
+    → (vs : List ℤ) → left_to_tell due c spec h n vs ≡ events c spec h n vs
 
 -- the next touch is of this object
 abbrev pub Touches : ℕ → Course → Type 0

@@ -4,5 +4,6 @@ pub mod Stages
 pub mod Executions
 pub mod Telling
 pub mod Left
+pub mod Machines
 -- What only serves the contracts of private functions.
 pub mod steps

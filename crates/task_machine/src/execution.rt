@@ -207,7 +207,7 @@ impl<'c> Execution<'c> {
         ensures { Advanced self.old result self.new }
     {
         let code = instructions(self.code, self.body);
-        play::advance(code, &mut self.own, &mut self.frame, &mut self.held)
+        play::go_to_pause(code, &mut self.own, &mut self.frame, &mut self.held)
     }
 
     /// The content of an object is held; nothing changes where the task's specification does not
