@@ -9,3 +9,8 @@ mod Running
 mod Executing
 mod Filling
 mod Telling
+mod Left
+mod Tables
+mod Marks
+mod Asking
+mod Beginning

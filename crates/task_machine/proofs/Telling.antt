@@ -1,6 +1,7 @@
 -- What a task tells, from what is played of it.
-use Rattle.std.proofs.Common.{◌≡◌, ℕ, zero, suc, List, [], ◌∷◌, ◌++◌, Bool, true, false, Option, Some, None, refl, sym, ap, ap₂, ◌∙◌}
+use Rattle.std.proofs.Common.{◌≡◌, ℕ, zero, suc, ◌+◌, ◌^◌, ◌%◌, length, arith, List, [], ◌∷◌, ◌++◌, Bool, true, false, Option, Some, None, refl, sym, ap, ap₂, ◌∙◌}
 use Rattle.std.specs.Prelude.{ℤ, nat_eq, slice_index_or, slice_set, is_none, if◌then◌else◌}
+use Rattle.std.proofs.Math.Nat.{mod-add-mod}
 use Rattle.std.proofs.lemmas.Option.{none-some, same_Some}
 use Rattle.jade_base.specs.declared.rights.Mode.{Mode}
 use Rattle.jade_base.specs.declared.rights.Mode.TheVariants.{Reading, Writing, Commuting}
@@ -10,7 +11,7 @@ use Rattle.jade_meaning.specs.Specification.{Specification, rights_on}
 use Rattle.jade_meaning.specs.Talk.{Event, TouchRead, TouchWrite, Holds, held, take_in, first_take, touched, events}
 use Rattle.jade_meaning.specs.Course.{Course, Reads, Writes, Steps, Creates, Changes, Ends}
 use Rattle.task_machine.specs.Playing.{Contents, with_cell, put_in, where_held, writable, for_writing, cell_of, counted, Played, played, answers, touches}
-use Rattle.task_machine.specs.Telling.{Agrees, TellsAsPlayed}
+use Rattle.task_machine.specs.Telling.{mode_held, Agrees, TellsAsPlayed}
 
 set_same : (h : Holds) (o : ℕ) → slice_set h o (slice_index_or h o None) ≡ h
 set_same [] o = refl
@@ -43,6 +44,17 @@ module _ (spec : Specification) (h : Holds) (k : Contents) (o c : ℕ) (v : ℤ)
     rights = λ j x e. (either_fits (nat_eq j o) j x e).1;
   }
 
+put_mode : (c : ℕ) (v : ℤ) (w : Option Held) → mode_held (put_in c v w) ≡ mode_held w
+put_mode c v None = refl
+put_mode c v (Some x) = refl
+
+cell_mode : (o c : ℕ) (v : ℤ) (k : Contents) (j : ℕ) → mode_held (with_cell o c v k j) ≡ mode_held (k j)
+cell_mode o c v k j = at (nat_eq j o)
+  where
+    at : (t : Bool) → mode_held (if t then put_in c v (k j) else k j) ≡ mode_held (k j)
+    at true = put_mode c v (k j)
+    at false = refl
+
 for_writing_is : (m : Mode) (h x : Held) → for_writing m h ≡ Some x → h ≡ x
 for_writing_is Reading h x e = absurd (none-some x e)
 for_writing_is Writing h x e = same_Some h x e
@@ -51,6 +63,53 @@ for_writing_is Commuting h x e = same_Some h x e
 held_to_write : (w : Option Held) (x : Held) → writable w ≡ Some x → w ≡ Some x
 held_to_write None x e = e
 held_to_write (Some h) x e = ap Some (for_writing_is h.mode h x e)
+
+-- each touch is counted
+one_more : (e p : ℕ) (n : ℕ) → p % 2 ^ 64 ≡ (counted e + n) % 2 ^ 64 → p % 2 ^ 64 ≡ (e + suc n) % 2 ^ 64
+one_more e p n h =
+    let z : e + 1 + n ≡ e + suc n = omega arith in
+    h ∙ mod-add-mod (e + 1) (2 ^ 64) n ∙ ap (λ k. k % 2 ^ 64) z
+
+touches_counted : (c : Course) (k : Contents) (n e : ℕ) → (played c k n e).events % 2 ^ 64 ≡ (e + length (touches c k)) % 2 ^ 64
+touches_counted (Reads p c on) k n e = at (k p) (λ v. touches_counted (on v) k n (counted e))
+  where
+    at : (w : Option Held) → ((v : ℤ) → (played (on v) k n (counted e)).events % 2 ^ 64 ≡ (counted e + length (touches (on v) k)) % 2 ^ 64)
+        → (where_held w (λ x. played (on (cell_of x c)) k n (counted e)) (record { course = Reads p c on; contents = k; steps = n; events = e })).events % 2 ^ 64
+        ≡ (e + length (where_held w (λ x. TouchRead p c (cell_of x c) ∷ touches (on (cell_of x c)) k) [])) % 2 ^ 64
+    at None ih = let z : e ≡ e + 0 = omega arith in ap (λ k. k % 2 ^ 64) z
+    at (Some x) ih = one_more e (played (on (cell_of x c)) k n (counted e)).events (length (touches (on (cell_of x c)) k)) (ih (cell_of x c))
+touches_counted (Writes p c v on) k n e = at (writable (k p)) (touches_counted on (with_cell p c v k) n (counted e))
+  where
+    at : (w : Option Held) → (played on (with_cell p c v k) n (counted e)).events % 2 ^ 64 ≡ (counted e + length (touches on (with_cell p c v k))) % 2 ^ 64
+        → (where_held w (λ x. played on (with_cell p c v k) n (counted e)) (record { course = Writes p c v on; contents = k; steps = n; events = e })).events % 2 ^ 64
+        ≡ (e + length (where_held w (λ x. TouchWrite p c v ∷ touches on (with_cell p c v k)) [])) % 2 ^ 64
+    at None ih = let z : e ≡ e + 0 = omega arith in ap (λ k. k % 2 ^ 64) z
+    at (Some x) ih = one_more e (played on (with_cell p c v k) n (counted e)).events (length (touches on (with_cell p c v k))) ih
+touches_counted (Steps on) k n e = touches_counted on k (suc n) e
+touches_counted (Creates child body on) k n e = let z : e ≡ e + 0 = omega arith in ap (λ k. k % 2 ^ 64) z
+touches_counted (Changes new on) k n e = let z : e ≡ e + 0 = omega arith in ap (λ k. k % 2 ^ 64) z
+touches_counted (Ends b) k n e = let z : e ≡ e + 0 = omega arith in ap (λ k. k % 2 ^ 64) z
+
+-- what is held stays held in its mode
+pub modes_kept : (c : Course) (k : Contents) (n e o : ℕ) → mode_held ((played c k n e).contents o) ≡ mode_held (k o)
+modes_kept (Reads p c on) k n e o = at (k p) (λ v. modes_kept (on v) k n (counted e) o)
+  where
+    at : (w : Option Held) → ((v : ℤ) → mode_held ((played (on v) k n (counted e)).contents o) ≡ mode_held (k o))
+        → mode_held ((where_held w (λ x. played (on (cell_of x c)) k n (counted e)) (record { course = Reads p c on; contents = k; steps = n; events = e })).contents o)
+        ≡ mode_held (k o)
+    at None ih = refl
+    at (Some x) ih = ih (cell_of x c)
+modes_kept (Writes p c v on) k n e o = at (writable (k p)) (modes_kept on (with_cell p c v k) n (counted e) o)
+  where
+    at : (w : Option Held) → mode_held ((played on (with_cell p c v k) n (counted e)).contents o) ≡ mode_held (with_cell p c v k o)
+        → mode_held ((where_held w (λ x. played on (with_cell p c v k) n (counted e)) (record { course = Writes p c v on; contents = k; steps = n; events = e })).contents o)
+        ≡ mode_held (k o)
+    at None ih = refl
+    at (Some x) ih = ih ∙ cell_mode p c v k o
+modes_kept (Steps on) k n e o = modes_kept on k (suc n) e o
+modes_kept (Creates child body on) k n e o = refl
+modes_kept (Changes new on) k n e o = refl
+modes_kept (Ends b) k n e o = refl
 
 abbrev TellsAs : Course → Contents → Type 0
 TellsAs c k = (spec : Specification) (h : Holds) (n e : ℕ) → Agrees spec h k → TellsAsPlayed c spec h k n e
@@ -92,13 +151,17 @@ module _ (spec : Specification) (h : Holds) (k : Contents) (n e : ℕ) (fit : Ag
 pub tells_as_played : (c : Course) (k : Contents) → TellsAs c k
 tells_as_played (Reads o c on) k spec h n e fit = record {
   tells = reads_tell spec h k n e fit o c on (k o) refl (λ v. tells_as_played (on v) k);
+  counts = touches_counted (Reads o c on) k n e;
+  modes = modes_kept (Reads o c on) k n e;
   agrees = reads_agree spec h k n e fit o c on (k o) (λ v. tells_as_played (on v) k);
 }
 tells_as_played (Writes o c v on) k spec h n e fit = record {
   tells = writes_tell spec h k n e fit o c v on (writable (k o)) refl (tells_as_played on (with_cell o c v k));
+  counts = touches_counted (Writes o c v on) k n e;
+  modes = modes_kept (Writes o c v on) k n e;
   agrees = writes_agree spec h k n e fit o c v on (writable (k o)) (tells_as_played on (with_cell o c v k));
 }
-tells_as_played (Steps on) k spec h n e fit = let t = tells_as_played on k spec h (suc n) e fit in record { tells = t.tells; agrees = t.agrees }
-tells_as_played (Creates child body on) k spec h n e fit = record { tells = λ vs. refl; agrees = fit }
-tells_as_played (Changes new on) k spec h n e fit = record { tells = λ vs. refl; agrees = fit }
-tells_as_played (Ends b) k spec h n e fit = record { tells = λ vs. refl; agrees = fit }
+tells_as_played (Steps on) k spec h n e fit = let t = tells_as_played on k spec h (suc n) e fit in record { tells = t.tells; counts = t.counts; modes = t.modes; agrees = t.agrees }
+tells_as_played (Creates child body on) k spec h n e fit = record { tells = λ vs. refl; counts = touches_counted (Creates child body on) k n e; modes = λ o. refl; agrees = fit }
+tells_as_played (Changes new on) k spec h n e fit = record { tells = λ vs. refl; counts = touches_counted (Changes new on) k n e; modes = λ o. refl; agrees = fit }
+tells_as_played (Ends b) k spec h n e fit = record { tells = λ vs. refl; counts = touches_counted (Ends b) k n e; modes = λ o. refl; agrees = fit }

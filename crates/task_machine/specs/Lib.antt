@@ -3,5 +3,7 @@ pub mod Whole
 pub mod Stages
 pub mod Executions
 pub mod Telling
+pub mod Left
+pub mod Machines
 -- What only serves the contracts of private functions.
 pub mod steps

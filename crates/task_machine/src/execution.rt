@@ -16,9 +16,7 @@ ghost use Rattle.task_machine.specs.declared.section.Section.{Section};
 use crate::frame::{Frame, Pause, go_past};
 use crate::holdings::Holdings;
 use crate::play;
-use crate::section::{
-    Own, all_rights, commit, declare_for_child, end_section, outside_section,
-};
+use crate::section::{Own, all_rights, commit, declare_for_child, end_section, outside_section};
 use crate::slots::{empty_slots, give_call, give_inputs};
 use code_meaning::code::{Instruction, Operand};
 use jade_base::{Content, Memory, ObjectId, Rights, Spec};
@@ -209,7 +207,7 @@ impl<'c> Execution<'c> {
         ensures { Advanced self.old result self.new }
     {
         let code = instructions(self.code, self.body);
-        play::advance(code, &mut self.own, &mut self.frame, &mut self.held)
+        play::go_to_pause(code, &mut self.own, &mut self.frame, &mut self.held)
     }
 
     /// The content of an object is held; nothing changes where the task's specification does not
@@ -281,6 +279,14 @@ impl<'c> Execution<'c> {
         let spec = end_section(&mut self.own);
         go_past(instructions(self.code, self.body), &mut self.frame);
         let own = outside_section(alloc, self.own.objects, spec);
-        Ok(begun(self.code, self.numbers, self.limit, number, slots, own, held))
+        Ok(begun(
+            self.code,
+            self.numbers,
+            self.limit,
+            number,
+            slots,
+            own,
+            held,
+        ))
     }
 }

@@ -5,6 +5,7 @@ mod execution;
 pub mod frame;
 pub mod holdings;
 pub mod laws;
+pub mod machine;
 mod numbers;
 pub mod play;
 pub mod section;
