@@ -1,12 +1,12 @@
 -- An object keeps its content in one place.
-use Rattle.std.proofs.Common.{◌≡◌, ℕ, suc, Bool, true, false, ◌&&◌, ◌||◌, List, [], ◌∷◌, length, refl, sym, ap, ◌∙◌, subst, Option, Some, None, is_some, arith}
+use Rattle.std.proofs.Common.{◌≡◌, ℕ, Bool, true, false, ◌&&◌, ◌||◌, List, [], ◌∷◌, refl, sym, ap, ◌∙◌, subst, Option, Some, None, is_some}
 use Rattle.std.specs.Prelude.{ℤ, if◌then◌else◌}
 use Rattle.jade_base.specs.declared.rights.Rights.{Rights}
 use Rattle.jade_base.specs.declared.rights.Mode.{Mode}
 use Rattle.jade_base.specs.declared.rights.Mode.TheVariants.{Reading, Writing, Commuting}
 use Rattle.jade_base.specs.Held.{Held}
 use Rattle.object_shelf.specs.declared.queue.Entry.{Entry}
-use Rattle.object_shelf.specs.Shelves.{same_path, find, at, without, takes_out, holder_in, entered_in, newborn, held_with, held_for, or_fresh, version_or}
+use Rattle.object_shelf.specs.Shelves.{same_path, find, at, without, takes_out, entered_in, newborn, held_with, held_for, or_fresh, version_or}
 use Rattle.object_shelf.specs.Order.{stands_before, fits, fitted_in}
 use Rattle.object_shelf.specs.Homes.{hand_of, kept_of, or_home}
 use Rattle.object_shelf.specs.Whole.{content_of, is_out, was_kept, in_hand, in_hand_as}
@@ -19,23 +19,6 @@ or-left false b h = absurd (cc)
 or-right : (a b : Bool) → b ≡ true → a || b ≡ true
 or-right true b h = refl
 or-right false b h = h
-
--- an entry that has the content out is found, and only then
-pub holder-out : (es : List Entry) (e : Entry) → holder_in es ≡ Some e → is_out es ≡ true
-holder-out [] e h = absurd (cc)
-holder-out (x ∷ es) e h = go (takes_out x.hold) (holder-out es e) h
-  where
-    go : (b : Bool) → (holder_in es ≡ Some e → is_out es ≡ true) → (if b then Some x else holder_in es) ≡ Some e → b || is_out es ≡ true
-    go true f h = refl
-    go false f h = f h
-
-pub holder-none : (es : List Entry) → holder_in es ≡ None → is_out es ≡ false
-holder-none [] h = refl
-holder-none (x ∷ es) h = go (takes_out x.hold) (holder-none es) h
-  where
-    go : (b : Bool) → (holder_in es ≡ None → is_out es ≡ false) → (if b then Some x else holder_in es) ≡ None → b || is_out es ≡ false
-    go true f h = absurd (cc)
-    go false f h = f h
 
 -- a change of holds that puts nothing out
 pub at-out : (p : List ℕ) (f : Entry → Entry) → ((e : Entry) → takes_out (f e).hold ≡ true → takes_out e.hold ≡ true) → (es : List Entry) →
@@ -77,28 +60,6 @@ entered-out p c a (x ∷ es) =
       | true ↦ refl
       | false ↦ ap (λ b. takes_out x.hold || b) (entered-out p c a es)
     ]
-
--- one entry more
-pub entered-length : (p c : List ℕ) (a : Rights) (es : List Entry) → fits p c es ≡ true → length (entered_in p c a es) ≡ suc (length es)
-entered-length p c a [] h = absurd (cc)
-entered-length p c a (x ∷ es) h = go (same_path p x.path) (entered-length p c a es) h
-  where
-    right : (a b : Bool) → a && b ≡ true → b ≡ true
-    right true b h = h
-    right false b h = absurd (cc)
-
-    go : (b : Bool) → (fits p c es ≡ true → length (entered_in p c a es) ≡ suc (length es)) →
-        (if b then stands_before c x.path else (stands_before x.path c && fits p c es)) ≡ true →
-        length (if b then newborn c a x ∷ (x ∷ es) else x ∷ entered_in p c a es) ≡ suc (suc (length es))
-    go true f h = refl
-    go false f h = ap suc (f (right (stands_before x.path c) (fits p c es) h))
-
-pub same-length : (p c : List ℕ) (a : Rights) (es : List Entry) → length (fitted_in p c a es) ≡ length es → fitted_in p c a es ≡ es
-same-length p c a es h = go (fits p c es) refl h
-  where
-    go : (b : Bool) → fits p c es ≡ b → length (if b then entered_in p c a es else es) ≡ length es → (if b then entered_in p c a es else es) ≡ es
-    go true w h = absurd (let l = entered-length p c a es w in omega arith)
-    go false w h = refl
 
 -- what was entered and left is as it was
 pub entered-left : (p c : List ℕ) (a : Rights) (es : List Entry) → fits p c es ≡ true → without c (entered_in p c a es) ≡ es
