@@ -1,5 +1,5 @@
 -- An object keeps its content in one place.
-use Rattle.std.proofs.Common.{◌≡◌, ℕ, Bool, true, false, ◌&&◌, ◌||◌, List, [], ◌∷◌, refl, sym, ap, ◌∙◌, subst, Option, Some, None, is_some}
+use Rattle.std.proofs.Common.{◌≡◌, ℕ, suc, Bool, true, false, ◌&&◌, ◌||◌, List, [], ◌∷◌, length, refl, sym, ap, ◌∙◌, subst, Option, Some, None, is_some, arith}
 use Rattle.std.specs.Prelude.{ℤ, if◌then◌else◌}
 use Rattle.jade_base.specs.declared.rights.Rights.{Rights}
 use Rattle.jade_base.specs.declared.rights.Mode.{Mode}
@@ -60,6 +60,28 @@ entered-out p c a (x ∷ es) =
       | true ↦ refl
       | false ↦ ap (λ b. takes_out x.hold || b) (entered-out p c a es)
     ]
+
+-- one entry more
+pub entered-length : (p c : List ℕ) (a : Rights) (es : List Entry) → fits p c es ≡ true → length (entered_in p c a es) ≡ suc (length es)
+entered-length p c a [] h = absurd (cc)
+entered-length p c a (x ∷ es) h = go (same_path p x.path) (entered-length p c a es) h
+  where
+    right : (a b : Bool) → a && b ≡ true → b ≡ true
+    right true b h = h
+    right false b h = absurd (cc)
+
+    go : (b : Bool) → (fits p c es ≡ true → length (entered_in p c a es) ≡ suc (length es)) →
+        (if b then stands_before c x.path else (stands_before x.path c && fits p c es)) ≡ true →
+        length (if b then newborn c a x ∷ (x ∷ es) else x ∷ entered_in p c a es) ≡ suc (suc (length es))
+    go true f h = refl
+    go false f h = ap suc (f (right (stands_before x.path c) (fits p c es) h))
+
+pub same-length : (p c : List ℕ) (a : Rights) (es : List Entry) → length (fitted_in p c a es) ≡ length es → fitted_in p c a es ≡ es
+same-length p c a es h = go (fits p c es) refl h
+  where
+    go : (b : Bool) → fits p c es ≡ b → length (if b then entered_in p c a es else es) ≡ length es → (if b then entered_in p c a es else es) ≡ es
+    go true w h = absurd (let l = entered-length p c a es w in omega arith)
+    go false w h = refl
 
 -- what was entered and left is as it was
 pub entered-left : (p c : List ℕ) (a : Rights) (es : List Entry) → fits p c es ≡ true → without c (entered_in p c a es) ≡ es
