@@ -1,12 +1,12 @@
 -- What becomes of the order of a queue as its entries change.
-use Rattle.std.proofs.Common.{◌≡◌, ℕ, suc, ◌<◌, ◌≤◌, true, false, List, [], ◌∷◌, length, refl, sym, ap, ◌∙◌, subst, arith}
+use Rattle.std.proofs.Common.{◌≡◌, ℕ, suc, ◌<◌, ◌≤◌, Bool, true, false, ◌||◌, Some, List, [], ◌∷◌, length, refl, sym, ap, ◌∙◌, subst, arith}
 use Rattle.std.specs.Prelude.{if◌then◌else◌}
 use Rattle.jade_base.specs.declared.rights.Rights.{Rights}
 use Rattle.jade_base.specs.Places.{same_path}
 use Rattle.task_roll.specs.Order as order
 use Rattle.task_roll.proofs.InOrder as in_order
 use Rattle.object_shelf.specs.declared.queue.Entry.{Entry}
-use Rattle.object_shelf.specs.Shelves.{place_in, at, without, entered_in, newborn}
+use Rattle.object_shelf.specs.Shelves.{place_in, find, at, without, entered_in, newborn}
 use Rattle.object_shelf.specs.Order.{paths, is_ordered, fits, fitted_in}
 pub use Rattle.task_roll.proofs.InOrder.{same-is, same-refl, before-other}
 
@@ -55,6 +55,21 @@ entered-paths p c a (e ∷ es) =
 
 pub entered-ordered : (p c : List ℕ) (a : Rights) (es : List Entry) → is_ordered es ≡ true → fits p c es ≡ true → is_ordered (entered_in p c a es) ≡ true
 entered-ordered p c a es h g = ap order.is_ordered (entered-paths p c a es) ∙ in_order.entered-ordered p c (paths es) h g
+
+-- where it is put before its parent's and the order is kept, it fits
+among-paths : (p : List ℕ) (es : List Entry) (e : Entry) → find p es ≡ Some e → order.is_among p (paths es) ≡ true
+among-paths p [] e h = absurd (cc)
+among-paths p (x ∷ es) e h = go (same_path p x.path) h (λ k. among-paths p es e k)
+  where
+    go : (b : Bool) → (if b then Some x else find p es) ≡ Some e → (find p es ≡ Some e → order.is_among p (paths es) ≡ true)
+        → b || order.is_among p (paths es) ≡ true
+    go true h f = refl
+    go false h f = f h
+
+pub entered-fits : (p c : List ℕ) (a : Rights) (es : List Entry) (e : Entry) → find p es ≡ Some e → is_ordered (entered_in p c a es) ≡ true →
+    fits p c es ≡ true
+entered-fits p c a es e h o =
+    in_order.ordered-fits p c (paths es) (among-paths p es e h) (ap order.is_ordered (sym (entered-paths p c a es)) ∙ o)
 
 -- where it fits is told by two entries
 pub fits-there : (p c : List ℕ) (es : List Entry) → is_ordered es ≡ true → place_in p es < length es →

@@ -6,7 +6,7 @@ use Rattle.jade_base.specs.declared.rights.Mode.{Mode}
 use Rattle.jade_base.specs.declared.rights.Mode.TheVariants.{Reading, Writing, Commuting}
 use Rattle.jade_base.specs.Held.{Held}
 use Rattle.object_shelf.specs.declared.queue.Entry.{Entry}
-use Rattle.object_shelf.specs.Shelves.{same_path, find, at, without, takes_out, holder_in, entered_in, newborn, held_with, held_for, or_fresh, version_or}
+use Rattle.object_shelf.specs.Shelves.{same_path, find, at, without, takes_out, entered_in, newborn, held_with, held_for, or_fresh, version_or}
 use Rattle.object_shelf.specs.Order.{stands_before, fits, fitted_in}
 use Rattle.object_shelf.specs.Homes.{hand_of, kept_of, or_home}
 use Rattle.object_shelf.specs.Whole.{content_of, is_out, was_kept, in_hand, in_hand_as}
@@ -19,23 +19,6 @@ or-left false b h = absurd (cc)
 or-right : (a b : Bool) → b ≡ true → a || b ≡ true
 or-right true b h = refl
 or-right false b h = h
-
--- an entry that has the content out is found, and only then
-pub holder-out : (es : List Entry) (e : Entry) → holder_in es ≡ Some e → is_out es ≡ true
-holder-out [] e h = absurd (cc)
-holder-out (x ∷ es) e h = go (takes_out x.hold) (holder-out es e) h
-  where
-    go : (b : Bool) → (holder_in es ≡ Some e → is_out es ≡ true) → (if b then Some x else holder_in es) ≡ Some e → b || is_out es ≡ true
-    go true f h = refl
-    go false f h = f h
-
-pub holder-none : (es : List Entry) → holder_in es ≡ None → is_out es ≡ false
-holder-none [] h = refl
-holder-none (x ∷ es) h = go (takes_out x.hold) (holder-none es) h
-  where
-    go : (b : Bool) → (holder_in es ≡ None → is_out es ≡ false) → (if b then Some x else holder_in es) ≡ None → b || is_out es ≡ false
-    go true f h = absurd (cc)
-    go false f h = f h
 
 -- a change of holds that puts nothing out
 pub at-out : (p : List ℕ) (f : Entry → Entry) → ((e : Entry) → takes_out (f e).hold ≡ true → takes_out e.hold ≡ true) → (es : List Entry) →

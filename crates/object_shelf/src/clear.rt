@@ -63,7 +63,8 @@ impl Clear {
     /// The numbers after an entry without a hold has been put at a place.
     pub(crate) fn entered(&mut self, rows: &VecDeque<Entry>, place: usize)
         requires place { place < length rows.now.items }
-        ensures { (es : List EntryOf) (e : EntryOf) → rows.now.items ≡ insert es place e → place ≤ length es → takes_out e.hold ≡ false → IsClear self.old es → IsClear self.new rows.now.items }
+        ensures { (es : List EntryOf) (e : EntryOf) → rows.now.items ≡ insert es place e → place ≤ length es → takes_out e.hold ≡ false → IsClear self.old es
+            → IsClear self.new rows.now.items }
     {
         self.reading = clear_entered(rows, Mode::Reading, place, self.reading);
         self.writing = clear_entered(rows, Mode::Writing, place, self.writing);
@@ -76,7 +77,8 @@ impl Clear {
         requires place { place < length rows.now.items }
         requires more { was_out ≡ false → self.old.out < length rows.now.items }
         requires fewer { was_out ≡ true → 0 < self.old.out }
-        ensures { (es : List EntryOf) (e : EntryOf) → slice_get es place ≡ Some e → takes_out e.hold ≡ was_out → (f : EntryOf) → rows.now.items ≡ slice_set es place f → IsClear self.old es → IsClear self.new rows.now.items }
+        ensures { (es : List EntryOf) (e : EntryOf) → slice_get es place ≡ Some e → takes_out e.hold ≡ was_out → (f : EntryOf) → rows.now.items
+            ≡ slice_set es place f → IsClear self.old es → IsClear self.new rows.now.items }
     {
         self.reading = clear_changed(rows, Mode::Reading, place, self.reading);
         self.writing = clear_changed(rows, Mode::Writing, place, self.writing);
@@ -87,7 +89,8 @@ impl Clear {
     /// The numbers after the entry at a place has gone; whether it had the content out is told.
     pub(crate) fn left(&mut self, rows: &VecDeque<Entry>, place: usize, was_out: bool)
         requires fewer { was_out ≡ true → 0 < self.old.out }
-        ensures { (es : List EntryOf) (e : EntryOf) → slice_get es place ≡ Some e → takes_out e.hold ≡ was_out → rows.now.items ≡ remove es place → IsClear self.old es → IsClear self.new rows.now.items }
+        ensures { (es : List EntryOf) (e : EntryOf) → slice_get es place ≡ Some e → takes_out e.hold ≡ was_out → rows.now.items ≡ remove es place
+            → IsClear self.old es → IsClear self.new rows.now.items }
     {
         self.reading = clear_left(rows, Mode::Reading, place, self.reading);
         self.writing = clear_left(rows, Mode::Writing, place, self.writing);
@@ -142,7 +145,8 @@ fn go_on(rows: &VecDeque<Entry>, mode: Mode, from: usize) -> usize
 // How far the queue is clear after an entry has been put at a place.
 fn clear_entered(rows: &VecDeque<Entry>, mode: Mode, place: usize, was: usize) -> usize
     requires { place < length rows.now.items }
-    ensures { (es : List EntryOf) (e : EntryOf) → rows.now.items ≡ insert es place e → place ≤ length es → was ≡ clear_for mode es → result ≡ clear_for mode rows.now.items }
+    ensures { (es : List EntryOf) (e : EntryOf) → rows.now.items ≡ insert es place e → place ≤ length es → was ≡ clear_for mode es → result
+        ≡ clear_for mode rows.now.items }
 {
     if was < place {
         return was;

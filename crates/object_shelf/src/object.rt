@@ -2,6 +2,7 @@ ghost use Rattle.std.specs.Prelude.{◌≡◌, ◌<◌, true, false, None, Some,
 ghost use Rattle.object_shelf.specs.Shelves.{find, keeper_in, entered, taken, given, shifted, left, written, content_for, value_in, at, held_for, entered_in};
 ghost use Rattle.object_shelf.specs.Shelves.{started as begun};
 ghost use Rattle.object_shelf.specs.Order.{fits};
+ghost use Rattle.object_shelf.specs.Takes.{MayTake, IsUnheld};
 ghost use Rattle.object_shelf.specs.Whole.{content_of, is_one, is_out, untaken, was_kept, with_cell, in_hand, version_in};
 
 use crate::queue::Entry;
@@ -46,8 +47,8 @@ impl Object {
         Ok(Object { shelf, hand: None })
     }
 
-    /// Puts the child's entry directly before its parent's, as `Shelf::enter` does. The error is
-    /// want of memory, or an order that the child's entry would break, and changes nothing.
+    /// Puts the child's entry directly before its parent's, as `Shelf::enter` does, where that keeps
+    /// the order. The error is want of memory, and changes nothing.
     pub fn enter(
         &mut self,
         alloc: Global,
@@ -55,8 +56,8 @@ impl Object {
         child: &Path,
         rights: Rights,
     ) -> Result<(), Memory>
+        requires { fits parent.now child.now self.old.queue ≡ true }
         ensures done { OnOk result (self.new ≡ entered parent.now child.now rights self.old) }
-        ensures fits { OnOk result (fits parent.now child.now self.old.queue ≡ true) }
         ensures unchanged { OnErr result (self.new ≡ self.old) }
     {
         enter_in(&mut self.shelf, alloc, parent, child, rights)
@@ -70,9 +71,9 @@ impl Object {
     }
 
     /// The path's task takes the object in this mode; what was kept for it before is handed back, so
-    /// that the take can be undone. The error is want of memory, or that the task holds the object
-    /// or has no entry, or that there is nothing to take, and changes nothing.
+    /// that the take can be undone. The error is want of memory, and changes nothing.
     pub fn take(&mut self, alloc: Global, path: &Path, mode: Mode) -> Result<Before, Memory>
+        requires { MayTake mode path.now self.old.queue }
         ensures done { OnOk result (self.new ≡ taken path.now mode self.old) }
         ensures before { IfOk result (λ b. was_kept b.version (find path.now self.old.queue)) }
         ensures unchanged { OnErr result (self.new ≡ self.old) }
@@ -178,17 +179,13 @@ fn enter_in(
     child: &Path,
     rights: Rights,
 ) -> Result<(), Memory>
+    requires { fits parent.now child.now shelf.old.queue ≡ true }
     ensures queue { OnOk result (shelf.new.queue ≡ entered_in parent.now child.now rights shelf.old.queue) }
     ensures home { shelf.new.home ≡ shelf.old.home }
     ensures out { is_out shelf.new.queue ≡ is_out shelf.old.queue }
-    ensures fits { OnOk result (fits parent.now child.now shelf.old.queue ≡ true) }
     ensures unchanged { OnErr result (shelf.new ≡ shelf.old) }
 {
-    let before = shelf.len();
     shelf.enter(alloc, parent, child, rights)?;
-    if shelf.len() == before {
-        return Err(Memory);
-    }
     Ok(())
 }
 
@@ -202,6 +199,7 @@ fn take_in(
 ) -> Result<Before, Memory>
     requires one { is_one shelf.old.home hand.old ≡ true }
     requires out { is_some hand.old ≡ is_out shelf.old.queue }
+    requires may { MayTake mode path.now shelf.old.queue }
     ensures queue { OnOk result (shelf.new.queue ≡ at path.now (held_for mode (content_of shelf.old.home hand.old)) shelf.old.queue) }
     ensures content { OnOk result (content_of shelf.new.home hand.new ≡ content_of shelf.old.home hand.old) }
     ensures before { IfOk result (λ b. was_kept b.version (find path.now shelf.old.queue)) }
@@ -216,27 +214,26 @@ fn take_in(
             hold(hand, content);
             Ok(before)
         }
-        None => Err(Memory),
+        None => unreachable!(),
     }
 }
 
 // What is kept for a path whose task does not hold the object.
 fn kept(shelf: &Shelf, path: &Path) -> Result<Before, Memory>
+    requires { IsUnheld (find path.now shelf.now.queue) }
     ensures before { IfOk result (λ b. was_kept b.version (find path.now shelf.now.queue)) }
 {
     match shelf.find(path) {
         Some(entry) => version_kept(entry),
-        None => Err(Memory),
+        None => unreachable!(),
     }
 }
 
 // What is kept for an entry whose task does not hold the object.
 fn version_kept(entry: &Entry) -> Result<Before, Memory>
+    requires { entry.now.hold ≡ None }
     ensures { IfOk result (λ b. was_kept b.version (Some entry.now)) }
 {
-    if entry.hold.is_some() {
-        return Err(Memory);
-    }
     match &entry.version {
         Some(version) => Ok(Before {
             version: Some(version.again()?),

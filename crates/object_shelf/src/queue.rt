@@ -6,7 +6,7 @@ ghost use Rattle.object_shelf.specs.Clear.{IsClear};
 ghost use Rattle.object_shelf.specs.Whole.{is_out};
 ghost use Rattle.task_roll.specs.Order.{fits_at};
 ghost use Rattle.object_shelf.specs.Whole.{reset};
-ghost use Rattle.std.specs.List.{insert, remove};
+ghost use Rattle.std.specs.List.{insert};
 
 use crate::clear::{Clear, of_one, out_at, takes_out};
 use jade_base::{Memory, Mode, Path, Rights, SharedCells};
@@ -15,6 +15,7 @@ use std::collections::VecDeque;
 use std::marker::Model;
 use task_roll::OnPath;
 use task_roll::order::{fits_at, place_of};
+use task_roll::rows::take_out;
 
 /// A task's entry in the queue of an object: its rights, its hold, and the version of the content
 /// that is kept for it.
@@ -401,17 +402,9 @@ fn leave_in(rows: &mut VecDeque<Entry>, clear: &mut Clear, path: &Path)
     let place = entry_place(rows, path);
     if place < rows.len() {
         let was_out = out_at(rows, clear, place);
-        take_out(rows, place);
+        drop(take_out(rows, place));
         clear.left(rows, place, was_out);
     }
-}
-
-// Takes the entry at a place out.
-fn take_out(rows: &mut VecDeque<Entry>, place: usize)
-    requires { place < length rows.old.items }
-    ensures { rows.new.items ≡ remove rows.old.items place }
-{
-    let _ = rows.remove(place);
 }
 
 // The entry's task holds the object, and this version is kept for it.

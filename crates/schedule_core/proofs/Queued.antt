@@ -213,7 +213,7 @@ entry_get P (x ∷ es) zero e h q = subst P (some_entry x e q) h.0
 entry_get P (x ∷ es) (suc j) e h q = entry_get P es j e h.1 q
 
 -- a live task of the path holds the object, with this entry
-data Holds_as (o : ℕ) (p : Path) (d : Entry) : List Live → Type 0 where
+pub data Holds_as (o : ℕ) (p : Path) (d : Entry) : List Live → Type 0 where
   here : (t : Live) (ts : List Live) → t.path ≡ p → d ≡ record { path = t.path; rights = t.rights o; hold = t.held o; version = t.versions o }
       → Holds_as o p d (t ∷ ts)
   later : (t : Live) (ts : List Live) → Holds_as o p d ts → Holds_as o p d (t ∷ ts)
@@ -246,7 +246,7 @@ born_holds p (Steps on) o t d f x = absurd (cc)
 born_holds p (Changes new on) o t d f x = absurd (cc)
 born_holds p (Ends b) o t d f x = absurd (cc)
 
-line_holds : (p : Path) (o : ℕ) (ts : List Live) (d : Entry) → find p (line o ts) ≡ Some d → is_some d.hold ≡ true → Holds_as o p d ts
+pub line_holds : (p : Path) (o : ℕ) (ts : List Live) (d : Entry) → find p (line o ts) ≡ Some d → is_some d.hold ≡ true → Holds_as o p d ts
 line_holds p o [] d f x = absurd (cc)
 line_holds p o (t ∷ ts) d f x = go (λ g. line_holds p o ts d g x) (find_both p (slots o t) (line o ts) d f)
   where

@@ -1,7 +1,6 @@
 -- What is told of every core that allowed events reach, in words of plain data alone.
-use Rattle.std.specs.Prelude.{◌≡◌, ◌≢◌, ℕ, Bool, true, false, List, [], ◌∷◌, ◌++◌, Option, Some, None, ℤ, slice_get, is_some, is_none}
+use Rattle.std.specs.Prelude.{◌≡◌, ◌≢◌, ℕ, Bool, true, false, List, [], ◌∷◌, ◌++◌, Option, Some, None, ℤ, slice_get, is_some}
 use Rattle.jade_base.specs.declared.rights.Mode.{Mode}
-use Rattle.jade_base.specs.declared.rights.Mode.TheVariants.{Reading}
 use Rattle.jade_syntax.specs.declared.tree.Program.{Program}
 use Rattle.jade_base.specs.declared.rights.Rights.{Rights}
 use Rattle.jade_base.specs.Rights.{has_rights}
@@ -11,6 +10,7 @@ use Rattle.object_shelf.specs.declared.queue.Entry.{Entry}
 use Rattle.object_shelf.specs.Views.{ObjectView}
 use Rattle.object_shelf.specs.Shelves.{same_path, find, at, released, takes_out, keeper_in}
 use Rattle.object_shelf.specs.Whole.{is_out}
+pub use Rattle.object_shelf.specs.Takes.{MayTake}
 use Rattle.schedule_core.specs.declared.steps.Seat.{Seat}
 use Rattle.task_roll.specs.declared.note.PartNote.{PartNote}
 use Rattle.schedule_core.specs.Fitting.{Lessened, may}
@@ -22,15 +22,6 @@ pub record Holding (kind : Option Mode → Bool) (p : List ℕ) (es : List Entry
   pub entry : Entry
   pub there : find p es ≡ Some entry
   pub hold : kind entry.hold ≡ true
-
--- what a path's task finds where it may take an object: its entry, without a hold; for reading a version or the content at home, and
--- otherwise the content at home, and no version
-pub record MayTake (m : Mode) (p : List ℕ) (es : List Entry) : Type 0 where
-  pub entry : Entry
-  pub there : find p es ≡ Some entry
-  pub free : entry.hold ≡ None
-  pub home : is_none entry.version ≡ true → is_out es ≡ false
-  pub versionless : m ≢ Reading → entry.version ≡ None
 
 -- what a path's task finds where it gives an object up: its entry, with the hold; and where it has the content out, no entry has it
 -- out once the hold has ended

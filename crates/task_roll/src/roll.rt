@@ -1,6 +1,7 @@
 //! The live tasks and the notes.
 
-ghost use Rattle.std.specs.Prelude.{◌≡◌, ◌<◌, ◌≤◌, [], ◌∷◌, ◌+◌, true, Some, None, length, map, slice_get, slice_index_or, vec_len, vec_capacity, IfOk, OnOk, OnErr, IfSome, IfNone, MatchOption};
+ghost use Rattle.std.specs.Prelude.{◌≡◌, ◌<◌, ◌≤◌, [], ◌∷◌, ◌+◌, true, Some, None, length, map, slice_get, slice_index_or, vec_len};
+ghost use Rattle.std.specs.Prelude.{vec_capacity, IfOk, OnOk, OnErr, IfSome, IfNone, MatchOption};
 ghost use Rattle.std.specs.VecDeque.{deque_len};
 ghost use Rattle.task_roll.specs.Order.{is_ordered, place_among, fits_at};
 ghost use Rattle.task_roll.specs.Rolls.{started, enrolled, resigned, noting, on_roll};

@@ -24,10 +24,7 @@ pub fn one_row<T: Drop>(alloc: Global, row: T) -> Result<VecDeque<T>, Memory>
 
 /// Makes room for one row more, for its note and for one beside. The error is want of memory, and
 /// changes nothing.
-pub fn make_room<T: Drop>(
-    rows: &mut VecDeque<T>,
-    notes: &mut Vec<PartNote>,
-) -> Result<(), Memory>
+pub fn make_room<T: Drop>(rows: &mut VecDeque<T>, notes: &mut Vec<PartNote>) -> Result<(), Memory>
     ensures rows { rows.new.items ≡ rows.old.items }
     ensures notes { notes.new.items ≡ notes.old.items }
     ensures kept { vec_capacity notes.old ≤ vec_capacity notes.new }

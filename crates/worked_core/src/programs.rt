@@ -36,7 +36,8 @@ pub(crate) const WRITER: Schedule = Schedule {
 /// A child makes a child of its own before its sibling reads.
 pub(crate) const NESTED: Schedule = Schedule {
     title: "the child of a child comes before a later sibling",
-    text: "object s : 1; object t : 1; main { withonly { rd_wr(s); } do () { withonly { rd_wr(s); } do () { s[0] = 1; } s[0] = 2; } withonly { rd(s); wr(t); } do () { t[0] = s[0]; } }",
+    text: "object s : 1; object t : 1; main { withonly { rd_wr(s); } do () { withonly { rd_wr(s); } do () { s[0] = 1; } s[0] = 2; } \
+           withonly { rd(s); wr(t); } do () { t[0] = s[0]; } }",
     moves: &[Move::Go(&[], 9), Move::Go(&[0], 4), Move::Go(&[1], 1)],
 };
 

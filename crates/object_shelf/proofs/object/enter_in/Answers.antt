@@ -1,21 +1,13 @@
-use Rattle.std.proofs.Common.{List, ◌≡◌, length, ap, sym, ◌∙◌}
-use Rattle.object_shelf.specs.declared.queue.Entry.{Entry}
-use Rattle.object_shelf.specs.Order.{fitted_in}
-use Rattle.object_shelf.proofs.Wholes.{same-length, fitted-same}
+use Rattle.std.proofs.Common.{ap, ◌∙◌}
 use Rattle.object_shelf.specs.Whole.{is_out}
+use Rattle.object_shelf.proofs.Order.{fitted-in}
+use Rattle.object_shelf.proofs.Wholes.{fitted-same}
 use Rattle.object_shelf.proofs.object.enter_in.Goals as goal
 
-pub returns-then-len-before-clause-unchanged : goal.returns-then-len-before-clause-unchanged
-returns-then-len-before-clause-unchanged c =
-    let es = c.args.shelf.now.queue in
-    let l : length (fitted_in c.args.parent.now c.args.child.now c.args.rights es) ≡ length es =
-    sym (ap (λ s. length s.queue) c.in_ok-enter.ensures.done) ∙ sym c.len.ensures ∙ c.if-len-before.true ∙ c.len-before.ensures in
-    c.in_ok-enter.ensures.done ∙ ap (λ (q : List Entry). record c.args.shelf.now { queue = q })
-    (same-length c.args.parent.now c.args.child.now c.args.rights es l)
-
-pub returns-then-len-before-clause-out : goal.returns-then-len-before-clause-out
-returns-then-len-before-clause-out c =
-    ap (λ s. is_out s.queue) c.in_ok-enter.ensures.done ∙ fitted-same c.args.parent.now c.args.child.now c.args.rights c.args.shelf.now.queue
+pub returns-clause-queue : goal.returns-clause-queue
+returns-clause-queue c =
+    ap (λ s. s.queue) c.in_ok-enter.ensures.done
+    ∙ fitted-in c.args.parent.now c.args.child.now c.args.rights c.args.shelf.now.queue c.requires
 
 pub returns-clause-out : goal.returns-clause-out
 returns-clause-out c = ap (λ s. is_out s.queue) c.in_ok-enter.ensures.done ∙ fitted-same c.args.parent.now c.args.child.now c.args.rights c.args.shelf.now.queue

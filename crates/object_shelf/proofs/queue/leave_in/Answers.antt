@@ -6,7 +6,7 @@ use Rattle.object_shelf.proofs.queue.leave_in.Goals as goal
 
 pub returns-then-place-len-clause-done : goal.returns-then-place-len-clause-done
 returns-then-place-len-clause-done c =
-    c.take_out.ensures ∙ without-place c.args.path.now c.args.rows.now.items c.entry_place-place.result c.entry_place-place.ensures
+    c.take_out.ensures.rest ∙ without-place c.args.path.now c.args.rows.now.items c.entry_place-place.result c.entry_place-place.ensures
     (omega (arith, c.len.ensures, c.if-place-len.true))
 
 pub returns-then-place-len-clause-order : goal.returns-then-place-len-clause-order
@@ -25,4 +25,4 @@ pub returns-then-place-len-clause-clears : goal.returns-then-place-len-clause-cl
 returns-then-place-len-clause-clears c =
     let es = c.args.rows.now.items in
     let at = there-is es c.entry_place-place.result (omega (arith, c.len.ensures, c.if-place-len.true)) in
-    c.left.ensures es at.0 at.1 (c.out_at-was_out.ensures.out at.0 at.1) c.take_out.ensures c.requires.clear
+    c.left.ensures es at.0 at.1 (c.out_at-was_out.ensures.out at.0 at.1) c.take_out.ensures.rest c.requires.clear

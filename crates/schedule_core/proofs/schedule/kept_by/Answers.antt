@@ -4,7 +4,8 @@ use Rattle.schedule_core.proofs.schedule.kept_by.Goals as goal
 
 pub returns-then-place-len : goal.returns-then-place-len
 returns-then-place-len c =
-    none_kept c.args.roll.now.items c.args.shelves.now c.args.path.now c.seat_place-place.result c.seat_place-place.ensures (omega (arith, c.len.ensures, c.if-place-len.true))
+    none_kept c.args.roll.now.items c.args.shelves.now c.args.path.now c.seat_place-place.result c.seat_place-place.ensures
+    (omega (arith, c.len.ensures, c.if-place-len.true))
 
 pub returns : goal.returns
 returns c =
