@@ -8,9 +8,9 @@ use Rattle.jade_base.specs.declared.rights.Mode.TheVariants.{Reading, Writing, C
 use Rattle.jade_base.specs.Rights.{mode_of}
 use Rattle.jade_base.specs.Held.{Held}
 use Rattle.jade_meaning.specs.Specification.{Specification, rights_on}
-use Rattle.jade_meaning.specs.Talk.{Event, TouchRead, TouchWrite, Holds, held, take_in, first_take, touched, events}
+use Rattle.jade_meaning.specs.Talk.{TouchRead, TouchWrite, Holds, held, take_in, first_take, touched, events}
 use Rattle.jade_meaning.specs.Course.{Course, Reads, Writes, Steps, Creates, Changes, Ends}
-use Rattle.task_machine.specs.Playing.{Contents, with_cell, put_in, where_held, writable, for_writing, cell_of, counted, Played, played, answers, touches}
+use Rattle.task_machine.specs.Playing.{Contents, with_cell, put_in, where_held, writable, for_writing, cell_of, counted, played, answers, touches}
 use Rattle.task_machine.specs.Telling.{mode_held, Agrees, TellsAsPlayed}
 
 set_same : (h : Holds) (o : ℕ) → slice_set h o (slice_index_or h o None) ≡ h

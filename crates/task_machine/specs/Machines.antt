@@ -20,9 +20,9 @@ use Rattle.task_machine.specs.declared.machine.Phase.{Phase}
 use Rattle.task_machine.specs.declared.machine.Phase.TheVariants as phase
 use Rattle.task_machine.specs.declared.frame.Pause.{Pause}
 use Rattle.task_machine.specs.declared.frame.Pause.TheVariants as pause
-use Rattle.task_machine.specs.Playing.{Contents, contents_of, answers, touches, played}
+use Rattle.task_machine.specs.Playing.{Contents, answers, touches, played}
 use Rattle.task_machine.specs.Stages.{rights_at, copy_spread, ahead, beyond, slots_of}
-use Rattle.task_machine.specs.Executions.{Execution, Advanced, IsBegun, body_at, held_by, with_content, has_row}
+use Rattle.task_machine.specs.Executions.{Execution, Advanced, IsBegun, body_at, held_by, with_content, has_row, objects_in}
 use Rattle.task_machine.specs.Telling.{mode_held}
 use Rattle.task_machine.specs.Left.{Due, left_to_tell, left_to_change, due_anew, IsLeast, IsNone, to_take, Touches, for_child, is_held}
 
@@ -236,7 +236,7 @@ BeginsCode c zs limit es e =
 abbrev pub DueIsTaken : Machine → Type 0
 DueIsTaken m =
     let spec = rights_at m.execution.stage in
-    (o : ℕ) (mode : Mode) → has_row o m.execution.rows ≡ true → IsLeast (to_take (due_at m) spec) (length spec) o → mode_of (rights_on spec o) ≡ Some mode
+    (o : ℕ) (mode : Mode) → IsLeast (to_take (due_at m) spec) (length spec) o → mode_of (rights_on spec o) ≡ Some mode
     → TakeIsNext o mode phase.Taking m
 
 -- an object that is touched next and not held is taken next
@@ -270,4 +270,21 @@ pub record GivesAndEnds (m : Machine) : Type 0 where
 
 -- a task that goes on to a pause
 abbrev pub AdvancedGoesOn : Machine → Type 0
-AdvancedGoesOn m = (p : Pause) (e : Execution) → Advanced m.execution p e → (p ≡ pause.Other → ⊥) → GoesOn m p e × IsOrdered (at_pause m e) × NoDue (at_pause m e)
+AdvancedGoesOn m = (p : Pause) (e : Execution) → Advanced m.execution p e → (p ≡ pause.Other → ⊥) → GoesOn m p e × IsOrdered (at_pause m e) ×
+    NoDue (at_pause m e)
+
+-- the objects among which the next is found that is to be taken or given up
+abbrev pub candidates : Phase → Execution → List ObjectId
+candidates (phase.Creating number) e = map (λ x. x.0) e.stage.child.entries
+candidates phase.Taking e = objects_in e.rows
+candidates phase.Going e = objects_in e.rows
+candidates phase.Changing e = objects_in e.rows
+candidates (phase.Ending b) e = objects_in e.rows
+
+-- an object is to be taken, or to be given up
+abbrev pub is_to_move : Phase → Execution → List Bool → ℕ → Bool
+is_to_move phase.Taking e ds o = to_take (due_in e.rows ds) (rights_at e.stage) o
+is_to_move phase.Going e ds o = false
+is_to_move (phase.Creating number) e ds o = for_child (made_at e) (holds_at e) o
+is_to_move phase.Changing e ds o = given_back (amended_at e) (holds_at e) o
+is_to_move (phase.Ending b) e ds o = is_held (holds_at e) o

@@ -6,6 +6,7 @@ pub mod frame;
 pub mod holdings;
 pub mod laws;
 pub mod machine;
+pub mod next;
 mod numbers;
 pub mod play;
 pub mod section;
@@ -13,3 +14,5 @@ mod slots;
 
 pub use execution::Execution;
 pub use frame::Pause;
+pub use machine::{Ask, Phase};
+pub use next::next_object;
