@@ -71,16 +71,16 @@ module _ (m : Machine) (good : IsOrdered m) where
   abbrev spec : Specification
   spec = rights_at e.stage
 
-  spec_long : length spec ≡ n
+  pub spec_long : length spec ≡ n
   spec_long = table_long (λ o. rights_in e.stage.spec.entries (id o)) 0 n
 
-  made_long : length (made_at e) ≡ n
+  pub made_long : length (made_at e) ≡ n
   made_long = table_long (λ o. rights_in e.stage.child.entries (id o)) 0 n
 
-  new_long : length (amended_at e) ≡ n
+  pub new_long : length (amended_at e) ≡ n
   new_long = table_long (λ o. copied e.stage.spec (id o)) 0 n
 
-  full : length (holds_at e) ≡ length spec
+  pub full : length (holds_at e) ≡ length spec
   full = holds_long n (held_by e) ∙ sym spec_long
 
   lt_or_le : (i k : ℕ) → (i < k) ⊎ (k ≤ i)
@@ -89,14 +89,14 @@ module _ (m : Machine) (good : IsOrdered m) where
   lt_or_le (suc i) (suc k) = ⊎_elim (λ lt. inl (omega (arith, lt))) (λ le. inr (omega (arith, le))) (lt_or_le i k)
 
   -- what is due has no hold
-  no_hold : (o : ℕ) → due_at m o ≡ true → held (holds_at e) o ≡ None
+  pub no_hold : (o : ℕ) → due_at m o ≡ true → held (holds_at e) o ≡ None
   no_hold o d = ⊎_elim (λ lt. hold_at n (held_by e) o lt ∙ ap mode_held (good.free o d)) (λ le. hold_past n (held_by e) o le) (lt_or_le o n)
 
-  untaken : NoDue m → IsNone (to_take (due_at m) spec) (length spec)
+  pub untaken : NoDue m → IsNone (to_take (due_at m) spec) (length spec)
   untaken none j lt = ap (λ b. if b then is_some (mode_of (rights_on spec j)) else false) (none j)
 
   -- where nothing is due, the course is told
-  told : NoDue m → (c : Course) (vs : List ℤ) → left_to_tell (due_at m) c spec (holds_at e) (steps_at m) vs ≡ events c spec (holds_at e) (steps_at m) vs
+  pub told : NoDue m → (c : Course) (vs : List ℤ) → left_to_tell (due_at m) c spec (holds_at e) (steps_at m) vs ≡ events c spec (holds_at e) (steps_at m) vs
   told none c vs = tells_on (due_at m) spec c (holds_at e) (steps_at m) full (untaken none) no_hold vs
 
   -- what is held has a row
@@ -116,6 +116,11 @@ module _ (m : Machine) (good : IsOrdered m) where
       mode_there (Some x) q = refl
 
   -- ---- takes
+
+  -- where nothing is left to take, the course is told
+  pub takes_done : IsNone (to_take (due_at m) spec) (length spec) → (vs : List ℤ)
+      → left_to_tell (due_at m) (course_at e) spec (holds_at e) (steps_at m) vs ≡ events (course_at e) spec (holds_at e) (steps_at m) vs
+  takes_done none vs = tells_on (due_at m) spec (course_at e) (holds_at e) (steps_at m) full none no_hold vs
 
   set_holds : (o : ℕ) (mode : Mode) (x : Held) → has_row o e.rows ≡ true → x.mode ≡ mode
       → slice_set (holds_at e) o (Some mode) ≡ holds_at (supplied o x m).execution

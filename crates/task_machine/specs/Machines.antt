@@ -232,47 +232,6 @@ BeginsCode c zs limit es e =
     Valid c → IsBegun c zs limit 0 (given_slots zs) es e
     → course_at e ≡ code_course c.bodies zs limit (rights_at e.stage)
 
--- the least object that is due and has a mode is taken next
-abbrev pub DueIsTaken : Machine → Type 0
-DueIsTaken m =
-    let spec = rights_at m.execution.stage in
-    (o : ℕ) (mode : Mode) → IsLeast (to_take (due_at m) spec) (length spec) o → mode_of (rights_on spec o) ≡ Some mode
-    → TakeIsNext o mode phase.Taking m
-
--- an object that is touched next and not held is taken next
-abbrev pub WantedIsTaken : Machine → Type 0
-WantedIsTaken m =
-    let e = m.execution in
-    (o : ℕ) (mode : Mode) → has_row o e.rows ≡ true → o < e.stage.objects → Touches o (course_at e) → held_by e o ≡ None
-    → mode_of (rights_on (rights_at e.stage) o) ≡ Some mode → TakeIsNext o mode phase.Going m
-
--- the body of this number is created next
-abbrev pub IsCreated : ℕ → Execution → Type 0
-IsCreated number e =
-    course_at e ≡ Creates (made_at e) (child_of e number (slots_of e.stage.slots) (made_at e)) (beyond (child_of e) e.stage (rights_at e.stage) NoDraft)
-
-pub record GivesAndCreates (m : Machine) : Type 0 where
-  pub gives : (number o : ℕ) → IsCreated number m.execution → IsLeast (for_child (made_at m.execution) (holds_at m.execution)) (length (made_at m.execution)) o
-      → GiveIsNext o (phase.Creating number) m
-  pub creates : (number : ℕ) → IsCreated number m.execution → IsNone (for_child (made_at m.execution) (holds_at m.execution)) (length (made_at m.execution))
-      → CreationIsNext number m
-
-pub record GivesAndChanges (m : Machine) : Type 0 where
-  pub gives : (o : ℕ) → IsLeast (given_back (amended_at m.execution) (holds_at m.execution)) (length (amended_at m.execution)) o
-      → GiveIsNext o phase.Changing m
-  pub changes : IsNone (given_back (amended_at m.execution) (holds_at m.execution)) (length (amended_at m.execution)) → ChangeIsNext m
-
-pub record GivesAndEnds (m : Machine) : Type 0 where
-  pub gives : (b : Option Blame) (o : ℕ) → course_at m.execution ≡ Ends b
-      → IsLeast (is_held (holds_at m.execution)) (length (rights_at m.execution.stage)) o → GiveIsNext o (phase.Ending b) m
-  pub ends : (b : Option Blame) → course_at m.execution ≡ Ends b
-      → IsNone (is_held (holds_at m.execution)) (length (rights_at m.execution.stage)) → EndIsNext b m
-
--- a task that goes on to a pause
-abbrev pub AdvancedGoesOn : Machine → Type 0
-AdvancedGoesOn m = (p : Pause) (e : Execution) → Advanced m.execution p e → (p ≡ pause.Other → ⊥) → GoesOn m p e × IsOrdered (at_pause m e) ×
-    NoDue (at_pause m e)
-
 -- the objects among which the next is found that is to be taken or given up
 abbrev pub candidates : Phase → Execution → List ObjectId
 candidates (phase.Creating number) e = map (λ x. x.0) e.stage.child.entries
@@ -288,3 +247,50 @@ is_to_move phase.Going e ds o = false
 is_to_move (phase.Creating number) e ds o = for_child (made_at e) (holds_at e) o
 is_to_move phase.Changing e ds o = given_back (amended_at e) (holds_at e) o
 is_to_move (phase.Ending b) e ds o = is_held (holds_at e) o
+
+-- this object is the next to be taken or given up
+abbrev pub IsNext : Phase → Machine → ℕ → Type 0
+IsNext p m o = IsLeast (is_to_move p m.execution m.due) m.execution.stage.objects o
+
+-- nothing is left to be taken or given up
+abbrev pub NoneIsNext : Phase → Machine → Type 0
+NoneIsNext p m = IsNone (is_to_move p m.execution m.due) m.execution.stage.objects
+
+-- the least object that is due and has a mode is taken next, and where there is none, the course is told
+pub record TakesDue (m : Machine) : Type 0 where
+  pub takes : (o : ℕ) (mode : Mode) → IsNext phase.Taking m o → mode_of (rights_on (rights_at m.execution.stage) o) ≡ Some mode
+      → TakeIsNext o mode phase.Taking m
+  pub goes_on : NoneIsNext phase.Taking m → (vs : List ℤ) → left_in phase.Taking m vs
+      ≡ events (course_at m.execution) (rights_at m.execution.stage) (holds_at m.execution) (steps_at m) vs
+
+-- an object that is touched next and not held is taken next
+abbrev pub WantedIsTaken : Machine → Type 0
+WantedIsTaken m =
+    let e = m.execution in
+    (o : ℕ) (mode : Mode) → has_row o e.rows ≡ true → o < e.stage.objects → Touches o (course_at e) → held_by e o ≡ None
+    → mode_of (rights_on (rights_at e.stage) o) ≡ Some mode → TakeIsNext o mode phase.Going m
+
+-- the body of this number is created next
+abbrev pub IsCreated : ℕ → Execution → Type 0
+IsCreated number e =
+    course_at e ≡ Creates (made_at e) (child_of e number (slots_of e.stage.slots) (made_at e)) (beyond (child_of e) e.stage (rights_at e.stage) NoDraft)
+
+-- the least object that is held and asked for is given up next, and where there is none, the child is created, the rights change
+-- or the task ends
+pub record GivesAndCreates (m : Machine) : Type 0 where
+  pub gives : (number o : ℕ) → IsCreated number m.execution → IsNext (phase.Creating number) m o → GiveIsNext o (phase.Creating number) m
+  pub creates : (number : ℕ) → IsCreated number m.execution → NoneIsNext (phase.Creating number) m → CreationIsNext number m
+
+pub record GivesAndChanges (m : Machine) : Type 0 where
+  pub gives : (o : ℕ) → IsNext phase.Changing m o → GiveIsNext o phase.Changing m
+  pub changes : NoneIsNext phase.Changing m → ChangeIsNext m
+
+pub record GivesAndEnds (m : Machine) : Type 0 where
+  pub gives : (b : Option Blame) (o : ℕ) → course_at m.execution ≡ Ends b → IsNext (phase.Ending b) m o → GiveIsNext o (phase.Ending b) m
+  pub ends : (b : Option Blame) → course_at m.execution ≡ Ends b → NoneIsNext (phase.Ending b) m → EndIsNext b m
+
+-- a task that goes on to a pause has the same left, and nothing is due then
+abbrev pub AdvancedGoesOn : Machine → Type 0
+AdvancedGoesOn m =
+    (p : Pause) (e : Execution) → Advanced m.execution p e → (p ≡ pause.Other → ⊥)
+    → GoesOn m p e × IsOrdered (at_pause m e) × NoDue (at_pause m e)
