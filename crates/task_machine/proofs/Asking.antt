@@ -1,4 +1,4 @@
--- What a machine asks for is what its talk has next.
+-- What a task takes, gives up and plays is what its talk has next.
 use Rattle.std.proofs.Common.{◌≡◌, ℕ, zero, suc, ◌+◌, ◌-◌, ◌<◌, ◌≤◌, ◌⊎◌, inl, inr, List, [], ◌∷◌, ◌++◌, length, Bool, true, false, Option, Some, None}
 use Rattle.std.proofs.Common.{refl, sym, ap, ap₂, ◌∙◌, subst, arith, ⊎_elim}
 use Rattle.std.specs.Prelude.{ℤ, ◌&&◌, is_some, slice_set, nat_eq, if◌then◌else◌}
@@ -17,8 +17,8 @@ use Rattle.jade_meaning.specs.Course.{Course, Reads, Writes, Steps, Creates, Cha
 use Rattle.jade_meaning.specs.Talk.{Take, Give, held, given_back, events}
 use Rattle.code_meaning.specs.Children.{children_of}
 use Rattle.jade_meaning.specs.Spread.{spread}
-use Rattle.task_machine.specs.declared.machine.Phase.{Phase}
-use Rattle.task_machine.specs.declared.machine.Phase.TheVariants as phase
+use Rattle.task_machine.specs.declared.next.Phase.{Phase}
+use Rattle.task_machine.specs.declared.next.Phase.TheVariants as phase
 use Rattle.task_machine.specs.Playing.{contents_of, where_held, cell_of, counted, with_cell, played, Played, answers, touches}
 use Rattle.task_machine.specs.Stages.{id, rights_at, ahead, beyond, slots_of, Wants, Tells}
 use Rattle.task_machine.specs.Executions.{Execution, held_by, with_content, has_row, objects_in, Advanced}

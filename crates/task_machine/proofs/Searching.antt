@@ -13,8 +13,8 @@ use Rattle.jade_base.specs.Specification.{AllAbove, IsAscending, rights_in}
 use Rattle.jade_meaning.specs.Specification.{rights_on, yields}
 use Rattle.jade_meaning.specs.Talk.{held}
 use Rattle.task_machine.specs.declared.holdings.Row.{Row}
-use Rattle.task_machine.specs.declared.machine.Phase.{Phase}
-use Rattle.task_machine.specs.declared.machine.Phase.TheVariants as phase
+use Rattle.task_machine.specs.declared.next.Phase.{Phase}
+use Rattle.task_machine.specs.declared.next.Phase.TheVariants as phase
 use Rattle.task_machine.specs.Stages.{id, rights_at}
 use Rattle.task_machine.specs.Executions.{Execution, held_by, has_row, objects_in}
 use Rattle.task_machine.specs.Telling.{mode_held}

@@ -1,4 +1,4 @@
--- A task that asks for what it needs, and what is left of its talk.
+-- A task that plays its code and takes and gives up objects, and what is left of its talk.
 use Rattle.std.specs.Prelude.{◌≡◌, ℕ, ◌-◌, ◌<◌, ◌≤◌, ◌==◌, Bool, true, false, List, [], ◌∷◌, ◌++◌, length, map, Option, Some, None, ℤ}
 use Rattle.std.specs.Prelude.{if◌then◌else◌}
 use Rattle.jade_base.specs.declared.report.Blame.{Blame}
@@ -15,9 +15,8 @@ use Rattle.code_meaning.specs.Meaning.{Children, given_slots, passed, code_cours
 use Rattle.task_code.specs.Rules.{TaskCode, Valid}
 use Rattle.code_meaning.specs.Children.{children_of}
 use Rattle.task_machine.specs.declared.holdings.Row.{Row}
-use Rattle.task_machine.specs.declared.machine.Ask.{Ask}
-use Rattle.task_machine.specs.declared.machine.Phase.{Phase}
-use Rattle.task_machine.specs.declared.machine.Phase.TheVariants as phase
+use Rattle.task_machine.specs.declared.next.Phase.{Phase}
+use Rattle.task_machine.specs.declared.next.Phase.TheVariants as phase
 use Rattle.task_machine.specs.declared.frame.Pause.{Pause}
 use Rattle.task_machine.specs.declared.frame.Pause.TheVariants as pause
 use Rattle.task_machine.specs.Playing.{Contents, answers, touches, played}
@@ -26,16 +25,12 @@ use Rattle.task_machine.specs.Executions.{Execution, Advanced, IsBegun, body_at,
 use Rattle.task_machine.specs.Telling.{mode_held}
 use Rattle.task_machine.specs.Left.{Due, left_to_tell, left_to_change, due_anew, IsLeast, IsNone, to_take, Touches, for_child, is_held}
 
--- The execution of the task; for each row of it whether its object is still to be taken; what the task is about, and the ask
--- that stands; how many asks and children there were, modulo 2^64 and 2^32, and the steps that it could begin when its
--- present part began.
+-- The execution of the task; for each row of it whether its object is still to be taken; what the task is about; and the steps
+-- that it could begin when its present part began.
 pub record Machine : Type 0 where
   pub execution : Execution
   pub due : List Bool
   pub phase : Phase
-  pub asked : Option Ask
-  pub asks : ℕ
-  pub children : ℕ
   pub part : ℕ
 
 -- the mark of an object's row
@@ -100,7 +95,6 @@ abbrev pub supplied : ℕ → Held → Machine → Machine
 supplied o x m = record m {
   execution = record m.execution { rows = with_content o (Some x) m.execution.rows };
   due = with_mark o false m.execution.rows m.due;
-  asked = None;
 }
 
 -- an object that is given up for a change is due after it
@@ -116,7 +110,6 @@ abbrev pub surrendered : ℕ → Machine → Machine
 surrendered o m = record m {
   execution = record m.execution { rows = with_content o None m.execution.rows };
   due = marks_after m.phase o m.execution.rows m.due;
-  asked = None;
 }
 
 -- the task that is to be created
@@ -204,9 +197,6 @@ begun e = record {
   execution = e;
   due = all_due e.rows;
   phase = phase.Taking;
-  asked = None;
-  asks = 0;
-  children = 0;
   part = e.stage.left;
 }
 

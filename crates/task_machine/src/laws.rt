@@ -31,9 +31,8 @@ pub fn begins_due()
     ensures { (due : Due) (t : Task) → BeginsDue due t }
 {}
 
-/// What is due is taken by ascending number; where nothing is left to take, the course is told;
-/// an object
-/// that is touched and not held is taken first.
+/// What is due is taken by ascending number; where nothing is left to take, the course is told; an
+/// object that is touched and not held is taken first.
 pub fn takes_in_order()
     ensures least { (due : Due) (c : Course) (spec : Specification) (h : Holds) (n o : ℕ) (m : Mode) → TakesLeast due c spec h n o m }
     ensures on { (due : Due) (c : Course) (spec : Specification) (h : Holds) (n : ℕ) → TellsOn due c spec h n }

@@ -5,7 +5,6 @@ mod execution;
 pub mod frame;
 pub mod holdings;
 pub mod laws;
-pub mod machine;
 pub mod next;
 mod numbers;
 pub mod play;
@@ -14,5 +13,4 @@ mod slots;
 
 pub use execution::Execution;
 pub use frame::Pause;
-pub use machine::{Ask, Phase};
-pub use next::next_object;
+pub use next::{Phase, next_object};

@@ -7,9 +7,23 @@ ghost use Rattle.task_machine.specs.Machines.{candidates, due_in, is_to_move};
 ghost use Rattle.task_machine.specs.steps.Searching.{ObjectsAscend};
 
 use crate::execution::Execution;
-use crate::machine::Phase;
 use access_spec::{gives_way, mode_of};
-use jade_base::{Mode, ObjectId, Rights};
+use jade_base::{Blame, Mode, ObjectId, Rights};
+
+/// What a task is about.
+#[derive(Clone, Copy, Debug, PartialEq, Eq)]
+pub enum Phase {
+    /// It takes what is due.
+    Taking,
+    /// It runs its code.
+    Going,
+    /// A child with the body of this number begins, once what it gets is given up.
+    Creating(u32),
+    /// Its rights change, once what it may not hold then is given up.
+    Changing,
+    /// It ends, once all that it holds is given up.
+    Ending(Option<Blame>),
+}
 
 // The number of objects among which one is looked for.
 fn count(execution: &Execution, phase: Phase) -> usize
