@@ -1,7 +1,7 @@
--- What a machine asks for is what its talk has next.
-use Rattle.std.proofs.Common.{◌≡◌, ℕ, zero, suc, ◌+◌, ◌-◌, ◌<◌, ◌≤◌, ◌⊎◌, inl, inr, List, [], ◌∷◌, ◌++◌, map, length, Bool, true, false, Option, Some, None}
+-- What a task takes, gives up and plays is what its talk has next.
+use Rattle.std.proofs.Common.{◌≡◌, ℕ, zero, suc, ◌+◌, ◌-◌, ◌<◌, ◌≤◌, ◌⊎◌, inl, inr, List, [], ◌∷◌, ◌++◌, length, Bool, true, false, Option, Some, None}
 use Rattle.std.proofs.Common.{refl, sym, ap, ap₂, ◌∙◌, subst, arith, ⊎_elim}
-use Rattle.std.specs.Prelude.{ℤ, not, ◌&&◌, is_some, slice_set, slice_get, nat_eq, if◌then◌else◌}
+use Rattle.std.specs.Prelude.{ℤ, ◌&&◌, is_some, slice_set, nat_eq, if◌then◌else◌}
 use Rattle.std.proofs.lemmas.Bool.{true≢false}
 use Rattle.std.proofs.lemmas.Option.{none-some}
 use Rattle.jade_base.specs.declared.report.Blame.{Blame}
@@ -12,25 +12,24 @@ use Rattle.jade_base.specs.Rights.{mode_of, no_rights}
 use Rattle.jade_base.specs.Specification.{rights_in}
 use Rattle.access_spec.specs.Copies.{copied}
 use Rattle.jade_base.specs.Held.{Held}
-use Rattle.jade_meaning.specs.Specification.{Specification, rights_on, numbers, yields, same_hold}
+use Rattle.jade_meaning.specs.Specification.{Specification, rights_on, yields}
 use Rattle.jade_meaning.specs.Course.{Course, Reads, Writes, Steps, Creates, Changes, Ends, NoDraft}
-use Rattle.jade_meaning.specs.Talk.{Event, Take, Give, Holds, held, given_back, events}
-use Rattle.code_meaning.specs.Meaning.{Children}
+use Rattle.jade_meaning.specs.Talk.{Take, Give, held, given_back, events}
 use Rattle.code_meaning.specs.Children.{children_of}
 use Rattle.jade_meaning.specs.Spread.{spread}
-use Rattle.task_machine.specs.declared.machine.Phase.{Phase}
-use Rattle.task_machine.specs.declared.machine.Phase.TheVariants as phase
-use Rattle.task_machine.specs.Playing.{Contents, contents_of, where_held, cell_of, counted, with_cell, played, Played, answers, touches}
-use Rattle.task_machine.specs.Stages.{id, rights_at, copy_spread, ahead, beyond, slots_of, Wants, Tells}
-use Rattle.task_machine.specs.Executions.{Execution, held_by, with_content, has_row, objects_in, Advanced, IsSameTask}
+use Rattle.task_machine.specs.declared.next.Phase.{Phase}
+use Rattle.task_machine.specs.declared.next.Phase.TheVariants as phase
+use Rattle.task_machine.specs.Playing.{contents_of, where_held, cell_of, counted, with_cell, played, Played, answers, touches}
+use Rattle.task_machine.specs.Stages.{id, rights_at, ahead, beyond, slots_of, Wants, Tells}
+use Rattle.task_machine.specs.Executions.{Execution, held_by, with_content, has_row, objects_in, Advanced}
 use Rattle.task_machine.specs.declared.holdings.Row.{Row}
 use Rattle.task_machine.specs.declared.frame.Pause.{Pause}
 use Rattle.task_machine.specs.declared.frame.Pause.TheVariants as pause
 use Rattle.task_machine.specs.Telling.{mode_held, Agrees}
-use Rattle.task_machine.specs.Left.{Due, left_to_tell, left_to_change, due_anew, but, and_also, no_due, IsLeast, IsNone, to_take, Touches, for_child, is_held}
-use Rattle.task_machine.specs.Machines.{Machine, due_in, due_at, with_mark, holds_of, holds_at, child_of, course_at, made_at, amended_at, steps_at, left_in}
-use Rattle.task_machine.specs.Machines.{supplied, surrendered, TakeIsNext, GiveIsNext, CreationIsNext, ChangeIsNext, EndIsNext, PlaysOn}
-use Rattle.task_machine.specs.Machines.{NoDue, IsOrdered, rest_of, AdvancedGoesOn, is_event, at_pause, GoesOn}
+use Rattle.task_machine.specs.Left.{Due, left_to_tell, left_to_change, IsLeast, IsNone, to_take, Touches, for_child, is_held}
+use Rattle.task_machine.specs.Machines.{Machine, due_in, due_at, holds_of, holds_at, child_of, course_at, made_at, amended_at, steps_at, left_in}
+use Rattle.task_machine.specs.Machines.{supplied, TakeIsNext, GiveIsNext, CreationIsNext, ChangeIsNext, EndIsNext, PlaysOn}
+use Rattle.task_machine.specs.Machines.{NoDue, IsOrdered, rest_of, is_event, at_pause, GoesOn}
 use Rattle.task_machine.proofs.Tables.{table_long, table_past, table_same}
 use Rattle.task_machine.proofs.Marks.{holds_set, due_but, due_also, due_kept, no_content, no_mark, hold_at, hold_past, holds_long}
 use Rattle.task_machine.proofs.Left.{takes_least, tells_on, takes_touched, gives_for_child, enters_now, gives_for_change, shifts_now, gives_at_end, resigns}
@@ -72,16 +71,16 @@ module _ (m : Machine) (good : IsOrdered m) where
   abbrev spec : Specification
   spec = rights_at e.stage
 
-  spec_long : length spec ≡ n
+  pub spec_long : length spec ≡ n
   spec_long = table_long (λ o. rights_in e.stage.spec.entries (id o)) 0 n
 
-  made_long : length (made_at e) ≡ n
+  pub made_long : length (made_at e) ≡ n
   made_long = table_long (λ o. rights_in e.stage.child.entries (id o)) 0 n
 
-  new_long : length (amended_at e) ≡ n
+  pub new_long : length (amended_at e) ≡ n
   new_long = table_long (λ o. copied e.stage.spec (id o)) 0 n
 
-  full : length (holds_at e) ≡ length spec
+  pub full : length (holds_at e) ≡ length spec
   full = holds_long n (held_by e) ∙ sym spec_long
 
   lt_or_le : (i k : ℕ) → (i < k) ⊎ (k ≤ i)
@@ -90,14 +89,14 @@ module _ (m : Machine) (good : IsOrdered m) where
   lt_or_le (suc i) (suc k) = ⊎_elim (λ lt. inl (omega (arith, lt))) (λ le. inr (omega (arith, le))) (lt_or_le i k)
 
   -- what is due has no hold
-  no_hold : (o : ℕ) → due_at m o ≡ true → held (holds_at e) o ≡ None
+  pub no_hold : (o : ℕ) → due_at m o ≡ true → held (holds_at e) o ≡ None
   no_hold o d = ⊎_elim (λ lt. hold_at n (held_by e) o lt ∙ ap mode_held (good.free o d)) (λ le. hold_past n (held_by e) o le) (lt_or_le o n)
 
-  untaken : NoDue m → IsNone (to_take (due_at m) spec) (length spec)
+  pub untaken : NoDue m → IsNone (to_take (due_at m) spec) (length spec)
   untaken none j lt = ap (λ b. if b then is_some (mode_of (rights_on spec j)) else false) (none j)
 
   -- where nothing is due, the course is told
-  told : NoDue m → (c : Course) (vs : List ℤ) → left_to_tell (due_at m) c spec (holds_at e) (steps_at m) vs ≡ events c spec (holds_at e) (steps_at m) vs
+  pub told : NoDue m → (c : Course) (vs : List ℤ) → left_to_tell (due_at m) c spec (holds_at e) (steps_at m) vs ≡ events c spec (holds_at e) (steps_at m) vs
   told none c vs = tells_on (due_at m) spec c (holds_at e) (steps_at m) full (untaken none) no_hold vs
 
   -- what is held has a row
@@ -118,13 +117,26 @@ module _ (m : Machine) (good : IsOrdered m) where
 
   -- ---- takes
 
+  -- where nothing is left to take, the course is told
+  pub takes_done : IsNone (to_take (due_at m) spec) (length spec) → (vs : List ℤ)
+      → left_to_tell (due_at m) (course_at e) spec (holds_at e) (steps_at m) vs ≡ events (course_at e) spec (holds_at e) (steps_at m) vs
+  takes_done none vs = tells_on (due_at m) spec (course_at e) (holds_at e) (steps_at m) full none no_hold vs
+
   set_holds : (o : ℕ) (mode : Mode) (x : Held) → has_row o e.rows ≡ true → x.mode ≡ mode
       → slice_set (holds_at e) o (Some mode) ≡ holds_at (supplied o x m).execution
   set_holds o mode x row same = ap (λ y. slice_set (holds_at e) o (Some y)) (sym same) ∙ sym (holds_set e.rows o row (Some x) n)
 
-  pub take_due : (o : ℕ) (mode : Mode) → has_row o e.rows ≡ true → IsLeast (to_take (due_at m) spec) (length spec) o → mode_of (rights_on spec o) ≡ Some mode
+  due_has_row : (o : ℕ) → to_take (due_at m) spec o ≡ true → has_row o e.rows ≡ true
+  due_has_row o h = at (has_row o e.rows) refl
+    where
+      at : (b : Bool) → has_row o e.rows ≡ b → b ≡ true
+      at true q = refl
+      at false q = absurd (true≢false (sym h ∙ ap (λ d. if d then is_some (mode_of (rights_on spec o)) else false) (no_mark e.rows m.due o q)))
+
+  pub take_due : (o : ℕ) (mode : Mode) → IsLeast (to_take (due_at m) spec) (length spec) o → mode_of (rights_on spec o) ≡ Some mode
       → TakeIsNext o mode phase.Taking m
-  take_due o mode row least is x same vs =
+  take_due o mode least is x same vs =
+      let row = due_has_row o least.here in
       takes_least (due_at m) spec (course_at e) (holds_at e) (steps_at m) o mode full least is vs
       ∙ ap₂ (λ due h. Take o mode ∷ left_to_tell due (course_at e) spec h (steps_at m) vs) (sym (due_but e.rows o row (Some x) m.due good.long))
       (set_holds o mode x row same)
@@ -137,7 +149,8 @@ module _ (m : Machine) (good : IsOrdered m) where
       (hold_at n (held_by e) o lt ∙ ap mode_held free) is vs
       ∙ ap (λ h. Take o mode ∷ events (course_at e) spec h (steps_at m) vs) (set_holds o mode x row same)
       ∙ ap (λ es. Take o mode ∷ es) (sym (tells_on (due_at (supplied o x m)) spec (course_at e) (holds_at (supplied o x m).execution) (steps_at m)
-      (holds_long n (held_by (supplied o x m).execution) ∙ sym spec_long) (λ j lt. ap (λ b. if b then is_some (mode_of (rights_on spec j)) else false) (still j))
+      (holds_long n (held_by (supplied o x m).execution) ∙ sym spec_long)
+      (λ j lt. ap (λ b. if b then is_some (mode_of (rights_on spec j)) else false) (still j))
       (λ j d. absurd (true≢false (sym d ∙ still j))) vs))
     where
       still : (j : ℕ) → due_at (supplied o x m) j ≡ false
@@ -172,9 +185,11 @@ module _ (m : Machine) (good : IsOrdered m) where
 
   -- the courses that have gives before them
   give_first : (p : Phase) → NoDue m → (o : ℕ) → is_some (held (holds_at e) o) ≡ true
-      → ((vs : List ℤ) → events (course_at e) spec (holds_at e) (steps_at m) vs ≡ Give o ∷ events (course_at e) spec (slice_set (holds_at e) o None) (steps_at m) vs)
+      → ((vs : List ℤ) → events (course_at e) spec (holds_at e) (steps_at m) vs ≡
+      Give o ∷ events (course_at e) spec (slice_set (holds_at e) o None) (steps_at m) vs)
       → (vs : List ℤ) → left_to_tell (due_at m) (course_at e) spec (holds_at e) (steps_at m) vs
-      ≡ Give o ∷ left_to_tell (due_in (with_content o None e.rows) m.due) (course_at e) spec (holds_of n (contents_of (with_content o None e.rows))) (steps_at m) vs
+      ≡ Give o ∷ left_to_tell (due_in (with_content o None e.rows) m.due) (course_at e) spec (holds_of n (contents_of (with_content o None e.rows)))
+      (steps_at m) vs
   give_first p none o h gives vs =
       told none (course_at e) vs ∙ gives vs ∙ ap (λ g. Give o ∷ events (course_at e) spec g (steps_at m) vs) (given_up o h)
       ∙ ap (λ es. Give o ∷ es) (sym (told_after none o (course_at e) vs h))
@@ -187,13 +202,15 @@ module _ (m : Machine) (good : IsOrdered m) where
   give_for_child number o none is least =
       give_first (phase.Creating number) none o (yields_held (held (holds_at e) o) (rights_on (made_at e) o) least.here)
       (λ vs. ap (λ c. events c spec (holds_at e) (steps_at m) vs) is
-      ∙ gives_for_child (made_at e) (child_of e number (slots_of e.stage.slots) (made_at e)) (beyond (child_of e) e.stage spec NoDraft) spec (holds_at e) (steps_at m) o least vs
+      ∙ gives_for_child (made_at e) (child_of e number (slots_of e.stage.slots) (made_at e)) (beyond (child_of e) e.stage spec NoDraft) spec (holds_at e)
+      (steps_at m) o least vs
       ∙ ap (λ c. Give o ∷ events c spec (slice_set (holds_at e) o None) (steps_at m) vs) (sym is))
 
   pub creation_next : (number : ℕ) → NoDue m → Created number → IsNone (for_child (made_at e) (holds_at e)) (length (made_at e)) → CreationIsNext number m
   creation_next number none is free vs =
       told none (course_at e) vs ∙ ap (λ c. events c spec (holds_at e) (steps_at m) vs) is
-      ∙ enters_now (made_at e) (child_of e number (slots_of e.stage.slots) (made_at e)) (beyond (child_of e) e.stage spec NoDraft) spec (holds_at e) (steps_at m) (made_long ∙ sym (holds_long n (held_by e))) free vs
+      ∙ enters_now (made_at e) (child_of e number (slots_of e.stage.slots) (made_at e)) (beyond (child_of e) e.stage spec NoDraft) spec (holds_at e)
+      (steps_at m) (made_long ∙ sym (holds_long n (held_by e))) free vs
 
   pub give_at_end : (b : Option Blame) (o : ℕ) → NoDue m → course_at e ≡ Ends b → IsLeast (is_held (holds_at e)) (length spec) o
       → GiveIsNext o (phase.Ending b) m

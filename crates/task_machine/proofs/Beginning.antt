@@ -1,30 +1,28 @@
 -- A machine that begins, and what is left then.
 use Rattle.std.proofs.Common.{◌≡◌, ℕ, zero, suc, ◌+◌, ◌-◌, ◌<◌, ◌⊎◌, inl, inr, List, [], ◌∷◌, map, length, Bool, true, false, Option, Some, None}
-use Rattle.std.proofs.Common.{refl, sym, ap, ap₂, ◌∙◌, subst, arith}
+use Rattle.std.proofs.Common.{refl, sym, ap, ap₂, ◌∙◌, arith}
 use Rattle.std.specs.Prelude.{ℤ, pos, is_some, nat_eq, slice_get, if◌then◌else◌}
 use Rattle.std.proofs.lemmas.Bool.{cases_eq, eq-eqb, ne_eqb, true≢false}
 use Rattle.std.proofs.lemmas.Option.{slice_get-get_or}
 use Rattle.jade_base.specs.declared.place.ObjectId.{ObjectId}
 use Rattle.jade_base.specs.declared.rights.Rights.{Rights}
 use Rattle.jade_base.specs.Rights.{mode_of, no_rights}
-use Rattle.jade_base.specs.Specification.{rights_in, settled, Specification as Sparse}
-use Rattle.jade_meaning.specs.Specification.{Specification, rights_on, numbers}
-use Rattle.jade_meaning.specs.Course.{Course, NoDraft}
+use Rattle.jade_base.specs.Specification.{rights_in, Specification as Sparse}
+use Rattle.jade_meaning.specs.Specification.{numbers}
+use Rattle.jade_meaning.specs.Course.{NoDraft}
 use Rattle.jade_meaning.specs.Spread.{spread}
-use Rattle.jade_meaning.specs.Talk.{Task, Holds, talk}
+use Rattle.jade_meaning.specs.Talk.{Task}
 use Rattle.code_meaning.specs.declared.code.Operand.{Operand}
-use Rattle.code_meaning.specs.Meaning.{Body, Slots, Children, from_place, given_slots, passed, body_going, code_course}
+use Rattle.code_meaning.specs.Meaning.{Body, Slots, Children, from_place, passed, body_going}
 use Rattle.code_meaning.specs.Children.{children_of, ChildrenAre, RootIs}
 use Rattle.task_code.specs.Rules.{TaskCode}
-use Rattle.task_machine.specs.declared.holdings.Row.{Row}
-use Rattle.task_machine.specs.declared.section.Section.TheVariants as section
 use Rattle.task_machine.specs.Playing.{contents_of}
 use Rattle.task_machine.specs.Stages.{id, slots_of, rights_at, drafted_as}
-use Rattle.task_machine.specs.Executions.{Execution, IsBegun, body_at, held_by, has_row, without_content}
+use Rattle.task_machine.specs.Executions.{Execution, IsBegun, body_at, without_content}
 use Rattle.task_machine.specs.Telling.{mode_held}
 use Rattle.task_machine.specs.Left.{left_to_tell, no_holds, has_mode}
-use Rattle.task_machine.specs.Machines.{due_in, all_due, begun, holds_of, holds_at, course_at, child_of, made_at, BeginsItsTalk, BeginsChild, BeginsCode}
-use Rattle.task_machine.proofs.Tables.{table_same, table_long, table_past, table_at}
+use Rattle.task_machine.specs.Machines.{due_in, all_due, holds_of, holds_at, course_at, child_of, made_at, BeginsItsTalk, BeginsChild, BeginsCode}
+use Rattle.task_machine.proofs.Tables.{table_past, table_at}
 use Rattle.task_machine.proofs.Left.{begins_due}
 use Rattle.task_machine.proofs.Executing.{first_there, no_call}
 
@@ -81,10 +79,10 @@ begins_its_talk c zs limit body ss es e b vs =
     let n = e.stage.objects in
     let task : Task = record { spec = rights_at e.stage; course = course_at e } in
     let all : (o : ℕ) → has_mode (rights_at e.stage) o ≡ true → due_in e.rows (all_due e.rows) o ≡ true =
-        λ o h. ap (λ rs. due_in rs (all_due rs) o) b.rows
-        ∙ marked es o (mode_inside n es o (sym (ap (λ l. has_mode (spread n l) o) entries) ∙ h)) in
+    λ o h. ap (λ rs. due_in rs (all_due rs) o) b.rows
+    ∙ marked es o (mode_inside n es o (sym (ap (λ l. has_mode (spread n l) o) entries) ∙ h)) in
     let none : holds_at e ≡ no_holds (rights_at e.stage) =
-        ap (λ rs. holds_of n (contents_of rs)) b.rows ∙ nothing_held es 0 n ∙ ap (λ l. no_holds (spread n l)) (sym entries) in
+    ap (λ rs. holds_of n (contents_of rs)) b.rows ∙ nothing_held es 0 n ∙ ap (λ l. no_holds (spread n l)) (sym entries) in
     let steps : e.stage.left - e.stage.left ≡ 0 = omega arith in
     ap₂ (λ h k. left_to_tell (due_in e.rows (all_due e.rows)) (course_at e) (rights_at e.stage) h k vs) none steps
     ∙ sym (begins_due (due_in e.rows (all_due e.rows)) task all vs)
@@ -96,8 +94,8 @@ module _ (e : Execution) (call : List Operand) (ss : Slots) (es : List (ObjectId
   begins_body =
       let kids : Execution → Children = λ x. children_of x.numbers x.limit x.program.bodies x.body in
       let kids_are : kids e ≡ children_of zs limit c.bodies number =
-          ap₂ (λ (p : TaskCode) ns. children_of ns e.limit p.bodies e.body) b.of.0 b.of.1
-          ∙ ap₂ (λ l k. children_of zs l c.bodies k) b.of.2 b.of.3 in
+      ap₂ (λ (p : TaskCode) ns. children_of ns e.limit p.bodies e.body) b.of.0 b.of.1
+      ∙ ap₂ (λ l k. children_of zs l c.bodies k) b.of.2 b.of.3 in
       ap₂ (λ k code. from_place k code e.stage.left e.stage.place (slots_of e.stage.slots) (rights_at e.stage)
       (drafted_as e.stage.section e.stage.objects e.stage.child e.stage.spec)) kids_are b.code
       ∙ ap₂ (λ l p. from_place (children_of zs limit c.bodies number) (body_at c number).code l p (slots_of e.stage.slots) (rights_at e.stage)

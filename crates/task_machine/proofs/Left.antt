@@ -1,20 +1,38 @@
 -- What is left of a task's talk while it takes what is due, and gives up what it has to.
 use Rattle.std.proofs.Common.{◌≡◌, ℕ, zero, suc, ◌+◌, ◌<◌, ◌≤◌, ◌⊎◌, inl, inr, List, [], ◌∷◌, ◌++◌, map, length, Bool, true, false, Option, Some, None}
 use Rattle.std.proofs.Common.{refl, sym, ap, ap₂, ◌∙◌, subst, arith, get_or-set_same, get_or-set_other, set-set}
-use Rattle.std.specs.Prelude.{ℤ, nat_eq, not, ◌&&◌, ◌||◌, is_some, is_none, slice_index_or, slice_set, if◌then◌else◌}
+use Rattle.std.specs.Prelude.{ℤ, not, ◌&&◌, ◌||◌, is_some, is_none, slice_set, if◌then◌else◌}
 use Rattle.std.specs.List.{flat_map}
 use Rattle.std.proofs.lemmas.List.{append_assoc}
 use Rattle.std.proofs.lemmas.Bool.{cases_eq, eq-eqb, ne_eqb, true≢false}
 use Rattle.jade_base.specs.declared.report.Blame.{Blame}
-use Rattle.jade_base.specs.declared.rights.Rights.{Rights}
 use Rattle.jade_base.specs.declared.rights.Mode.{Mode}
-use Rattle.jade_base.specs.Rights.{mode_of, no_rights}
-use Rattle.jade_meaning.specs.Specification.{Specification, rights_on, numbers, objects, yields, same_hold}
+use Rattle.jade_base.specs.Rights.{mode_of}
+use Rattle.jade_meaning.specs.Specification.{Specification, rights_on, numbers, yields, same_hold}
 use Rattle.jade_meaning.specs.Course.{Course, Reads, Writes, Steps, Creates, Changes, Ends}
-use Rattle.jade_meaning.specs.Talk.{Task, Event, Enroll, Take, TouchRead, TouchWrite, Wants, Give, Resign, Holds, held, take_in, enters, shifts, end_leaves, given_back, made_immediate, taken_anew}
-use Rattle.jade_meaning.specs.Talk.{when, first_take, touched, kept, creation_gives, change_gives, end_gives, start_takes, start_holds, events, talk}
-use Rattle.task_machine.specs.Left.{Due, takes, planned, left_to_tell, due_anew, left_to_change, no_due, but, and_also, no_holds, IsFull, has_mode, BeginsDue}
-use Rattle.task_machine.specs.Left.{IsLeast, IsNone, to_take, TakesLeast, TellsOn, Touches, TakesTouched, for_child, GivesForChild, Enters, ChangesFirst}
+use Rattle.jade_meaning.specs.Talk.{
+  Task,
+  Event,
+  Enroll,
+  Take,
+  TouchRead,
+  TouchWrite,
+  Wants,
+  Give,
+  Resign,
+  Holds,
+  held,
+  take_in,
+  enters,
+  shifts,
+  end_leaves,
+  given_back,
+  made_immediate,
+  taken_anew,
+}
+use Rattle.jade_meaning.specs.Talk.{when, first_take, touched, kept, change_gives, events}
+use Rattle.task_machine.specs.Left.{Due, takes, planned, left_to_tell, due_anew, no_due, but, and_also, no_holds, BeginsDue}
+use Rattle.task_machine.specs.Left.{IsLeast, IsNone, TakesLeast, TellsOn, TakesTouched, for_child, GivesForChild, Enters, ChangesFirst}
 use Rattle.task_machine.specs.Left.{GivesForChange, Shifts, is_held, GivesAtEnd, Resigns}
 
 -- ---- lists over the numbers from one on
@@ -33,7 +51,8 @@ least_from : (f g : ℕ → List Event) (i n o : ℕ) (x : Event) → i ≤ o �
     → ((j : ℕ) → (j ≡ o → ⊥) → g j ≡ f j) → flat_map f (numbers i n) ≡ x ∷ flat_map g (numbers i n)
 least_from f g i zero o x le lt before here after other = absurd (omega (arith, le, lt))
 least_from f g i (suc n) o x le lt before here after other =
-    go (λ far. least_from f g (suc i) n o x (omega (arith, far)) (omega (arith, lt)) (λ j le lt. before j (omega (arith, le)) lt) here after other) (cases_eq i o)
+    go (λ far. least_from f g (suc i) n o x (omega (arith, far)) (omega (arith, lt)) (λ j le lt. before j (omega (arith, le)) lt) here after other)
+    (cases_eq i o)
   where
     go : (i < o → flat_map f (numbers (suc i) n) ≡ x ∷ flat_map g (numbers (suc i) n)) → (i ≡ o) ⊎ (i ≡ o → ⊥)
         → f i ++ flat_map f (numbers (suc i) n) ≡ x ∷ (g i ++ flat_map g (numbers (suc i) n))
@@ -137,19 +156,20 @@ module _ (due : Due) (spec : Specification) where
       let here : f o ≡ Take o m ∷ [] = ap₂ (λ b x. if b then take_in x o else []) d mode in
       let after : g o ≡ [] = ap (λ b. if b then take_in (mode_of (rights_on spec o)) o else []) (here_but o due) in
       let first = least_from f g 0 (length spec) o (Take o m) (omega arith) (omega (arith, least.within))
-          (λ j le lt. nothing_taken (due j) (mode_of (rights_on spec j)) j (least.before j lt)) here after
-          (λ j ne. ap (λ b. if b then take_in (mode_of (rights_on spec j)) j else []) (other_but o due j ne)) in
+      (λ j le lt. nothing_taken (due j) (mode_of (rights_on spec j)) j (least.before j lt)) here after
+      (λ j ne. ap (λ b. if b then take_in (mode_of (rights_on spec j)) j else []) (other_but o due j ne)) in
       let h' = slice_set h o (Some m) in
       let room : o < length h = subst (λ k. o < k) (sym full) least.within in
       let at : (j : ℕ) → (j ≡ o) ⊎ (j ≡ o → ⊥) → (if due j then mode_of (rights_on spec j) else held h j)
-          ≡ (if but o due j then mode_of (rights_on spec j) else held h' j) =
-          λ j q. planned_at m h j q d mode room in
+      ≡ (if but o due j then mode_of (rights_on spec j) else held h' j) =
+      λ j q. planned_at m h j q d mode room in
       ap₂ (λ es k. es ++ events c spec k n vs) first (holds_from _ _ 0 (length spec) (λ j le lt. at j (cases_eq j o)))
     where
       planned_at : (m : Mode) (h : Holds) (j : ℕ) → (j ≡ o) ⊎ (j ≡ o → ⊥) → due o ≡ true → mode_of (rights_on spec o) ≡ Some m → o < length h
           → (if due j then mode_of (rights_on spec j) else held h j) ≡ (if but o due j then mode_of (rights_on spec j) else held (slice_set h o (Some m)) j)
       planned_at m h j (inl e) d mode room =
-          subst (λ i. (if due i then mode_of (rights_on spec i) else held h i) ≡ (if but o due i then mode_of (rights_on spec i) else held (slice_set h o (Some m)) i))
+          subst (λ i. (if due i then mode_of (rights_on spec i) else held h i) ≡
+          (if but o due i then mode_of (rights_on spec i) else held (slice_set h o (Some m)) i))
           (sym e)
           (ap (λ b. if b then mode_of (rights_on spec o) else held h o) d ∙ mode ∙ sym (get_or-set_same h o (Some m) None room)
           ∙ ap (λ b. if b then mode_of (rights_on spec o) else held (slice_set h o (Some m)) o) (sym (here_but o due)))
@@ -164,40 +184,42 @@ module _ (due : Due) (spec : Specification) where
   pub tells_on : (c : Course) (h : Holds) (n : ℕ) → TellsOn due c spec h n
   tells_on c h n full none free vs =
       let same : planned due spec h ≡ h =
-          holds_from (λ o. if due o then mode_of (rights_on spec o) else held h o) (λ o. held h o) 0 (length spec)
-          (λ j le lt. nothing_planned (due j) (mode_of (rights_on spec j)) (held h j) (none j (below j (length spec) lt)) (free j))
-          ∙ ap (λ k. map (λ o. held h o) (numbers 0 k)) (sym full) ∙ all_holds h in
+      holds_from (λ o. if due o then mode_of (rights_on spec o) else held h o) (λ o. held h o) 0 (length spec)
+      (λ j le lt. nothing_planned (due j) (mode_of (rights_on spec j)) (held h j) (none j (below j (length spec) lt)) (free j))
+      ∙ ap (λ k. map (λ o. held h o) (numbers 0 k)) (sym full) ∙ all_holds h in
       ap₂ (λ es k. es ++ events c spec k n vs)
       (none_from (λ o. if due o then take_in (mode_of (rights_on spec o)) o else []) 0 (length spec)
       (λ j le lt. nothing_taken (due j) (mode_of (rights_on spec j)) j (none j (below j (length spec) lt)))) same
 
-module _ (spec : Specification) (h : Holds) (n o : ℕ) (m : Mode) (room : o < length h) (free : held h o ≡ None) (mode : mode_of (rights_on spec o) ≡ Some m) where
-  abbrev taken : Holds
-  taken = slice_set h o (Some m)
+module _ (spec : Specification) (h : Holds) (n o : ℕ) (m : Mode) (room : o < length h) (free : held h o ≡ None) (mode : mode_of (rights_on spec o) ≡ Some m)
+  where
+    abbrev taken : Holds
+    taken = slice_set h o (Some m)
 
-  takes_it : first_take spec h o ≡ Take o m ∷ []
-  takes_it = ap₂ (λ x y. if is_none x then take_in y o else []) free mode
+    takes_it : first_take spec h o ≡ Take o m ∷ []
+    takes_it = ap₂ (λ x y. if is_none x then take_in y o else []) free mode
 
-  takes_no_more : first_take spec taken o ≡ []
-  takes_no_more = ap (λ x. if is_none x then take_in (mode_of (rights_on spec o)) o else []) (get_or-set_same h o (Some m) None room)
+    takes_no_more : first_take spec taken o ≡ []
+    takes_no_more = ap (λ x. if is_none x then take_in (mode_of (rights_on spec o)) o else []) (get_or-set_same h o (Some m) None room)
 
-  same_touched : touched spec h o ≡ touched spec taken o
-  same_touched = sym (set-set h o (Some m) (mode_of (rights_on spec o)))
+    same_touched : touched spec h o ≡ touched spec taken o
+    same_touched = sym (set-set h o (Some m) (mode_of (rights_on spec o)))
 
-  at_read : (c : ℕ) (on : ℤ → Course) (vs : List ℤ) → events (Reads o c on) spec h n vs ≡ Take o m ∷ events (Reads o c on) spec taken n vs
-  at_read c on [] = ap (λ es. es ++ Wants o c ∷ []) takes_it ∙ ap (λ es. Take o m ∷ (es ++ Wants o c ∷ [])) (sym takes_no_more)
-  at_read c on (v ∷ vs) =
-      ap₂ (λ es g. es ++ TouchRead o c v ∷ events (on v) spec g n vs) takes_it same_touched
-      ∙ ap (λ es. Take o m ∷ (es ++ TouchRead o c v ∷ events (on v) spec (touched spec taken o) n vs)) (sym takes_no_more)
+    at_read : (c : ℕ) (on : ℤ → Course) (vs : List ℤ) → events (Reads o c on) spec h n vs ≡ Take o m ∷ events (Reads o c on) spec taken n vs
+    at_read c on [] = ap (λ es. es ++ Wants o c ∷ []) takes_it ∙ ap (λ es. Take o m ∷ (es ++ Wants o c ∷ [])) (sym takes_no_more)
+    at_read c on (v ∷ vs) =
+        ap₂ (λ es g. es ++ TouchRead o c v ∷ events (on v) spec g n vs) takes_it same_touched
+        ∙ ap (λ es. Take o m ∷ (es ++ TouchRead o c v ∷ events (on v) spec (touched spec taken o) n vs)) (sym takes_no_more)
 
-  at_write : (c : ℕ) (v : ℤ) (on : Course) (vs : List ℤ) → events (Writes o c v on) spec h n vs ≡ Take o m ∷ events (Writes o c v on) spec taken n vs
-  at_write c v on vs =
-      ap₂ (λ es g. es ++ TouchWrite o c v ∷ events on spec g n vs) takes_it same_touched
-      ∙ ap (λ es. Take o m ∷ (es ++ TouchWrite o c v ∷ events on spec (touched spec taken o) n vs)) (sym takes_no_more)
+    at_write : (c : ℕ) (v : ℤ) (on : Course) (vs : List ℤ) → events (Writes o c v on) spec h n vs ≡ Take o m ∷ events (Writes o c v on) spec taken n vs
+    at_write c v on vs =
+        ap₂ (λ es g. es ++ TouchWrite o c v ∷ events on spec g n vs) takes_it same_touched
+        ∙ ap (λ es. Take o m ∷ (es ++ TouchWrite o c v ∷ events on spec (touched spec taken o) n vs)) (sym takes_no_more)
 
 pub takes_touched : (c : Course) (spec : Specification) (h : Holds) (n o : ℕ) (m : Mode) → TakesTouched c spec h n o m
 takes_touched (Reads p c on) spec h n o m e room free mode vs =
-    subst (λ q. events (Reads q c on) spec h n vs ≡ Take o m ∷ events (Reads q c on) spec (slice_set h o (Some m)) n vs) e (at_read spec h n o m room free mode c on vs)
+    subst (λ q. events (Reads q c on) spec h n vs ≡ Take o m ∷ events (Reads q c on) spec (slice_set h o (Some m)) n vs) e
+    (at_read spec h n o m room free mode c on vs)
 takes_touched (Writes p c v on) spec h n o m e room free mode vs =
     subst (λ q. events (Writes q c v on) spec h n vs ≡ Take o m ∷ events (Writes q c v on) spec (slice_set h o (Some m)) n vs) e
     (at_write spec h n o m room free mode c v on vs)
@@ -219,7 +241,8 @@ module _ (h : Holds) (o : ℕ) where
   gives_least : (test : Option Mode → ℕ → Bool) (n : ℕ) → ((j : ℕ) → test None j ≡ false) → IsLeast (λ j. test (held h j) j) n o
       → flat_map (λ j. when (test (held h j) j) (Give j)) (numbers 0 n) ≡ Give o ∷ flat_map (λ j. when (test (held given j) j) (Give j)) (numbers 0 n)
   gives_least test n none least =
-      least_from (λ j. when (test (held h j) j) (Give j)) (λ j. when (test (held given j) j) (Give j)) 0 n o (Give o) (omega arith) (omega (arith, least.within))
+      least_from (λ j. when (test (held h j) j) (Give j)) (λ j. when (test (held given j) j) (Give j)) 0 n o (Give o) (omega arith)
+      (omega (arith, least.within))
       (λ j le lt. ap (λ b. when b (Give j)) (least.before j lt)) (ap (λ b. when b (Give o)) least.here)
       (ap (λ x. when (test x o) (Give o)) (none_held h o) ∙ ap (λ b. when b (Give o)) (none o))
       (λ j ne. ap (λ x. when (test x j) (Give j)) (held_else j ne))
@@ -244,9 +267,9 @@ gives_for_child made body on spec h n o least vs =
 pub enters_now : (made : Specification) (body on : Course) (spec : Specification) (h : Holds) (n : ℕ) → Enters made body on spec h n
 enters_now made body on spec h n long none vs =
     let same : kept made h ≡ h =
-        holds_from (λ o. if yields (held h o) (rights_on made o) then None else held h o) (λ o. held h o) 0 (length made)
-        (λ j le lt. ap (λ b. if b then None else held h j) (none j (below j (length made) lt)))
-        ∙ ap (λ k. map (λ o. held h o) (numbers 0 k)) long ∙ all_holds h in
+    holds_from (λ o. if yields (held h o) (rights_on made o) then None else held h o) (λ o. held h o) 0 (length made)
+    (λ j le lt. ap (λ b. if b then None else held h j) (none j (below j (length made) lt)))
+    ∙ ap (λ k. map (λ o. held h o) (numbers 0 k)) long ∙ all_holds h in
     ap₂ (λ es k. es ++ enters made ++ Enroll (record { spec = made; course = body }) n ∷ events on spec k 0 vs)
     (gives_none (for_child made h) (length made) none) same
 
@@ -277,7 +300,8 @@ gives_for_change due new on old h n o least vs =
     is = first_true (and_also o due o) (taken_anew old new (slice_set h o None) o) (here_also o due)
 
     apart : (j : ℕ) → (j ≡ o → ⊥) → due_anew due old new h j ≡ due_anew (and_also o due) old new (slice_set h o None) j
-    apart j ne = ap₂ (λ b x. b || ((is_some x && not (same_hold x (mode_of (rights_on new j)))) || (is_none x && made_immediate (rights_on old j) (rights_on new j))))
+    apart j ne = ap₂
+        (λ b x. b || ((is_some x && not (same_hold x (mode_of (rights_on new j)))) || (is_none x && made_immediate (rights_on old j) (rights_on new j))))
         (sym (other_also o due j ne)) (sym (held_else h o j ne))
 
     anew : (j : ℕ) → (j ≡ o) ⊎ (j ≡ o → ⊥) → due_anew due old new h j ≡ due_anew (and_also o due) old new (slice_set h o None) j
@@ -289,7 +313,8 @@ gives_for_change due new on old h n o least vs =
     hold j (inl e) =
         subst (λ i. (if due_anew due old new h i then mode_of (rights_on new i) else held h i)
         ≡ (if due_anew (and_also o due) old new (slice_set h o None) i then mode_of (rights_on new i) else held (slice_set h o None) i)) (sym e)
-        (ap (λ b. if b then mode_of (rights_on new o) else held h o) was ∙ ap (λ b. if b then mode_of (rights_on new o) else held (slice_set h o None) o) (sym is))
+        (ap (λ b. if b then mode_of (rights_on new o) else held h o) was ∙ ap (λ b. if b then mode_of (rights_on new o) else held (slice_set h o None) o)
+        (sym is))
     hold j (inr ne) = ap₂ (λ b x. if b then mode_of (rights_on new j) else x) (apart j ne) (sym (held_else h o j ne))
 
 pub shifts_now : (due : Due) (new : Specification) (on : Course) (old : Specification) (h : Holds) (n : ℕ) → Shifts due new on old h n

@@ -14,3 +14,4 @@ mod Tables
 mod Marks
 mod Asking
 mod Beginning
+mod Searching

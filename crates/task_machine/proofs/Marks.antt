@@ -1,17 +1,17 @@
 -- Rows with other contents and other marks, and the holds that they tell.
-use Rattle.std.proofs.Common.{◌≡◌, ℕ, zero, suc, ◌+◌, ◌<◌, ◌≤◌, ◌⊎◌, inl, inr, List, [], ◌∷◌, map, length, Bool, true, false, Option, Some, None}
-use Rattle.std.proofs.Common.{refl, sym, ap, ap₂, ◌∙◌, subst, arith}
-use Rattle.std.specs.Prelude.{slice_index_or, slice_set, slice_get, nat_eq, is_some, if◌then◌else◌}
+use Rattle.std.proofs.Common.{◌≡◌, ℕ, suc, ◌+◌, ◌<◌, ◌≤◌, ◌⊎◌, inl, inr, List, [], ◌∷◌, map, length, Bool, true, false, Option, None}
+use Rattle.std.proofs.Common.{refl, sym, ap, ◌∙◌, arith}
+use Rattle.std.specs.Prelude.{slice_set, nat_eq, if◌then◌else◌}
 use Rattle.std.proofs.Math.Path.{fun_ext}
 use Rattle.std.proofs.lemmas.Bool.{cases_eq, eq-eqb, ne_eqb, true≢false}
 use Rattle.jade_base.specs.Held.{Held}
 use Rattle.jade_meaning.specs.Specification.{numbers}
-use Rattle.jade_meaning.specs.Talk.{Holds, held}
+use Rattle.jade_meaning.specs.Talk.{held}
 use Rattle.task_machine.specs.declared.holdings.Row.{Row}
 use Rattle.task_machine.specs.Playing.{Contents, contents_of}
 use Rattle.task_machine.specs.Telling.{mode_held}
 use Rattle.task_machine.specs.Executions.{with_content, has_row}
-use Rattle.task_machine.specs.Left.{Due, but, and_also}
+use Rattle.task_machine.specs.Left.{but, and_also}
 use Rattle.task_machine.specs.Machines.{due_in, with_mark, holds_of}
 use Rattle.task_machine.specs.steps.Holding.{RowsAbove, RowsAscend}
 use Rattle.task_machine.proofs.Tables.{table_at, table_past, table_long, table_same, table_set}
@@ -23,7 +23,8 @@ objects_same o h [] j = refl
 objects_same o h (r ∷ rs) j = go (cases_eq r.object.0 o) (objects_same o h rs j)
   where
     go : (r.object.0 ≡ o) ⊎ (r.object.0 ≡ o → ⊥) → has_row j (with_content o h rs) ≡ has_row j rs
-        → has_row j (if nat_eq r.object.0 o then record r { content = h } ∷ rs else r ∷ with_content o h rs) ≡ (if nat_eq r.object.0 j then true else has_row j rs)
+        → has_row j (if nat_eq r.object.0 o then record r { content = h } ∷ rs else r ∷ with_content o h rs) ≡
+        (if nat_eq r.object.0 j then true else has_row j rs)
     go (inl e) more = ap (λ b. has_row j (if b then record r { content = h } ∷ rs else r ∷ with_content o h rs)) (eq-eqb r.object.0 o e)
     go (inr ne) more =
         ap (λ b. has_row j (if b then record r { content = h } ∷ rs else r ∷ with_content o h rs)) (ne_eqb r.object.0 o ne)
@@ -53,7 +54,6 @@ pub content_is : (o : ℕ) (h : Option Held) (rs : List Row) (j : ℕ) → has_r
 content_is o h [] j there = absurd (true≢false (sym there))
 content_is o h (r ∷ rs) j there = go (λ q. content_is o h rs j q) (cases_eq r.object.0 o) (cases_eq j o) (cases_eq r.object.0 j)
   where
-
     go : (has_row o rs ≡ true → contents_of (with_content o h rs) j ≡ (if nat_eq j o then h else contents_of rs j)) → (r.object.0 ≡ o) ⊎ (r.object.0 ≡ o → ⊥)
         → (j ≡ o) ⊎ (j ≡ o → ⊥) → (r.object.0 ≡ j) ⊎ (r.object.0 ≡ j → ⊥)
         → contents_of (if nat_eq r.object.0 o then record r { content = h } ∷ rs else r ∷ with_content o h rs) j
@@ -153,7 +153,8 @@ pub no_content : (rs : List Row) (o : ℕ) → has_row o rs ≡ false → conten
 no_content [] o h = refl
 no_content (r ∷ rs) o h = go (cases_eq r.object.0 o) (λ q. no_content rs o q)
   where
-    go : (r.object.0 ≡ o) ⊎ (r.object.0 ≡ o → ⊥) → (has_row o rs ≡ false → contents_of rs o ≡ None) → (if nat_eq r.object.0 o then r.content else contents_of rs o) ≡ None
+    go : (r.object.0 ≡ o) ⊎ (r.object.0 ≡ o → ⊥) → (has_row o rs ≡ false → contents_of rs o ≡ None) →
+        (if nat_eq r.object.0 o then r.content else contents_of rs o) ≡ None
     go (inl e) more =
         let h' : true ≡ false = rw (eq-eqb r.object.0 o e) at h in absurd (true≢false h')
     go (inr ne) more =

@@ -1,5 +1,30 @@
 -- What a task tells, from what is played of it.
-use Rattle.std.proofs.Common.{◌≡◌, ℕ, zero, suc, ◌+◌, ◌^◌, ◌%◌, length, arith, List, [], ◌∷◌, ◌++◌, Bool, true, false, Option, Some, None, refl, sym, ap, ap₂, ◌∙◌}
+use Rattle.std.proofs.Common.{
+  ◌≡◌,
+  ℕ,
+  zero,
+  suc,
+  ◌+◌,
+  ◌^◌,
+  ◌%◌,
+  length,
+  arith,
+  List,
+  [],
+  ◌∷◌,
+  ◌++◌,
+  Bool,
+  true,
+  false,
+  Option,
+  Some,
+  None,
+  refl,
+  sym,
+  ap,
+  ap₂,
+  ◌∙◌,
+}
 use Rattle.std.specs.Prelude.{ℤ, nat_eq, slice_index_or, slice_set, is_none, if◌then◌else◌}
 use Rattle.std.proofs.Math.Nat.{mod-add-mod}
 use Rattle.std.proofs.lemmas.Option.{none-some, same_Some}
@@ -8,9 +33,9 @@ use Rattle.jade_base.specs.declared.rights.Mode.TheVariants.{Reading, Writing, C
 use Rattle.jade_base.specs.Rights.{mode_of}
 use Rattle.jade_base.specs.Held.{Held}
 use Rattle.jade_meaning.specs.Specification.{Specification, rights_on}
-use Rattle.jade_meaning.specs.Talk.{Event, TouchRead, TouchWrite, Holds, held, take_in, first_take, touched, events}
+use Rattle.jade_meaning.specs.Talk.{TouchRead, TouchWrite, Holds, held, take_in, first_take, touched, events}
 use Rattle.jade_meaning.specs.Course.{Course, Reads, Writes, Steps, Creates, Changes, Ends}
-use Rattle.task_machine.specs.Playing.{Contents, with_cell, put_in, where_held, writable, for_writing, cell_of, counted, Played, played, answers, touches}
+use Rattle.task_machine.specs.Playing.{Contents, with_cell, put_in, where_held, writable, for_writing, cell_of, counted, played, answers, touches}
 use Rattle.task_machine.specs.Telling.{mode_held, Agrees, TellsAsPlayed}
 
 set_same : (h : Holds) (o : ℕ) → slice_set h o (slice_index_or h o None) ≡ h
@@ -74,14 +99,16 @@ touches_counted : (c : Course) (k : Contents) (n e : ℕ) → (played c k n e).e
 touches_counted (Reads p c on) k n e = at (k p) (λ v. touches_counted (on v) k n (counted e))
   where
     at : (w : Option Held) → ((v : ℤ) → (played (on v) k n (counted e)).events % 2 ^ 64 ≡ (counted e + length (touches (on v) k)) % 2 ^ 64)
-        → (where_held w (λ x. played (on (cell_of x c)) k n (counted e)) (record { course = Reads p c on; contents = k; steps = n; events = e })).events % 2 ^ 64
+        → (where_held w (λ x. played (on (cell_of x c)) k n (counted e)) (record { course = Reads p c on; contents = k; steps = n; events = e })).events % 2 ^
+        64
         ≡ (e + length (where_held w (λ x. TouchRead p c (cell_of x c) ∷ touches (on (cell_of x c)) k) [])) % 2 ^ 64
     at None ih = let z : e ≡ e + 0 = omega arith in ap (λ k. k % 2 ^ 64) z
     at (Some x) ih = one_more e (played (on (cell_of x c)) k n (counted e)).events (length (touches (on (cell_of x c)) k)) (ih (cell_of x c))
 touches_counted (Writes p c v on) k n e = at (writable (k p)) (touches_counted on (with_cell p c v k) n (counted e))
   where
     at : (w : Option Held) → (played on (with_cell p c v k) n (counted e)).events % 2 ^ 64 ≡ (counted e + length (touches on (with_cell p c v k))) % 2 ^ 64
-        → (where_held w (λ x. played on (with_cell p c v k) n (counted e)) (record { course = Writes p c v on; contents = k; steps = n; events = e })).events % 2 ^ 64
+        → (where_held w (λ x. played on (with_cell p c v k) n (counted e)) (record { course = Writes p c v on; contents = k; steps = n; events = e })).events %
+        2 ^ 64
         ≡ (e + length (where_held w (λ x. TouchWrite p c v ∷ touches on (with_cell p c v k)) [])) % 2 ^ 64
     at None ih = let z : e ≡ e + 0 = omega arith in ap (λ k. k % 2 ^ 64) z
     at (Some x) ih = one_more e (played on (with_cell p c v k) n (counted e)).events (length (touches on (with_cell p c v k))) ih
@@ -95,14 +122,17 @@ pub modes_kept : (c : Course) (k : Contents) (n e o : ℕ) → mode_held ((playe
 modes_kept (Reads p c on) k n e o = at (k p) (λ v. modes_kept (on v) k n (counted e) o)
   where
     at : (w : Option Held) → ((v : ℤ) → mode_held ((played (on v) k n (counted e)).contents o) ≡ mode_held (k o))
-        → mode_held ((where_held w (λ x. played (on (cell_of x c)) k n (counted e)) (record { course = Reads p c on; contents = k; steps = n; events = e })).contents o)
+        → mode_held
+        ((where_held w (λ x. played (on (cell_of x c)) k n (counted e)) (record { course = Reads p c on; contents = k; steps = n; events = e })).contents o)
         ≡ mode_held (k o)
     at None ih = refl
     at (Some x) ih = ih (cell_of x c)
 modes_kept (Writes p c v on) k n e o = at (writable (k p)) (modes_kept on (with_cell p c v k) n (counted e) o)
   where
     at : (w : Option Held) → mode_held ((played on (with_cell p c v k) n (counted e)).contents o) ≡ mode_held (with_cell p c v k o)
-        → mode_held ((where_held w (λ x. played on (with_cell p c v k) n (counted e)) (record { course = Writes p c v on; contents = k; steps = n; events = e })).contents o)
+        → mode_held
+        ((where_held w (λ x. played on (with_cell p c v k) n (counted e)) (record { course = Writes p c v on; contents = k; steps = n; events = e })).contents
+        o)
         ≡ mode_held (k o)
     at None ih = refl
     at (Some x) ih = ih ∙ cell_mode p c v k o
@@ -127,15 +157,18 @@ module _ (spec : Specification) (h : Holds) (k : Contents) (n e : ℕ) (fit : Ag
       ∙ ap (λ es. TouchRead o c v ∷ es) ((ih v spec h n (counted e) fit).tells vs)
 
   reads_agree : (o c : ℕ) (on : ℤ → Course) (w : Option Held) → ((v : ℤ) → TellsAs (on v) k)
-      → Agrees spec h (where_held w (λ x. played (on (cell_of x c)) k n (counted e)) (record { course = Reads o c on; contents = k; steps = n; events = e })).contents
+      → Agrees spec h
+      (where_held w (λ x. played (on (cell_of x c)) k n (counted e)) (record { course = Reads o c on; contents = k; steps = n; events = e })).contents
   reads_agree o c on None ih = fit
   reads_agree o c on (Some x) ih = (ih (cell_of x c) spec h n (counted e) fit).agrees
 
   writes_tell : (o c : ℕ) (v : ℤ) (on : Course) (w : Option Held) → writable (k o) ≡ w → TellsAs on (with_cell o c v k) → (vs : List ℤ)
       → events (Writes o c v on) spec h n (where_held w (λ x. answers on (with_cell o c v k)) [] ++ vs)
       ≡ where_held w (λ x. TouchWrite o c v ∷ touches on (with_cell o c v k)) []
-      ++ events (where_held w (λ x. played on (with_cell o c v k) n (counted e)) (record { course = Writes o c v on; contents = k; steps = n; events = e })).course
-      spec h (where_held w (λ x. played on (with_cell o c v k) n (counted e)) (record { course = Writes o c v on; contents = k; steps = n; events = e })).steps vs
+      ++ events
+      (where_held w (λ x. played on (with_cell o c v k) n (counted e)) (record { course = Writes o c v on; contents = k; steps = n; events = e })).course
+      spec h (where_held w (λ x. played on (with_cell o c v k) n (counted e)) (record { course = Writes o c v on; contents = k; steps = n; events = e })).steps
+      vs
   writes_tell o c v on None q ih vs = refl
   writes_tell o c v on (Some x) q ih vs =
       let l = with_cell o c v k in
@@ -144,7 +177,8 @@ module _ (spec : Specification) (h : Holds) (k : Contents) (n e : ℕ) (fit : Ag
       ∙ ap (λ es. TouchWrite o c v ∷ es) ((ih spec h n (counted e) (kept_fit spec h k o c v fit)).tells vs)
 
   writes_agree : (o c : ℕ) (v : ℤ) (on : Course) (w : Option Held) → TellsAs on (with_cell o c v k)
-      → Agrees spec h (where_held w (λ x. played on (with_cell o c v k) n (counted e)) (record { course = Writes o c v on; contents = k; steps = n; events = e })).contents
+      → Agrees spec h
+      (where_held w (λ x. played on (with_cell o c v k) n (counted e)) (record { course = Writes o c v on; contents = k; steps = n; events = e })).contents
   writes_agree o c v on None ih = fit
   writes_agree o c v on (Some x) ih = (ih spec h n (counted e) (kept_fit spec h k o c v fit)).agrees
 
@@ -161,7 +195,10 @@ tells_as_played (Writes o c v on) k spec h n e fit = record {
   modes = modes_kept (Writes o c v on) k n e;
   agrees = writes_agree spec h k n e fit o c v on (writable (k o)) (tells_as_played on (with_cell o c v k));
 }
-tells_as_played (Steps on) k spec h n e fit = let t = tells_as_played on k spec h (suc n) e fit in record { tells = t.tells; counts = t.counts; modes = t.modes; agrees = t.agrees }
-tells_as_played (Creates child body on) k spec h n e fit = record { tells = λ vs. refl; counts = touches_counted (Creates child body on) k n e; modes = λ o. refl; agrees = fit }
-tells_as_played (Changes new on) k spec h n e fit = record { tells = λ vs. refl; counts = touches_counted (Changes new on) k n e; modes = λ o. refl; agrees = fit }
+tells_as_played (Steps on) k spec h n e fit = let t = tells_as_played on k spec h (suc n) e fit in
+    record { tells = t.tells; counts = t.counts; modes = t.modes; agrees = t.agrees }
+tells_as_played (Creates child body on) k spec h n e fit = record
+    { tells = λ vs. refl; counts = touches_counted (Creates child body on) k n e; modes = λ o. refl; agrees = fit }
+tells_as_played (Changes new on) k spec h n e fit = record
+    { tells = λ vs. refl; counts = touches_counted (Changes new on) k n e; modes = λ o. refl; agrees = fit }
 tells_as_played (Ends b) k spec h n e fit = record { tells = λ vs. refl; counts = touches_counted (Ends b) k n e; modes = λ o. refl; agrees = fit }

@@ -1,4 +1,4 @@
--- A task that asks for what it needs, and what is left of its talk.
+-- A task that plays its code and takes and gives up objects, and what is left of its talk.
 use Rattle.std.specs.Prelude.{◌≡◌, ℕ, ◌-◌, ◌<◌, ◌≤◌, ◌==◌, Bool, true, false, List, [], ◌∷◌, ◌++◌, length, map, Option, Some, None, ℤ}
 use Rattle.std.specs.Prelude.{if◌then◌else◌}
 use Rattle.jade_base.specs.declared.report.Blame.{Blame}
@@ -15,27 +15,22 @@ use Rattle.code_meaning.specs.Meaning.{Children, given_slots, passed, code_cours
 use Rattle.task_code.specs.Rules.{TaskCode, Valid}
 use Rattle.code_meaning.specs.Children.{children_of}
 use Rattle.task_machine.specs.declared.holdings.Row.{Row}
-use Rattle.task_machine.specs.declared.machine.Ask.{Ask}
-use Rattle.task_machine.specs.declared.machine.Phase.{Phase}
-use Rattle.task_machine.specs.declared.machine.Phase.TheVariants as phase
+use Rattle.task_machine.specs.declared.next.Phase.{Phase}
+use Rattle.task_machine.specs.declared.next.Phase.TheVariants as phase
 use Rattle.task_machine.specs.declared.frame.Pause.{Pause}
 use Rattle.task_machine.specs.declared.frame.Pause.TheVariants as pause
-use Rattle.task_machine.specs.Playing.{Contents, contents_of, answers, touches, played}
+use Rattle.task_machine.specs.Playing.{Contents, answers, touches, played}
 use Rattle.task_machine.specs.Stages.{rights_at, copy_spread, ahead, beyond, slots_of}
-use Rattle.task_machine.specs.Executions.{Execution, Advanced, IsBegun, body_at, held_by, with_content, has_row}
+use Rattle.task_machine.specs.Executions.{Execution, Advanced, IsBegun, body_at, held_by, with_content, has_row, objects_in}
 use Rattle.task_machine.specs.Telling.{mode_held}
 use Rattle.task_machine.specs.Left.{Due, left_to_tell, left_to_change, due_anew, IsLeast, IsNone, to_take, Touches, for_child, is_held}
 
--- The execution of the task; for each row of it whether its object is still to be taken; what the task is about, and the ask
--- that stands; how many asks and children there were, modulo 2^64 and 2^32, and the steps that it could begin when its
--- present part began.
+-- The execution of the task; for each row of it whether its object is still to be taken; what the task is about; and the steps
+-- that it could begin when its present part began.
 pub record Machine : Type 0 where
   pub execution : Execution
   pub due : List Bool
   pub phase : Phase
-  pub asked : Option Ask
-  pub asks : ℕ
-  pub children : ℕ
   pub part : ℕ
 
 -- the mark of an object's row
@@ -100,7 +95,6 @@ abbrev pub supplied : ℕ → Held → Machine → Machine
 supplied o x m = record m {
   execution = record m.execution { rows = with_content o (Some x) m.execution.rows };
   due = with_mark o false m.execution.rows m.due;
-  asked = None;
 }
 
 -- an object that is given up for a change is due after it
@@ -116,7 +110,6 @@ abbrev pub surrendered : ℕ → Machine → Machine
 surrendered o m = record m {
   execution = record m.execution { rows = with_content o None m.execution.rows };
   due = marks_after m.phase o m.execution.rows m.due;
-  asked = None;
 }
 
 -- the task that is to be created
@@ -204,9 +197,6 @@ begun e = record {
   execution = e;
   due = all_due e.rows;
   phase = phase.Taking;
-  asked = None;
-  asks = 0;
-  children = 0;
   part = e.stage.left;
 }
 
@@ -232,12 +222,36 @@ BeginsCode c zs limit es e =
     Valid c → IsBegun c zs limit 0 (given_slots zs) es e
     → course_at e ≡ code_course c.bodies zs limit (rights_at e.stage)
 
--- the least object that is due and has a mode is taken next
-abbrev pub DueIsTaken : Machine → Type 0
-DueIsTaken m =
-    let spec = rights_at m.execution.stage in
-    (o : ℕ) (mode : Mode) → has_row o m.execution.rows ≡ true → IsLeast (to_take (due_at m) spec) (length spec) o → mode_of (rights_on spec o) ≡ Some mode
-    → TakeIsNext o mode phase.Taking m
+-- the objects among which the next is found that is to be taken or given up
+abbrev pub candidates : Phase → Execution → List ObjectId
+candidates (phase.Creating number) e = map (λ x. x.0) e.stage.child.entries
+candidates phase.Taking e = objects_in e.rows
+candidates phase.Going e = objects_in e.rows
+candidates phase.Changing e = objects_in e.rows
+candidates (phase.Ending b) e = objects_in e.rows
+
+-- an object is to be taken, or to be given up
+abbrev pub is_to_move : Phase → Execution → List Bool → ℕ → Bool
+is_to_move phase.Taking e ds o = to_take (due_in e.rows ds) (rights_at e.stage) o
+is_to_move phase.Going e ds o = false
+is_to_move (phase.Creating number) e ds o = for_child (made_at e) (holds_at e) o
+is_to_move phase.Changing e ds o = given_back (amended_at e) (holds_at e) o
+is_to_move (phase.Ending b) e ds o = is_held (holds_at e) o
+
+-- this object is the next to be taken or given up
+abbrev pub IsNext : Phase → Machine → ℕ → Type 0
+IsNext p m o = IsLeast (is_to_move p m.execution m.due) m.execution.stage.objects o
+
+-- nothing is left to be taken or given up
+abbrev pub NoneIsNext : Phase → Machine → Type 0
+NoneIsNext p m = IsNone (is_to_move p m.execution m.due) m.execution.stage.objects
+
+-- the least object that is due and has a mode is taken next, and where there is none, the course is told
+pub record TakesDue (m : Machine) : Type 0 where
+  pub takes : (o : ℕ) (mode : Mode) → IsNext phase.Taking m o → mode_of (rights_on (rights_at m.execution.stage) o) ≡ Some mode
+      → TakeIsNext o mode phase.Taking m
+  pub goes_on : NoneIsNext phase.Taking m → (vs : List ℤ) → left_in phase.Taking m vs
+      ≡ events (course_at m.execution) (rights_at m.execution.stage) (holds_at m.execution) (steps_at m) vs
 
 -- an object that is touched next and not held is taken next
 abbrev pub WantedIsTaken : Machine → Type 0
@@ -251,23 +265,22 @@ abbrev pub IsCreated : ℕ → Execution → Type 0
 IsCreated number e =
     course_at e ≡ Creates (made_at e) (child_of e number (slots_of e.stage.slots) (made_at e)) (beyond (child_of e) e.stage (rights_at e.stage) NoDraft)
 
+-- the least object that is held and asked for is given up next, and where there is none, the child is created, the rights change
+-- or the task ends
 pub record GivesAndCreates (m : Machine) : Type 0 where
-  pub gives : (number o : ℕ) → IsCreated number m.execution → IsLeast (for_child (made_at m.execution) (holds_at m.execution)) (length (made_at m.execution)) o
-      → GiveIsNext o (phase.Creating number) m
-  pub creates : (number : ℕ) → IsCreated number m.execution → IsNone (for_child (made_at m.execution) (holds_at m.execution)) (length (made_at m.execution))
-      → CreationIsNext number m
+  pub gives : (number o : ℕ) → IsCreated number m.execution → IsNext (phase.Creating number) m o → GiveIsNext o (phase.Creating number) m
+  pub creates : (number : ℕ) → IsCreated number m.execution → NoneIsNext (phase.Creating number) m → CreationIsNext number m
 
 pub record GivesAndChanges (m : Machine) : Type 0 where
-  pub gives : (o : ℕ) → IsLeast (given_back (amended_at m.execution) (holds_at m.execution)) (length (amended_at m.execution)) o
-      → GiveIsNext o phase.Changing m
-  pub changes : IsNone (given_back (amended_at m.execution) (holds_at m.execution)) (length (amended_at m.execution)) → ChangeIsNext m
+  pub gives : (o : ℕ) → IsNext phase.Changing m o → GiveIsNext o phase.Changing m
+  pub changes : NoneIsNext phase.Changing m → ChangeIsNext m
 
 pub record GivesAndEnds (m : Machine) : Type 0 where
-  pub gives : (b : Option Blame) (o : ℕ) → course_at m.execution ≡ Ends b
-      → IsLeast (is_held (holds_at m.execution)) (length (rights_at m.execution.stage)) o → GiveIsNext o (phase.Ending b) m
-  pub ends : (b : Option Blame) → course_at m.execution ≡ Ends b
-      → IsNone (is_held (holds_at m.execution)) (length (rights_at m.execution.stage)) → EndIsNext b m
+  pub gives : (b : Option Blame) (o : ℕ) → course_at m.execution ≡ Ends b → IsNext (phase.Ending b) m o → GiveIsNext o (phase.Ending b) m
+  pub ends : (b : Option Blame) → course_at m.execution ≡ Ends b → NoneIsNext (phase.Ending b) m → EndIsNext b m
 
--- a task that goes on to a pause
+-- a task that goes on to a pause has the same left, and nothing is due then
 abbrev pub AdvancedGoesOn : Machine → Type 0
-AdvancedGoesOn m = (p : Pause) (e : Execution) → Advanced m.execution p e → (p ≡ pause.Other → ⊥) → GoesOn m p e × IsOrdered (at_pause m e) × NoDue (at_pause m e)
+AdvancedGoesOn m =
+    (p : Pause) (e : Execution) → Advanced m.execution p e → (p ≡ pause.Other → ⊥)
+    → GoesOn m p e × IsOrdered (at_pause m e) × NoDue (at_pause m e)

@@ -4,3 +4,4 @@ pub mod Owning
 pub mod Acting
 pub mod Running
 pub mod Executing
+pub mod Searching

@@ -6,7 +6,10 @@ ghost use Rattle.code_meaning.specs.Meaning.{given_slots, passed};
 ghost use Rattle.jade_base.specs.Rights.{both_rights};
 ghost use Rattle.jade_base.specs.Specification.{joined_in, kept, settled};
 ghost use Rattle.task_machine.specs.Executions.{Advanced, body_at, created_by, held_by, IsBegun, moved_on, with_content};
-ghost use Rattle.task_machine.specs.Executions.{without_content};
+ghost use Rattle.task_machine.specs.Executions.{without_content, objects_in};
+ghost use Rattle.task_machine.specs.Machines.{amended_at, holds_at, made_at};
+ghost use Rattle.task_machine.specs.steps.Holding.{RowsAscend, row_from};
+ghost use Rattle.jade_meaning.specs.Talk.{held};
 ghost use Rattle.task_code.specs.Rules.{Valid};
 ghost use Rattle.jade_base.specs.Rights.{join};
 ghost use Rattle.jade_meaning.specs.Specification.{rights_on};
@@ -16,10 +19,13 @@ ghost use Rattle.task_machine.specs.declared.section.Section.{Section};
 use crate::frame::{Frame, Pause, go_past};
 use crate::holdings::Holdings;
 use crate::play;
-use crate::section::{Own, all_rights, commit, declare_for_child, end_section, outside_section};
+use crate::section::{
+    Own, all_rights, commit, copied_for, declare_for_child, end_section, made_for, outside_section,
+    rights_for,
+};
 use crate::slots::{empty_slots, give_call, give_inputs};
 use code_meaning::code::{Instruction, Operand};
-use jade_base::{Content, Memory, ObjectId, Rights, Spec};
+use jade_base::{Content, Memory, Mode, ObjectId, Rights, Spec};
 use std::alloc::Global;
 use std::marker::Model;
 use task_code::Code;
@@ -288,5 +294,67 @@ impl<'c> Execution<'c> {
             own,
             held,
         ))
+    }
+
+    /// The mode in which an object is held, if it is. It takes no memory.
+    pub fn hold(&self, object: ObjectId) -> Option<Mode>
+        ensures { result ≡ held (holds_at self.now) object.0 }
+    {
+        if object.0 < self.own.objects {
+            self.held.mode(object.0 as usize)
+        } else {
+            None
+        }
+    }
+
+    /// The rights of the task on an object. It takes no memory.
+    pub fn rights(&self, object: ObjectId) -> Rights
+        ensures { result ≡ rights_on (rights_at self.now.stage) object.0 }
+    {
+        rights_for(&self.own, object)
+    }
+
+    /// The rights on an object as a section of the task itself has changed them. It takes no memory.
+    pub fn amended(&self, object: ObjectId) -> Rights
+        ensures { result ≡ rights_on (amended_at self.now) object.0 }
+    {
+        copied_for(&self.own, object)
+    }
+
+    /// The rights on an object that a section has made for a child. It takes no memory.
+    pub fn made(&self, object: ObjectId) -> Rights
+        ensures { result ≡ rights_on (made_at self.now) object.0 }
+    {
+        made_for(&self.own, object)
+    }
+
+    /// The objects on which a section has made rights for a child, with these. It takes no memory.
+    pub fn child_spec(&self) -> &Spec
+        ensures { result.now ≡ self.now.stage.child }
+    {
+        &self.own.child
+    }
+
+    /// The number of objects whose contents the task may hold.
+    pub(crate) fn rows(&self) -> usize
+        ensures count { result ≡ length self.now.rows }
+        ensures ascend { RowsAscend self.now.rows }
+    {
+        self.held.len()
+    }
+
+    /// The object of a row.
+    pub(crate) fn object_at(&self, place: usize) -> ObjectId
+        requires { place < length self.now.rows }
+        ensures { slice_get (objects_in self.now.rows) place ≡ Some result }
+    {
+        self.held.object_at(place)
+    }
+
+    /// The place of an object's row.
+    pub(crate) fn row_of(&self, object: ObjectId) -> Option<usize>
+        ensures { result ≡ row_from object.0 0 self.now.rows }
+    {
+        self.held.row_of(object.0 as usize)
     }
 }

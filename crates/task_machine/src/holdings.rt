@@ -1,10 +1,11 @@
 //! The contents that a task holds.
 
-ghost use Rattle.std.specs.Prelude.{◌≡◌, ◌<◌, length, map, IfOk, IfSome};
+ghost use Rattle.std.specs.Prelude.{◌≡◌, ◌<◌, length, map, slice_get, Some, IfOk, IfSome};
 ghost use Rattle.jade_syntax.specs.Objects.{sizes};
 ghost use Rattle.jade_meaning.specs.Serial.{zeros};
 ghost use Rattle.task_machine.specs.Whole.{all_held, without};
 ghost use Rattle.task_machine.specs.Playing.{cell_of};
+ghost use Rattle.task_machine.specs.Telling.{mode_held};
 ghost use Rattle.task_machine.specs.Executions.{objects_in, with_content, without_content};
 ghost use Rattle.task_machine.specs.steps.Holding.{RowsAscend, contents_of, row_from, cell_in, Written, WrittenIn, whole_from};
 
@@ -70,6 +71,36 @@ impl Holdings {
         ensures left { contents_of self.new ≡ without object (contents_of self.old) }
     {
         take_among(self.rows.as_mut_slice(), object)
+    }
+
+    /// The number of rows.
+    pub(crate) fn len(&self) -> usize
+        ensures count { result ≡ length self.now }
+        ensures ascend { RowsAscend self.now }
+    {
+        self.rows.len()
+    }
+
+    /// The object of the row at a place.
+    pub(crate) fn object_at(&self, place: usize) -> ObjectId
+        requires { place < length self.now }
+        ensures { slice_get (objects_in self.now) place ≡ Some result }
+    {
+        self.rows[place].object
+    }
+
+    /// The place of an object's row.
+    pub(crate) fn row_of(&self, object: usize) -> Option<usize>
+        ensures { result ≡ row_from object 0 self.now }
+    {
+        place_of(self.rows.as_slice(), object)
+    }
+
+    /// The mode in which an object is held, if it is.
+    pub(crate) fn mode(&self, object: usize) -> Option<Mode>
+        ensures { result ≡ mode_held (contents_of self.now object) }
+    {
+        mode_among(self.rows.as_slice(), object)
     }
 
     /// The number in a cell of an object, where the object is held; a cell that is not there has 0.
@@ -161,6 +192,20 @@ fn cell_among(rows: &[Row], object: usize, cell: usize) -> Option<i64>
         Some(place) => match &rows[place].content {
             None => None,
             Some(content) => Some(at_cell(content, cell)),
+        },
+    }
+}
+
+// The mode in which an object is held, if it is.
+fn mode_among(rows: &[Row], object: usize) -> Option<Mode>
+    requires { RowsAscend rows.now }
+    ensures { result ≡ mode_held (contents_of rows.now object) }
+{
+    match place_of(rows, object) {
+        None => None,
+        Some(place) => match &rows[place].content {
+            None => None,
+            Some(content) => Some(content.mode()),
         },
     }
 }

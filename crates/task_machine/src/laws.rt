@@ -16,7 +16,7 @@ ghost use Rattle.task_machine.specs.Playing.{Contents};
 ghost use Rattle.task_machine.specs.Telling.{Agrees, TellsAsPlayed};
 ghost use Rattle.task_machine.specs.Left.{Due, BeginsDue, TakesLeast, TellsOn, TakesTouched, GivesForChild, Enters};
 ghost use Rattle.task_machine.specs.Machines.{Machine, NoDue, IsOrdered, PlaysOn, AdvancedGoesOn};
-ghost use Rattle.task_machine.specs.Machines.{DueIsTaken, WantedIsTaken, GivesAndCreates, GivesAndChanges, GivesAndEnds};
+ghost use Rattle.task_machine.specs.Machines.{TakesDue, WantedIsTaken, GivesAndCreates, GivesAndChanges, GivesAndEnds};
 ghost use Rattle.task_machine.specs.Left.{ChangesFirst, GivesForChange, Shifts, GivesAtEnd, Resigns};
 
 use code_meaning::laws::{children_are, root_is};
@@ -31,9 +31,8 @@ pub fn begins_due()
     ensures { (due : Due) (t : Task) → BeginsDue due t }
 {}
 
-/// What is due is taken by ascending number; where nothing is left to take, the course is told;
-/// an object
-/// that is touched and not held is taken first.
+/// What is due is taken by ascending number; where nothing is left to take, the course is told; an
+/// object that is touched and not held is taken first.
 pub fn takes_in_order()
     ensures least { (due : Due) (c : Course) (spec : Specification) (h : Holds) (n o : ℕ) (m : Mode) → TakesLeast due c spec h n o m }
     ensures on { (due : Due) (c : Course) (spec : Specification) (h : Holds) (n : ℕ) → TellsOn due c spec h n }
@@ -62,9 +61,10 @@ pub fn ends_in_order()
     ensures leaves { (b : Option Blame) (spec : Specification) (h : Holds) (n : ℕ) → Resigns b spec h n }
 {}
 
-/// The least object that is due, or an object that is touched and not held, is taken next.
+/// The least object that is due is taken next, and where there is none, the course is told; an
+/// object that is touched and not held is taken next.
 pub fn takes_next()
-    ensures due { (m : Machine) → IsOrdered m → DueIsTaken m }
+    ensures due { (m : Machine) → IsOrdered m → TakesDue m }
     ensures wanted { (m : Machine) → IsOrdered m → NoDue m → WantedIsTaken m }
 {}
 

@@ -5,7 +5,7 @@ mod execution;
 pub mod frame;
 pub mod holdings;
 pub mod laws;
-pub mod machine;
+pub mod next;
 mod numbers;
 pub mod play;
 pub mod section;
@@ -13,3 +13,4 @@ mod slots;
 
 pub use execution::Execution;
 pub use frame::Pause;
+pub use next::{Phase, next_object};

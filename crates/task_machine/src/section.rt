@@ -5,6 +5,7 @@ ghost use Rattle.jade_base.specs.Rights.{both_rights, is_immediate, join, no_rig
 ghost use Rattle.jade_base.specs.Specification.{joined_in, kept, rights_in, settled};
 ghost use Rattle.jade_meaning.specs.Specification.{rights_on, covers};
 ghost use Rattle.jade_meaning.specs.Spread.{spread};
+ghost use Rattle.access_spec.specs.Copies.{copied};
 ghost use Rattle.jade_meaning.specs.Changes.{change_of};
 ghost use Rattle.jade_meaning.specs.Course.{Building, Amending};
 ghost use Rattle.jade_syntax.specs.declared.tree.DeclareWord.{DeclareWord as WordOf};
@@ -69,6 +70,50 @@ fn rights_on(own: &Own, object: usize) -> Rights
 {
     if object < own.objects as usize {
         rights_among(own.spec.spec(), ObjectId(object as u32))
+    } else {
+        Rights::NONE
+    }
+}
+
+/// The rights of the task on an object.
+pub(crate) fn rights_for(own: &Own, object: ObjectId) -> Rights
+    ensures { result ≡ rights_on (rights_of own.now) object.0 }
+{
+    rights_on(own, object.0 as usize)
+}
+
+/// The rights on an object in the copy that a section of the task changes.
+pub(crate) fn copied_for(own: &Own, object: ObjectId) -> Rights
+    ensures { result ≡ rights_on (copy_spread own.now.objects own.now.spec) object.0 }
+{
+    if object.0 >= own.objects {
+        return Rights::NONE;
+    }
+    copied(&own.spec, object)
+}
+
+// The rights on an object in a copy.
+fn copied(spec: &WorkingCopy, object: ObjectId) -> Rights
+    ensures { result ≡ copied spec.now object }
+{
+    match spec.next_change(object) {
+        None => rights_among(spec.spec(), object),
+        Some((found, rights)) => {
+            if found.0 == object.0 {
+                rights
+            } else {
+                rights_among(spec.spec(), object)
+            }
+        }
+    }
+}
+
+/// The rights on an object that a section has made for a child.
+pub(crate) fn made_for(own: &Own, object: ObjectId) -> Rights
+    ensures { result ≡ rights_on (spread own.now.objects own.now.child.entries) object.0 }
+{
+    if object.0 < own.objects {
+        rights_among(&own.child, object)
     } else {
         Rights::NONE
     }

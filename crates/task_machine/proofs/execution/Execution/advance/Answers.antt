@@ -23,16 +23,19 @@ returns c =
     let e = c.self.inside in
     let a = c.go_to_pause.ensures.advances in
     let code = c.instructions-code.ensures.code in
-    subst (λ old. Advanced old c.go_to_pause.result (shown e.code.now e.numbers.now e.limit e.body c.go_to_pause.new.own c.go_to_pause.new.frame c.go_to_pause.new.held))
+    subst (λ old. Advanced old c.go_to_pause.result
+    (shown e.code.now e.numbers.now e.limit e.body c.go_to_pause.new.own c.go_to_pause.new.frame c.go_to_pause.new.held))
     c.self.view_is (record {
       plays = λ child n.
           ap (λ is. played (ahead child (stage is e.own e.frame.left e.frame.place e.frame.slots.items)) (contents_of e.held) n e.frame.events) (sym code)
           ∙ a.plays child n
-          ∙ ap (λ is. played (ahead child (stage is c.go_to_pause.new.own c.go_to_pause.new.frame.left c.go_to_pause.new.frame.place c.go_to_pause.new.frame.slots.items))
+          ∙ ap (λ is. played
+          (ahead child (stage is c.go_to_pause.new.own c.go_to_pause.new.frame.left c.go_to_pause.new.frame.place c.go_to_pause.new.frame.slots.items))
           (contents_of c.go_to_pause.new.held) (n + (e.frame.left - c.go_to_pause.new.frame.left)) c.go_to_pause.new.frame.events) code;
       fewer = a.fewer;
       tells = λ child. subst (λ is. Tells c.go_to_pause.result child
-          (stage is c.go_to_pause.new.own c.go_to_pause.new.frame.left c.go_to_pause.new.frame.place c.go_to_pause.new.frame.slots.items) (contents_of c.go_to_pause.new.held))
+          (stage is c.go_to_pause.new.own c.go_to_pause.new.frame.left c.go_to_pause.new.frame.place c.go_to_pause.new.frame.slots.items)
+          (contents_of c.go_to_pause.new.held))
           code (a.tells child);
       there = λ ne. subst (λ is. c.go_to_pause.new.frame.place < length is) code (a.there ne);
       task = record { program = refl; numbers = refl; limit = refl; body = refl; objects = a.sized.kept.objects; rights = a.sized.kept.rights };

@@ -1,0 +1,22 @@
+-- Objects among which one is looked for.
+use Rattle.std.specs.Prelude.{◌≡◌, ℕ, ◌<◌, ◌==◌, Bool, true, false, List, [], ◌∷◌, Some, slice_get, if◌then◌else◌}
+use Rattle.jade_base.specs.declared.place.ObjectId.{ObjectId}
+
+-- each object is above a number
+abbrev pub ObjectsAbove : ℕ → List ObjectId → Type 0
+ObjectsAbove n [] = Unit {0}
+ObjectsAbove n (x ∷ xs) = (n < x.0) × ObjectsAbove n xs
+
+-- their numbers ascend strictly
+abbrev pub ObjectsAscend : List ObjectId → Type 0
+ObjectsAscend [] = Unit {0}
+ObjectsAscend (x ∷ xs) = ObjectsAbove x.0 xs × ObjectsAscend xs
+
+-- an object is among them
+abbrev pub has_object : ℕ → List ObjectId → Bool
+has_object o [] = false
+has_object o (x ∷ xs) = if x.0 == o then true else has_object o xs
+
+-- the test fails for each of the first of them
+abbrev pub Tested : (ℕ → Bool) → List ObjectId → ℕ → Type 0
+Tested test xs n = (i : ℕ) (x : ObjectId) → i < n → slice_get xs i ≡ Some x → test x.0 ≡ false

@@ -1,0 +1,133 @@
+//! Which object a task takes or gives up next.
+
+ghost use Rattle.std.specs.Prelude.{◌≡◌, ◌<◌, ◌&&◌, not, length, is_some, false, slice_get, slice_index_or, Some, IfSome, IfNone};
+ghost use Rattle.jade_meaning.specs.Specification.{same_hold, yields};
+ghost use Rattle.task_machine.specs.Left.{IsLeast, IsNone};
+ghost use Rattle.task_machine.specs.Machines.{candidates, due_in, is_to_move};
+ghost use Rattle.task_machine.specs.steps.Searching.{ObjectsAscend};
+
+use crate::execution::Execution;
+use access_spec::{gives_way, mode_of};
+use jade_base::{Blame, Mode, ObjectId, Rights};
+
+/// What a task is about.
+#[derive(Clone, Copy, Debug, PartialEq, Eq)]
+pub enum Phase {
+    /// It takes what is due.
+    Taking,
+    /// It runs its code.
+    Going,
+    /// A child with the body of this number begins, once what it gets is given up.
+    Creating(u32),
+    /// Its rights change, once what it may not hold then is given up.
+    Changing,
+    /// It ends, once all that it holds is given up.
+    Ending(Option<Blame>),
+}
+
+// The number of objects among which one is looked for.
+fn count(execution: &Execution, phase: Phase) -> usize
+    ensures count { result ≡ length (candidates phase execution.now) }
+    ensures ascend { ObjectsAscend (candidates phase execution.now) }
+{
+    match phase {
+        Phase::Creating(_) => execution.child_spec().len(),
+        Phase::Taking => execution.rows(),
+        Phase::Going => execution.rows(),
+        Phase::Changing => execution.rows(),
+        Phase::Ending(_) => execution.rows(),
+    }
+}
+
+// One of these objects.
+fn candidate(execution: &Execution, phase: Phase, place: usize) -> ObjectId
+    requires { place < length (candidates phase execution.now) }
+    ensures { slice_get (candidates phase execution.now) place ≡ Some result }
+{
+    match phase {
+        Phase::Creating(_) => execution.child_spec().entry(place).0,
+        Phase::Taking | Phase::Going | Phase::Changing | Phase::Ending(_) => {
+            execution.object_at(place)
+        }
+    }
+}
+
+// The mark of an object's row.
+fn is_due(execution: &Execution, due: &[bool], object: ObjectId) -> bool
+    ensures { result ≡ due_in execution.now.rows due.now object.0 }
+{
+    match execution.row_of(object) {
+        None => false,
+        Some(place) => mark(due, place),
+    }
+}
+
+// A mark, or none.
+fn mark(due: &[bool], place: usize) -> bool
+    ensures { result ≡ slice_index_or due.now place false }
+{
+    if place < due.len() { due[place] } else { false }
+}
+
+// Whether a hold is given up for a child with these rights.
+fn is_given(hold: Option<Mode>, rights: Rights) -> bool
+    ensures { result ≡ yields hold rights }
+{
+    match hold {
+        None => false,
+        Some(hold) => gives_way(hold, rights),
+    }
+}
+
+// Whether a hold is given up where this mode is to follow it.
+fn is_given_back(hold: Option<Mode>, mode: Option<Mode>) -> bool
+    ensures { result ≡ (is_some hold && not (same_hold hold mode)) }
+{
+    match (hold, mode) {
+        (None, _) => false,
+        (Some(Mode::Reading), Some(Mode::Reading)) => false,
+        (Some(Mode::Writing), Some(Mode::Writing)) => false,
+        (Some(Mode::Commuting), Some(Mode::Commuting)) => false,
+        (Some(_), _) => true,
+    }
+}
+
+// Whether an object is to be taken or given up.
+fn moves(execution: &Execution, due: &[bool], phase: Phase, object: ObjectId) -> bool
+    ensures { result ≡ is_to_move phase execution.now due.now object.0 }
+{
+    match phase {
+        Phase::Taking => {
+            if is_due(execution, due, object) {
+                mode_of(execution.rights(object)).is_some()
+            } else {
+                false
+            }
+        }
+        Phase::Going => false,
+        Phase::Creating(_) => is_given(execution.hold(object), execution.made(object)),
+        Phase::Changing => {
+            let mode = mode_of(execution.amended(object));
+            is_given_back(execution.hold(object), mode)
+        }
+        Phase::Ending(_) => execution.hold(object).is_some(),
+    }
+}
+
+/// The least object that is to be taken, where the task takes what is due, or to be given up, where
+/// it creates a child, changes its rights or ends; there is none exactly where nothing is left to
+/// take or to give up. For each row of the execution there is a mark that tells whether its object
+/// is due. It takes no memory.
+pub fn next_object(execution: &Execution, due: &[bool], phase: Phase) -> Option<ObjectId>
+    ensures found { IfSome result (λ object.
+        IsLeast (is_to_move phase execution.now due.now) execution.now.stage.objects object.0) }
+    ensures none { IfNone result (IsNone (is_to_move phase execution.now due.now) execution.now.stage.objects) }
+{
+    'objects: for place in 0..count(execution, phase) {
+        let object = candidate(execution, phase, place);
+        if moves(execution, due, phase, object) {
+            return Some(object);
+        }
+    }
+    None
+}
