@@ -1,5 +1,5 @@
 -- The first words of the commands, and words that are no command's.
-use Rattle.std.proofs.Common.{◌≡◌, ℕ, List, [], ◌∷◌, sym, ◌∙◌, subst}
+use Rattle.std.proofs.Common.{◌≡◌, ℕ, ◌+◌, List, [], ◌∷◌, refl, sym, ◌∙◌, subst, arith}
 use Rattle.std.specs.Prelude.{codes, ℤ}
 use Rattle.jade_run.specs.Words.{SpellsExecution, SpellsRun, AcceptsWords, NeedsText, DrillWords, SpellsDrill}
 use Rattle.jade_run.specs.Words.{to_run, to_serial, to_check, to_show, on_text, to_drill, IsUsage, NoExecution, NoRun, NoDrill}
@@ -40,8 +40,12 @@ drill_run e = absurd (cc)
 pub drill_serial : codes "drill" ≡ codes "serial" → ⊥
 drill_serial e = absurd (cc)
 
+-- a number is not its successor
+next : (m n : ℕ) → m ≡ n + 1 → m ≡ n → ⊥
+next m n e f = absurd (omega arith)
+
 pub drill_check : codes "drill" ≡ codes "check" → ⊥
-drill_check e = absurd (cc)
+drill_check e = next 100 99 refl (firsts 100 99 (codes "rill") (codes "heck") e)
 
 pub drill_show : codes "drill" ≡ codes "show" → ⊥
 drill_show e = absurd (cc)
@@ -95,12 +99,3 @@ not_drill name rest is never (on_text (to_check h)) = drill_check (sym is ∙ fi
 not_drill name rest is never (on_text (to_show h)) = drill_show (sym is ∙ firsts _ _ _ _ h.spelled)
 not_drill name rest is never (to_drill n v h) =
     let P : List (List ℕ) → Type 0 = λ ws. SpellsDrill ws n v in never n v (subst P (sym (rests _ _ _ _ h.two)) h.drill)
-
--- a name that is no command's, or has words after it that it may not have
-pub not_named : (name : List ℕ) (rest : List (List ℕ)) → (name ≡ codes "run" → ⊥) → (name ≡ codes "serial" → ⊥) → (name ≡ codes "drill" → ⊥) →
-    (name ≡ codes "check" → rest ≡ [] → ⊥) → (name ≡ codes "show" → rest ≡ [] → ⊥) → AcceptsWords (name ∷ rest) → ⊥
-not_named name rest run serial drill check show (on_text (to_run w l ns h)) = run (firsts _ _ _ _ h.two)
-not_named name rest run serial drill check show (on_text (to_serial l ns h)) = serial (firsts _ _ _ _ h.two)
-not_named name rest run serial drill check show (on_text (to_check h)) = check (firsts _ _ _ _ h.spelled) (rests _ _ _ _ h.spelled)
-not_named name rest run serial drill check show (on_text (to_show h)) = show (firsts _ _ _ _ h.spelled) (rests _ _ _ _ h.spelled)
-not_named name rest run serial drill check show (to_drill n v h) = drill (firsts _ _ _ _ h.two)

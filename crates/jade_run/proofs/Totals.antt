@@ -8,7 +8,7 @@ use Rattle.std.proofs.lemmas.List.Folds.{fold-map}
 use Rattle.std.proofs.lemmas.List.Sums.{fold_more, sum-map, sum_by_more, sum_by-take-le}
 use Rattle.std.proofs.lemmas.Option.{slice_get_within, get_or_from_slice_get}
 use Rattle.jade_syntax.specs.declared.tree.Item.{Item}
-use Rattle.jade_syntax.specs.Limits.{within_limits}
+use Rattle.jade_syntax.specs.Limits.{within_limits, few_cells}
 use Rattle.jade_syntax.specs.Objects.{sizes}
 use Rattle.jade_meaning.specs.Serial.{Store, Deed, DidRead, DidWrite, DidCreate, DidEnd, Mark, with_cell, done_to, after, zeros}
 use Rattle.jade_run.specs.Sums.{sum_of, sum_of_cells}
@@ -35,11 +35,12 @@ zeros_have [] = refl
 zeros_have (n ∷ ns) = ap (λ k. k ∷ map length (zeros ns)) (length-replicate n (pos 0)) ∙ ap (λ ks. n ∷ ks) (zeros_have ns)
 
 -- after any marks the objects of a program within its limits have no more cells than it may declare
-pub few_cells : (items : List Item) (ms : List Mark) → within_limits items ≡ true → sum_by length (after ms (zeros (sizes items))) ≤ 1048576
-few_cells items ms h =
-    let total : sum (sizes items) ≤ 1048576 = leb-true (sum (sizes items)) 1048576 (and_second _ _ (and_second _ _ h)) in
-    let same = sym (sum-map length (after ms (zeros (sizes items)))) ∙ ap sum (marks_keep ms (zeros (sizes items)) ∙ zeros_have (sizes items)) in
-    omega (arith, total, same)
+pub few_after : (items : List Item) (ms : List Mark) → within_limits items ≡ true → sum_by length (after ms (zeros (sizes items))) ≤ 1048576
+few_after items ms h =
+    let few : few_cells items ≡ true = and_second _ _ h in
+    let total : sum (sizes items) ≤ 1048576 = leb-true (sum (sizes items)) 1048576 (and_second _ _ few) in
+    let P : ℕ → Type 0 = λ n. n ≤ 1048576 in
+    subst P (ap sum (sym (marks_keep ms (zeros (sizes items)) ∙ zeros_have (sizes items))) ∙ sum-map length (after ms (zeros (sizes items)))) total
 
 pub cells_more : (os : List (List ℤ)) (i : ℕ) (x : List ℤ) → slice_get os i ≡ Some x → sum_by length (take (i + 1) os) ≡ sum_by length (take i os) + length x
 cells_more os i x h =
