@@ -1,5 +1,5 @@
 -- What the parts of a call come to, each in one step.
-use Rattle.std.proofs.Common.{◌≡◌, ℕ, zero, suc, ◌<◌, ◌≤◌, true, false, List, [], ◌∷◌, length, drop, Option, Some, None, refl, ap, sym, ◌∙◌, subst, arith}
+use Rattle.std.proofs.Common.{◌≡◌, ℕ, zero, suc, ◌<◌, ◌≤◌, true, false, List, [], ◌∷◌, length, Option, Some, None, refl, ap, sym, ◌∙◌, subst, arith}
 use Rattle.std.specs.Prelude.{codes, ℤ}
 use Rattle.std.proofs.lemmas.List.{drop_all}
 use Rattle.jade_base.specs.Bytes.{WholeText, CutText, left_after, taken_with}
@@ -56,7 +56,7 @@ use Rattle.jade_run.specs.Outcome.{
   input_count,
 }
 use Rattle.jade_run.specs.Texts.{usage_text, refused_text, numbers_text, ok_text}
-use Rattle.jade_run.specs.Words.{SpellsExecution, NeedsText, NeedsNoText, RefusesWords, Asks, IsUsage, to_run, to_serial, to_check, to_show, on_text}
+use Rattle.jade_run.specs.Words.{SpellsExecution, NeedsText, RefusesWords, Asks, IsUsage, to_run, to_serial, to_check, to_show, on_text}
 use Rattle.jade_run.specs.Words.{works_on_text}
 use Rattle.jade_run.proofs.Naming.{drill_only}
 use Rattle.jade_meaning.specs.Answer.{Answer, Faulted, Cells, answer}

@@ -1,5 +1,5 @@
 -- What a drill comes to.
-use Rattle.std.proofs.Common.{◌≡◌, ℕ, List, [], length, refl, ap, sym, ◌∙◌, subst}
+use Rattle.std.proofs.Common.{◌≡◌, ℕ, List, [], refl, sym, ◌∙◌, subst}
 use Rattle.std.specs.Prelude.{Result, Ok, Err, IfOk}
 use Rattle.jade_base.specs.declared.failure.Memory.{Memory as NoMemory}
 use Rattle.jade_gen.specs.Drill.{drill_text}
@@ -12,7 +12,7 @@ use Rattle.jade_run.specs.declared.answer.ReadError.TheVariants.{Refused as NotR
 use Rattle.jade_run.specs.declared.status.Status.{Status}
 use Rattle.jade_run.specs.declared.status.Status.TheVariants.{Good, Fault, Refused, Numbers}
 use Rattle.jade_run.specs.Outcome.{IsAnswered, IsDrilled, IsGood, IsNotRead, OnRefused, RefusedFor, Shows}
-use Rattle.jade_run.specs.Outcome.{summed, not_summed, answered, answer_text, answer_status, input_count}
+use Rattle.jade_run.specs.Outcome.{summed, not_summed, answered, input_count}
 use Rattle.jade_run.specs.Texts.{numbers_text}
 use Rattle.jade_run.specs.steps.Drilling.{ShowsSum}
 use Rattle.jade_run.proofs.Calls.{refused_answered, miscounted_answered}

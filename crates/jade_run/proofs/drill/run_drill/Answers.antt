@@ -1,4 +1,4 @@
-use Rattle.std.proofs.Common.{◌≡◌, ◌∙◌, sym, arith}
+use Rattle.std.proofs.Common.{◌∙◌, sym, arith}
 use Rattle.jade_run.proofs.Drilling.{refused_drilled, miscounted_drilled, sum_drilled}
 use Rattle.jade_run.proofs.drill.run_drill.Goals as goal
 

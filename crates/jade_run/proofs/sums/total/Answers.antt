@@ -1,6 +1,5 @@
-use Rattle.std.proofs.Common.{◌≡◌, ◌+◌, ◌≤◌, arith, length, take, List, Some, subst, sym, ap, ◌∙◌}
+use Rattle.std.proofs.Common.{◌≤◌, arith, length, List, subst, sym, ap}
 use Rattle.std.specs.Prelude.{ℤ}
-use Rattle.std.specs.List.{slice_get, sum_by}
 use Rattle.std.proofs.lemmas.Int.{ints, to_z-of_z}
 use Rattle.jade_run.proofs.Totals.{cells_more, cells_within, sum_more}
 use Rattle.jade_run.proofs.sums.total.Goals as goal
