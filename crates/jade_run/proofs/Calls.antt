@@ -1,13 +1,13 @@
 -- What the parts of a call come to, each in one step.
-use Rattle.std.proofs.Common.{◌≡◌, ℕ, zero, suc, ◌<◌, ◌≤◌, List, [], ◌∷◌, length, drop, Option, Some, None, refl, ap, sym, ◌∙◌, subst, arith}
+use Rattle.std.proofs.Common.{◌≡◌, ℕ, zero, suc, ◌<◌, ◌≤◌, true, false, List, [], ◌∷◌, length, Option, Some, None, refl, ap, sym, ◌∙◌, subst, arith}
 use Rattle.std.specs.Prelude.{codes, ℤ}
 use Rattle.std.proofs.lemmas.List.{drop_all}
 use Rattle.jade_base.specs.Bytes.{WholeText, CutText, left_after, taken_with}
 use Rattle.jade_run.specs.declared.status.Status.{Status}
 use Rattle.jade_run.specs.declared.status.Status.TheVariants.{Good, Fault, Refused, Words, Numbers, Reading, Writing, Memory}
-use Rattle.jade_run.specs.Headline.{Answers, Headline, Moment, Stops, most_read}
+use Rattle.jade_run.specs.Headline.{Answers, Headline, Moment, Stops}
 use Rattle.jade_run.specs.declared.words.Command.{Command}
-use Rattle.jade_run.specs.declared.words.Command.TheVariants.{Run, Serial, Check, Show}
+use Rattle.jade_run.specs.declared.words.Command.TheVariants.{Run, Serial, Check, Show, Drill}
 use Rattle.jade_run.specs.declared.words.Execution.{Execution}
 use Rattle.jade_run.specs.declared.words.WordsError.{WordsError}
 use Rattle.jade_run.specs.declared.words.WordsError.TheVariants.{Usage}
@@ -26,6 +26,7 @@ use Rattle.jade_run.specs.Outcome.{
   Shows,
   IsShown,
   IsTested,
+  IsDrilled,
   IsCommanded,
   IsNotRead,
   OnRefused,
@@ -39,6 +40,7 @@ use Rattle.jade_run.specs.Outcome.{
   serial,
   check,
   show,
+  drill,
   refused,
   answered,
   miscounted,
@@ -46,13 +48,17 @@ use Rattle.jade_run.specs.Outcome.{
   not_good,
   shown,
   not_shown,
+  summed,
+  not_summed,
   unread,
   first_place,
   answer_status,
   input_count,
 }
 use Rattle.jade_run.specs.Texts.{usage_text, refused_text, numbers_text, ok_text}
-use Rattle.jade_run.specs.Words.{SpellsExecution, AcceptsWords, RefusesWords, Asks, IsUsage, to_run, to_serial, to_check, to_show}
+use Rattle.jade_run.specs.Words.{SpellsExecution, NeedsText, RefusesWords, Asks, IsUsage, to_run, to_serial, to_check, to_show, on_text}
+use Rattle.jade_run.specs.Words.{works_on_text}
+use Rattle.jade_run.proofs.Naming.{drill_only}
 use Rattle.jade_meaning.specs.Answer.{Answer, Faulted, Cells, answer}
 use Rattle.jade_syntax.specs.Image.{program}
 
@@ -69,7 +75,8 @@ pub usage_answers : (words : List (List ℕ)) (left : Option (List ℕ)) (text :
     status ≡ Words → Answers words left left text status
 usage_answers words left text status never t s = record {
   comes = record { bytes = bytes_of left; told = told_bytes left; outcome = usage never t s };
-  read = λ b e. e ∙ ap (λ z. Some (drop (most_read z) b)) (sym s);
+  read = λ needed b e. absurd (never (on_text needed));
+  unread = λ h. refl;
 }
 
 -- there is a list as long as is wanted
@@ -87,38 +94,22 @@ many : (left : Option (List ℕ)) → ((b : List ℕ) → left ≡ Some b → 10
 many None h = let some = long 1048577 in record { bytes = some.0; told = λ b e. absurd (cc); more = omega (arith, some.1) }
 many (Some b) h = record { bytes = b; told = λ x e. cc; more = omega (arith, h b refl) }
 
-pub too_long_answers : (words : List (List ℕ)) (before after : Option (List ℕ)) (text : List ℕ) (status : Status) → AcceptsWords words →
+pub too_long_answers : (words : List (List ℕ)) (before after : Option (List ℕ)) (text : List ℕ) (status : Status) → NeedsText words →
     CutText before after → text ≡ refused_text first_place (codes "text") → status ≡ Refused → Answers words before after text status
 too_long_answers words before after text status named cut t s =
     let m = many before cut.too_long in
     record {
       comes = record { bytes = m.bytes; told = m.told; outcome = too_long named m.more t s };
-      read = λ b e. cut.cut ∙ ap (left_after 1048577) e ∙ ap (λ z. Some (drop (most_read z) b)) (sym s);
+      read = λ needed b e. cut.cut ∙ ap (left_after 1048577) e;
+      unread = λ h. absurd (h named);
     }
 
-read_most : (a : Answer) → most_read (answer_status a) ≡ 1048577
-read_most (Faulted p b) = refl
-read_most (Cells store) = refl
-
-answered_read : {bytes : List ℕ} {numbers : List ℤ} {limit : ℕ} {text : List ℕ} {status : Status} → IsAnswered bytes numbers limit text status →
-    most_read status ≡ 1048577
-answered_read (answered tree is_good n shows) = ap most_read shows.ended ∙ read_most _
-answered_read (miscounted tree is_good n t s) = ap most_read s
-answered_read (refused place why for t s) = ap most_read s
-
-tested_read : {bytes text : List ℕ} {status : Status} → IsTested bytes text status → most_read status ≡ 1048577
-tested_read (good tree is_good t s) = ap most_read s
-tested_read (not_good place why for t s) = ap most_read s
-
-shown_read : {bytes text : List ℕ} {status : Status} → IsShown bytes text status → most_read status ≡ 1048577
-shown_read (shown tree reads t s) = ap most_read s
-shown_read (not_shown place why as_one t s) = ap most_read s
-
-pub asks_accepted : (words : List (List ℕ)) (c : Command) → Asks words c → AcceptsWords words
-asks_accepted words (Run w e) h = to_run w e.limit e.numbers h
-asks_accepted words (Serial e) h = to_serial e.limit e.numbers h
-asks_accepted words Check h = to_check h
-asks_accepted words Show h = to_show h
+pub asks_text : (words : List (List ℕ)) (c : Command) → Asks words c → works_on_text c ≡ true → NeedsText words
+asks_text words (Run w e) h on = to_run w e.limit e.numbers h
+asks_text words (Serial e) h on = to_serial e.limit e.numbers h
+asks_text words Check h on = to_check h
+asks_text words Show h on = to_show h
+asks_text words (Drill n w) h on = absurd (cc)
 
 executed : (words : List (List ℕ)) (e : Execution) → SpellsExecution words e.limit e.numbers → IsLimited e
 executed words e h = (h.steps.some, h.given.few)
@@ -128,12 +119,7 @@ asks_allowed words (Run w e) h = executed h.run.more e h.run.execution
 asks_allowed words (Serial e) h = executed h.more e h.execution
 asks_allowed words Check h = tt
 asks_allowed words Show h = tt
-
-commanded_read : (c : Command) (bytes text : List ℕ) (status : Status) → IsCommanded c bytes text status → most_read status ≡ 1048577
-commanded_read (Run w e) bytes text status h = answered_read h
-commanded_read (Serial e) bytes text status h = answered_read h
-commanded_read Check bytes text status h = tested_read h
-commanded_read Show bytes text status h = shown_read h
+asks_allowed words (Drill n w) h = (h.drill.amount.some, h.drill.amount.within)
 
 commanded : (words : List (List ℕ)) (c : Command) (bytes text : List ℕ) (status : Status) → Asks words c → length bytes ≤ 1048576 →
     IsCommanded c bytes text status → IsOutcome words bytes text status
@@ -141,21 +127,42 @@ commanded words (Run w e) bytes text status asked within h = run w e.limit e.num
 commanded words (Serial e) bytes text status asked within h = serial e.limit e.numbers asked within h
 commanded words Check bytes text status asked within h = check asked within h
 commanded words Show bytes text status asked within h = show asked within h
+commanded words (Drill n w) bytes text status asked within h = drill n w asked h
 
 pub command_answers : (words : List (List ℕ)) (before after : Option (List ℕ)) (c : Command) (bytes read text : List ℕ) (status : Status) → Asks words c →
-    WholeText before after bytes → read ≡ bytes → IsCommanded c read text status → Answers words before after text status
-command_answers words before after c bytes read text status asked whole all h = record {
+    works_on_text c ≡ true → WholeText before after bytes → read ≡ bytes → IsCommanded c read text status → Answers words before after text status
+command_answers words before after c bytes read text status asked on whole all h = record {
   comes = record {
     bytes = bytes;
     told = whole.whole;
     outcome =
         commanded words c bytes text status asked whole.within (let P : List ℕ → Type 0 = λ z. IsCommanded c z text status in subst P all h);
   };
-  read = λ b e.
+  read = λ needed b e.
       let same : bytes ≡ b = whole.whole b e in
       let within : length b ≤ 1048577 = subst (λ z. length z ≤ 1048577) same (omega (arith, whole.within)) in
-      whole.none_left b e ∙ ap (λ z. Some z) (sym (drop_all 1048577 b within)) ∙ ap (λ n. Some (drop n b)) (sym (commanded_read c read text status h));
+      whole.none_left b e ∙ ap (λ z. Some z) (sym (drop_all 1048577 b within));
+  unread = λ never. absurd (never (asks_text words c asked on));
 }
+
+drilled_answers : (words : List (List ℕ)) (left : Option (List ℕ)) (c : Command) (text : List ℕ) (status : Status) → Asks words c →
+    works_on_text c ≡ false → IsCommanded c [] text status → Answers words left left text status
+drilled_answers words left (Run w e) text status asked off h = absurd (cc)
+drilled_answers words left (Serial e) text status asked off h = absurd (cc)
+drilled_answers words left Check text status asked off h = absurd (cc)
+drilled_answers words left Show text status asked off h = absurd (cc)
+drilled_answers words left (Drill n w) text status asked off h = record {
+  comes = record { bytes = bytes_of left; told = told_bytes left; outcome = drill n w asked h };
+  read = λ needed b e. absurd (drill_only words n w asked needed);
+  unread = λ never. refl;
+}
+
+-- what a command comes to that works on no text, and what stops the call where there is no memory
+pub textless : (words : List (List ℕ)) (left : Option (List ℕ)) (before after : ℕ) (c : Command) (r : Result AnswerOf Status) → Asks words c →
+    works_on_text c ≡ false → IfOk r (λ a. IsCommanded c [] a.text.items a.status) → IfErr r (λ s. s ≡ Memory) →
+    MatchResult r (λ a. Answers words left left a.text.items a.status) (λ s. Stops s before after)
+textless words left before after c (Ok a) asked off h m = drilled_answers words left c a.text.items a.status asked off h
+textless words left before after c (Err s) asked off h m = subst (λ z. Stops z before after) (sym m) tt
 
 -- the statuses with which an outcome is written
 Written : Status → Type 0
@@ -190,6 +197,11 @@ unfolding Written
 shown_written bytes text status (shown tree reads t s) = subst Written (sym s) tt
 shown_written bytes text status (not_shown place why as_one t s) = subst Written (sym s) tt
 
+drilled_written : (tasks : ℕ) (text : List ℕ) (status : Status) → IsDrilled tasks text status → Written status
+unfolding Written
+drilled_written tasks text status (summed tree g n store e t s) = subst Written (sym s) tt
+drilled_written tasks text status (not_summed h bad) = answered_written _ _ _ _ _ h
+
 outcome_written : (words : List (List ℕ)) (bytes text : List ℕ) (status : Status) → IsOutcome words bytes text status → Written status
 unfolding Written
 outcome_written words bytes text status (usage never t s) = subst Written (sym s) tt
@@ -198,6 +210,7 @@ outcome_written words bytes text status (run w l ns named within h) = answered_w
 outcome_written words bytes text status (serial l ns named within h) = answered_written _ _ _ _ _ h
 outcome_written words bytes text status (check named within h) = tested_written _ _ _ h
 outcome_written words bytes text status (show named within h) = shown_written _ _ _ h
+outcome_written words bytes text status (drill n w named h) = drilled_written _ _ _ h
 
 written_headline : (words : List (List ℕ)) (status : Status) (before after : Moment) (text : List ℕ) → Written status →
     Answers words before.left after.left text status → after.taken ≡ taken_with before.taken text → Headline words status before after

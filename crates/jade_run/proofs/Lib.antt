@@ -1,7 +1,9 @@
 pub mod Calls
 pub mod Deciding
+pub mod Drilling
 pub mod Joins
 pub mod Lines
 pub mod Naming
 pub mod Once
 pub mod Signed
+pub mod Totals

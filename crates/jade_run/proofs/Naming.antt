@@ -1,7 +1,8 @@
 -- The first words of the commands, and words that are no command's.
-use Rattle.std.proofs.Common.{◌≡◌, ℕ, List, ◌∷◌, sym, ◌∙◌, subst}
-use Rattle.std.specs.Prelude.{codes}
-use Rattle.jade_run.specs.Words.{SpellsExecution, SpellsRun, to_run, to_serial, to_check, to_show, IsUsage, NoExecution, NoRun}
+use Rattle.std.proofs.Common.{◌≡◌, ℕ, ◌+◌, List, [], ◌∷◌, refl, sym, ◌∙◌, subst, arith}
+use Rattle.std.specs.Prelude.{codes, ℤ}
+use Rattle.jade_run.specs.Words.{SpellsExecution, SpellsRun, AcceptsWords, NeedsText, DrillWords, SpellsDrill}
+use Rattle.jade_run.specs.Words.{to_run, to_serial, to_check, to_show, on_text, to_drill, IsUsage, NoExecution, NoRun, NoDrill}
 use Rattle.jade_run.specs.declared.words.WordsError.{WordsError}
 use Rattle.jade_run.specs.declared.words.WordsError.TheVariants.{Usage, Memory}
 
@@ -33,6 +34,29 @@ serial_show e = absurd (cc)
 pub check_show : codes "check" ≡ codes "show" → ⊥
 check_show e = absurd (cc)
 
+pub drill_run : codes "drill" ≡ codes "run" → ⊥
+drill_run e = absurd (cc)
+
+pub drill_serial : codes "drill" ≡ codes "serial" → ⊥
+drill_serial e = absurd (cc)
+
+-- a number is not its successor
+next : (m n : ℕ) → m ≡ n + 1 → m ≡ n → ⊥
+next m n e f = absurd (omega arith)
+
+pub drill_check : codes "drill" ≡ codes "check" → ⊥
+drill_check e = next 100 99 refl (firsts 100 99 (codes "rill") (codes "heck") e)
+
+pub drill_show : codes "drill" ≡ codes "show" → ⊥
+drill_show e = absurd (cc)
+
+-- a drill needs no text
+pub drill_only : (words : List (List ℕ)) (tasks workers : ℕ) → DrillWords words tasks workers → NeedsText words → ⊥
+drill_only words n v d (to_run w l ns h) = two_names words d.more h.more _ _ drill_run d.two h.two
+drill_only words n v d (to_serial l ns h) = two_names words d.more h.more _ _ drill_serial d.two h.two
+drill_only words n v d (to_check h) = two_names words d.more [] _ _ drill_check d.two h.spelled
+drill_only words n v d (to_show h) = two_names words d.more [] _ _ drill_show d.two h.spelled
+
 pub swapped : {A : Type 0} {x y : A} → (x ≡ y → ⊥) → y ≡ x → ⊥
 swapped f e = f (sym e)
 
@@ -42,20 +66,36 @@ no_run words first more Usage two never = λ w l ns r.
     never l ns (subst P (rests _ _ _ _ (sym r.two ∙ two)) r.execution)
 no_run words first more Memory two never = tt
 
+no_run_named : (name : List ℕ) (rest : List (List ℕ)) → name ≡ codes "run" → ((w l : ℕ) (ns : List ℤ) → SpellsRun rest w l ns → ⊥) →
+    AcceptsWords (name ∷ rest) → ⊥
+no_run_named name rest is never (on_text (to_run w l ns h)) =
+    let P : List (List ℕ) → Type 0 = λ ws. SpellsRun ws w l ns in never w l ns (subst P (sym (rests _ _ _ _ h.two)) h.run)
+no_run_named name rest is never (on_text (to_serial l ns h)) = run_serial (sym is ∙ firsts _ _ _ _ h.two)
+no_run_named name rest is never (on_text (to_check h)) = run_check (sym is ∙ firsts _ _ _ _ h.spelled)
+no_run_named name rest is never (on_text (to_show h)) = run_show (sym is ∙ firsts _ _ _ _ h.spelled)
+no_run_named name rest is never (to_drill n v h) = drill_run (sym (firsts _ _ _ _ h.two) ∙ is)
+
 pub not_run : (name : List ℕ) (rest : List (List ℕ)) (e : WordsError) → name ≡ codes "run" → NoRun rest e → IsUsage (name ∷ rest) e
-not_run name rest Usage is never = λ a. elim a [
-  | to_run w l ns h ↦ (let P : List (List ℕ) → Type 0 = λ ws. SpellsRun ws w l ns in never w l ns (subst P (sym (rests _ _ _ _ h.two)) h.run))
-  | to_serial l ns h ↦ run_serial (sym is ∙ firsts _ _ _ _ h.two)
-  | to_check h ↦ run_check (sym is ∙ firsts _ _ _ _ h.spelled)
-  | to_show h ↦ run_show (sym is ∙ firsts _ _ _ _ h.spelled)
-]
+not_run name rest Usage is never = no_run_named name rest is never
 not_run name rest Memory is never = tt
 
+no_serial_named : (name : List ℕ) (rest : List (List ℕ)) → name ≡ codes "serial" → ((l : ℕ) (ns : List ℤ) → SpellsExecution rest l ns → ⊥) →
+    AcceptsWords (name ∷ rest) → ⊥
+no_serial_named name rest is never (on_text (to_run w l ns h)) = run_serial (sym (firsts _ _ _ _ h.two) ∙ is)
+no_serial_named name rest is never (on_text (to_serial l ns h)) =
+    let P : List (List ℕ) → Type 0 = λ ws. SpellsExecution ws l ns in never l ns (subst P (sym (rests _ _ _ _ h.two)) h.execution)
+no_serial_named name rest is never (on_text (to_check h)) = serial_check (sym is ∙ firsts _ _ _ _ h.spelled)
+no_serial_named name rest is never (on_text (to_show h)) = serial_show (sym is ∙ firsts _ _ _ _ h.spelled)
+no_serial_named name rest is never (to_drill n v h) = drill_serial (sym (firsts _ _ _ _ h.two) ∙ is)
+
 pub not_serial : (name : List ℕ) (rest : List (List ℕ)) (e : WordsError) → name ≡ codes "serial" → NoExecution rest e → IsUsage (name ∷ rest) e
-not_serial name rest Usage is never = λ a. elim a [
-  | to_run w l ns h ↦ run_serial (sym (firsts _ _ _ _ h.two) ∙ is)
-  | to_serial l ns h ↦ (let P : List (List ℕ) → Type 0 = λ ws. SpellsExecution ws l ns in never l ns (subst P (sym (rests _ _ _ _ h.two)) h.execution))
-  | to_check h ↦ serial_check (sym is ∙ firsts _ _ _ _ h.spelled)
-  | to_show h ↦ serial_show (sym is ∙ firsts _ _ _ _ h.spelled)
-]
+not_serial name rest Usage is never = no_serial_named name rest is never
 not_serial name rest Memory is never = tt
+
+pub not_drill : (name : List ℕ) (rest : List (List ℕ)) → name ≡ codes "drill" → NoDrill rest → AcceptsWords (name ∷ rest) → ⊥
+not_drill name rest is never (on_text (to_run w l ns h)) = drill_run (sym is ∙ firsts _ _ _ _ h.two)
+not_drill name rest is never (on_text (to_serial l ns h)) = drill_serial (sym is ∙ firsts _ _ _ _ h.two)
+not_drill name rest is never (on_text (to_check h)) = drill_check (sym is ∙ firsts _ _ _ _ h.spelled)
+not_drill name rest is never (on_text (to_show h)) = drill_show (sym is ∙ firsts _ _ _ _ h.spelled)
+not_drill name rest is never (to_drill n v h) =
+    let P : List (List ℕ) → Type 0 = λ ws. SpellsDrill ws n v in never n v (subst P (sym (rests _ _ _ _ h.two)) h.drill)

@@ -12,7 +12,9 @@ use Rattle.jade_syntax.specs.Erased.{erased_program}
 use Rattle.jade_syntax.specs.Objects.{input_names}
 use Rattle.jade_syntax.specs.StaticFaults.{static_faults, first_fault}
 use Rattle.jade_syntax.specs.declared.static_fault.StaticFault.{StaticFault}
-use Rattle.jade_meaning.specs.Answer.{answer}
+use Rattle.jade_gen.specs.Drill.{drill_text}
+use Rattle.jade_meaning.specs.Answer.{answer, Cells}
+use Rattle.jade_meaning.specs.Serial.{Store}
 use Rattle.jade_run.specs.declared.status.Status.{Status}
 use Rattle.jade_run.specs.declared.status.Status.TheVariants.{Good, Fault, Refused, Words, Numbers, Reading, Writing, Memory}
 use Rattle.jade_run.specs.Complete.{Completes}
@@ -36,6 +38,7 @@ use Rattle.jade_run.specs.Outcome.{
   IsGood,
   IsShown,
   IsTested,
+  IsDrilled,
   RefusedAs,
   RefusedFor,
   SameOutcome,
@@ -45,6 +48,7 @@ use Rattle.jade_run.specs.Outcome.{
   serial,
   check,
   show,
+  drill,
   refused,
   answered,
   miscounted,
@@ -52,6 +56,8 @@ use Rattle.jade_run.specs.Outcome.{
   not_good,
   shown,
   not_shown,
+  summed,
+  not_summed,
   unread,
   wrong,
   byte,
@@ -64,8 +70,9 @@ use Rattle.jade_run.specs.Outcome.{
   answer_status,
   input_count,
 }
-use Rattle.jade_run.specs.Texts.{refused_text, usage_text, numbers_text, static_word}
-use Rattle.jade_run.proofs.Naming.{firsts, rests, two_names, run_serial, run_check, run_show, serial_check, serial_show, check_show, swapped}
+use Rattle.jade_run.specs.Sums.{sum_of_cells}
+use Rattle.jade_run.specs.Texts.{refused_text, usage_text, numbers_text, static_word, drilled_text}
+use Rattle.jade_run.proofs.Naming.{firsts, rests, two_names, run_serial, run_check, run_show, serial_check, serial_show, check_show, swapped, drill_only}
 use Rattle.jade_run.proofs.Signed.{small, and_first, and_second}
 use Rattle.jade_run.specs.Words.{
   is_number,
@@ -74,12 +81,15 @@ use Rattle.jade_run.specs.Words.{
   SerialWords,
   CheckWords,
   ShowWords,
-  AcceptsWords,
+  DrillWords,
+  NeedsText,
   RefusesWords,
   to_run,
   to_serial,
   to_check,
   to_show,
+  on_text,
+  to_drill,
 }
 
 -- ---- words ask for one thing
@@ -137,11 +147,19 @@ one_order words a b (shows h d) (runs v m ys k e) = absurd (two_names words [] k
 one_order words a b (shows h d) (serials m ys k e) = absurd (two_names words [] k.more _ _ (swapped serial_show) h.spelled k.two)
 one_order words a b (shows h d) (checks k e) = absurd (two_names words [] [] _ _ (swapped check_show) h.spelled k.spelled)
 
-accepted : (words : List (List ℕ)) (o : Order) → Ordered words o → AcceptsWords words
-accepted words o (runs w l xs h d) = to_run w l xs h
-accepted words o (serials l xs h d) = to_serial l xs h
-accepted words o (checks h d) = to_check h
-accepted words o (shows h d) = to_show h
+needs : (words : List (List ℕ)) (o : Order) → Ordered words o → NeedsText words
+needs words o (runs w l xs h d) = to_run w l xs h
+needs words o (serials l xs h d) = to_serial l xs h
+needs words o (checks h d) = to_check h
+needs words o (shows h d) = to_show h
+
+-- words are the drill of one number of tasks
+one_drill : (words : List (List ℕ)) (n m v w : ℕ) → DrillWords words n v → DrillWords words m w → n ≡ m
+one_drill words n m v w h k =
+    let two : h.more ≡ k.more = rests _ _ _ _ (sym h.two ∙ k.two) in
+    let three : h.drill.first ∷ h.drill.second ∷ [] ≡ k.drill.first ∷ k.drill.second ∷ [] = sym h.drill.two ∙ two ∙ k.drill.two in
+    decimal_injective n m (omega (arith, h.drill.amount.within)) (omega (arith, k.drill.amount.within))
+    (sym h.drill.amount.spelled ∙ firsts _ _ _ _ three ∙ k.drill.amount.spelled)
 
 -- ---- a text is refused at one place and for one reason, or not
 
@@ -301,6 +319,26 @@ same_shown law bytes t u s r (shown x h a b) (not_shown q w k c d) = absurd (rea
 same_shown law bytes t u s r (not_shown p v h a b) (shown y k c d) = absurd (read_and_refused law bytes y p v k h)
 same_shown law bytes t u s r (not_shown p v h a b) (not_shown q w k c d) = record { text = a ∙ same_refused law bytes p q v w h k ∙ sym c; status = b ∙ sym d }
 
+-- a text whose answer is the cells of a store is answered well
+well : Parses → (bytes : List ℕ) (x : Program) (limit : ℕ) (store : Store) (t : List ℕ) (s : Status) → IsGood bytes x → input_count x ≡ 0 →
+    answer (program x) [] limit ≡ Cells store → IsAnswered bytes [] limit t s → s ≡ Good
+well law bytes x limit store t s g n e (answered y h m a) =
+    a.ended ∙ ap (λ p. answer_status (answer p [] limit)) (same_program law bytes y x h.reads g.reads) ∙ ap answer_status e
+well law bytes x limit store t s g n e (miscounted y h m a b) = absurd (m (sym n ∙ same_count law bytes x y g.reads h.reads))
+well law bytes x limit store t s g n e (refused q w k a b) = absurd (good_or_refused law bytes x q w g k)
+
+cells_are : (a b : Store) → Cells a ≡ Cells b → a ≡ b
+cells_are a b e = cc
+
+same_drilled : Parses → (n : ℕ) (t u : List ℕ) (s r : Status) → IsDrilled n t s → IsDrilled n u r → SameOutcome t s u r
+same_drilled law n t u s r (summed x g z a e v w) (summed y h k b f c d) =
+    let same = same_program law (drill_text n) y x h.reads g.reads in
+    let store : a ≡ b = cells_are a b (sym e ∙ sym (ap (λ p. answer p [] 4294967295) same) ∙ f) in
+    record { text = v ∙ ap (λ l. drilled_text n (sum_of_cells l)) store ∙ sym c; status = w ∙ sym d }
+same_drilled law n t u s r (summed x g z a e v w) (not_summed k bad) = absurd (bad (well law (drill_text n) x 4294967295 a u r g z e k))
+same_drilled law n t u s r (not_summed k bad) (summed x g z a e v w) = absurd (bad (well law (drill_text n) x 4294967295 a t s g z e k))
+same_drilled law n t u s r (not_summed h bad) (not_summed k worse) = same_answers law (drill_text n) [] 4294967295 t u s r h k
+
 -- ---- the outcome
 
 -- what an order comes to on a text
@@ -309,11 +347,12 @@ Fulfils (Executes limit numbers) bytes text status = IsAnswered bytes numbers li
 Fulfils Tests bytes text status = IsTested bytes text status
 Fulfils Displays bytes text status = IsShown bytes text status
 
--- an outcome: refused words, a text that is too long, or an order that was carried out
+-- an outcome: refused words, a text that is too long, an order that was carried out, or a drill
 data Found (words : List (List ℕ)) (bytes text : List ℕ) (status : Status) : Type 0 where
   unknown : RefusesWords words → text ≡ usage_text → status ≡ Words → Found words bytes text status
-  cut : AcceptsWords words → 1048576 < length bytes → text ≡ refused_text first_place (codes "text") → status ≡ Refused → Found words bytes text status
+  cut : NeedsText words → 1048576 < length bytes → text ≡ refused_text first_place (codes "text") → status ≡ Refused → Found words bytes text status
   done : (o : Order) → Ordered words o → length bytes ≤ 1048576 → Fulfils o bytes text status → Found words bytes text status
+  drilled : (tasks workers : ℕ) → DrillWords words tasks workers → IsDrilled tasks text status → Found words bytes text status
 
 found : (words : List (List ℕ)) (bytes text : List ℕ) (status : Status) → IsOutcome words bytes text status → Found words bytes text status
 found words bytes text status (usage never a b) = unknown never a b
@@ -322,6 +361,7 @@ found words bytes text status (run w l xs named within h) = done (Executes l xs)
 found words bytes text status (serial l xs named within h) = done (Executes l xs) (serials l xs named refl) within h
 found words bytes text status (check named within h) = done Tests (checks named refl) within h
 found words bytes text status (show named within h) = done Displays (shows named refl) within h
+found words bytes text status (drill n w named h) = drilled n w named h
 
 same_fulfilled : Parses → (o : Order) (bytes t u : List ℕ) (s r : Status) → Fulfils o bytes t s → Fulfils o bytes u r → SameOutcome t s u r
 same_fulfilled law (Executes limit numbers) bytes t u s r h k = same_answers law bytes numbers limit t u s r h k
@@ -330,16 +370,24 @@ same_fulfilled law Displays bytes t u s r h k = same_shown law bytes t u s r h k
 
 same_found : Parses → (words : List (List ℕ)) (bytes t u : List ℕ) (s r : Status) → Found words bytes t s → Found words bytes u r → SameOutcome t s u r
 same_found law words bytes t u s r (unknown never a b) (unknown never' c d) = record { text = a ∙ sym c; status = b ∙ sym d }
-same_found law words bytes t u s r (unknown never a b) (cut named more c d) = absurd (never named)
-same_found law words bytes t u s r (unknown never a b) (done o h within k) = absurd (never (accepted words o h))
-same_found law words bytes t u s r (cut named more a b) (unknown never c d) = absurd (never named)
+same_found law words bytes t u s r (unknown never a b) (cut named more c d) = absurd (never (on_text named))
+same_found law words bytes t u s r (unknown never a b) (done o h within k) = absurd (never (on_text (needs words o h)))
+same_found law words bytes t u s r (cut named more a b) (unknown never c d) = absurd (never (on_text named))
 same_found law words bytes t u s r (cut named more a b) (cut named' more' c d) = record { text = a ∙ sym c; status = b ∙ sym d }
 same_found law words bytes t u s r (cut named more a b) (done o h within k) = absurd (omega arith)
-same_found law words bytes t u s r (done o h within k) (unknown never c d) = absurd (never (accepted words o h))
+same_found law words bytes t u s r (done o h within k) (unknown never c d) = absurd (never (on_text (needs words o h)))
 same_found law words bytes t u s r (done o h within k) (cut named more c d) = absurd (omega arith)
 same_found law words bytes t u s r (done o h within k) (done o' h' within' k') =
     let P : Order → Type 0 = λ x. Fulfils x bytes t s in
     same_fulfilled law o' bytes t u s r (subst P (one_order words o o' h h') k) k'
+same_found law words bytes t u s r (unknown never a b) (drilled n w h k) = absurd (never (to_drill n w h))
+same_found law words bytes t u s r (cut named more a b) (drilled n w h k) = absurd (drill_only words n w h named)
+same_found law words bytes t u s r (done o h within k) (drilled n w h' k') = absurd (drill_only words n w h' (needs words o h))
+same_found law words bytes t u s r (drilled n w h k) (unknown never a b) = absurd (never (to_drill n w h))
+same_found law words bytes t u s r (drilled n w h k) (cut named more a b) = absurd (drill_only words n w h named)
+same_found law words bytes t u s r (drilled n w h k) (done o h' within k') = absurd (drill_only words n w h (needs words o h'))
+same_found law words bytes t u s r (drilled n w h k) (drilled m v h' k') =
+    let P : ℕ → Type 0 = λ z. IsDrilled z t s in same_drilled law m t u s r (subst P (one_drill words n m w v h h') k) k'
 
 pub same_outcomes : Parses → (words : List (List ℕ)) (bytes : List ℕ) (t u : List ℕ) (s r : Status) → IsOutcome words bytes t s → IsOutcome words bytes u r →
     SameOutcome t s u r

@@ -4,6 +4,7 @@ use Rattle.jade_base.specs.Bytes.{Rose, taken_with}
 use Rattle.jade_run.specs.declared.status.Status.{Status}
 use Rattle.jade_run.specs.declared.status.Status.TheVariants.{Good, Fault, Refused, Words, Numbers, Reading, Writing, Memory}
 use Rattle.jade_run.specs.Outcome.{IsOutcome}
+use Rattle.jade_run.specs.Words.{NeedsText, NeedsNoText}
 
 -- what a source and a sink tell at one moment: the bytes left, the bytes taken and the room where they tell them, and their counts of faults
 pub record Moment : Type 0 where
@@ -13,16 +14,9 @@ pub record Moment : Type 0 where
   pub source_faults : ℕ
   pub sink_faults : ℕ
 
--- the most bytes that are taken out of a source: none for refused words, else one more than a text may have
-abbrev pub most_read : Status → ℕ
-most_read Words = 0
-most_read Good = 1048577
-most_read Fault = 1048577
-most_read Refused = 1048577
-most_read Numbers = 1048577
-most_read Reading = 1048577
-most_read Writing = 1048577
-most_read Memory = 1048577
+-- the most bytes that are taken out of a source: one more than a text may have
+abbrev pub most_read : ℕ
+most_read = 1048577
 
 -- a text that is the outcome of the words and of the bytes that the source had; where it tells no bytes, of some bytes
 pub record Comes (words : List (List ℕ)) (left : Option (List ℕ)) (text : List ℕ) (status : Status) : Type 0 where
@@ -30,10 +24,12 @@ pub record Comes (words : List (List ℕ)) (left : Option (List ℕ)) (text : Li
   pub told : (b : List ℕ) → left ≡ Some b → bytes ≡ b
   pub outcome : IsOutcome words bytes text status
 
--- the outcome of the words and of what a source had left, and what it has left then: nothing, unless the text was too long or the words were refused
+-- the outcome of the words and of what a source had left, and what it has left then: nothing, unless the text was too long, where the words need a text;
+-- and else what it had
 pub record Answers (words : List (List ℕ)) (before after : Option (List ℕ)) (text : List ℕ) (status : Status) : Type 0 where
   pub comes : Comes words before text status
-  pub read : (b : List ℕ) → before ≡ Some b → after ≡ Some (drop (most_read status) b)
+  pub read : NeedsText words → (b : List ℕ) → before ≡ Some b → after ≡ Some (drop most_read b)
+  pub unread : NeedsNoText words → after ≡ before
 
 -- why there is no outcome: the source failed, or memory was wanting
 abbrev pub Stops : Status → (before after : ℕ) → Type 0
@@ -46,7 +42,7 @@ Stops Words before after = ⊥
 Stops Numbers before after = ⊥
 Stops Writing before after = ⊥
 
--- the outcome was written whole, and nothing is left to read, unless the text was too long or the words were refused
+-- the outcome was written whole, and nothing is left to read, unless the text was too long; words that need no text leave all of it
 pub record WroteAll (words : List (List ℕ)) (status : Status) (before after : Moment) : Type 0 where
   pub text : List ℕ
   pub answers : Answers words before.left after.left text status

@@ -3,6 +3,7 @@ use Rattle.std.specs.Prelude.{◌≡◌, ℕ, ◌<◌, ◌≤◌, List, [], leng
 use Rattle.jade_base.specs.Places.{key}
 use Rattle.jade_base.specs.declared.place.Pos.{Pos}
 use Rattle.jade_base.specs.declared.report.FaultNote.{FaultNote}
+use Rattle.jade_gen.specs.Drill.{drill_text}
 use Rattle.jade_lexer.specs.declared.lexeme.LexError.TheVariants.{Byte, Number, Deep}
 use Rattle.jade_lexer.specs.Lexemes.{TokenList}
 use Rattle.jade_lexer.specs.Reading.{reading, Whole, Refused as Unlexed}
@@ -18,15 +19,17 @@ use Rattle.jade_syntax.specs.PlacedImage.{placed_program}
 use Rattle.jade_syntax.specs.StaticFaults.{static_faults, first_fault}
 use Rattle.jade_syntax.specs.declared.static_fault.StaticKind.{StaticKind}
 use Rattle.jade_meaning.specs.Answer.{Answer, Faulted, Cells, answer}
+use Rattle.jade_meaning.specs.Serial.{Store}
 use Rattle.jade_run.specs.declared.status.Status.{Status}
 use Rattle.jade_run.specs.declared.status.Status.TheVariants.{Good, Fault, Refused, Words, Numbers}
 use Rattle.jade_run.specs.declared.words.Command.{Command}
 use Rattle.jade_run.specs.declared.words.Execution.{Execution}
-use Rattle.jade_run.specs.declared.words.Command.TheVariants.{Run, Serial, Check, Show}
+use Rattle.jade_run.specs.declared.words.Command.TheVariants.{Run, Serial, Check, Show, Drill}
 use Rattle.jade_run.specs.declared.answer.ReadError.{ReadError}
 use Rattle.jade_run.specs.declared.answer.ReadError.TheVariants.{Refused as NotRead, Memory}
-use Rattle.jade_run.specs.Texts.{usage_text, refused_text, fault_text, objects_text, numbers_text, ok_text, static_word}
-use Rattle.jade_run.specs.Words.{AcceptsWords, RefusesWords, RunWords, SerialWords, CheckWords, ShowWords}
+use Rattle.jade_run.specs.Sums.{sum_of_cells}
+use Rattle.jade_run.specs.Texts.{usage_text, refused_text, fault_text, objects_text, numbers_text, ok_text, static_word, drilled_text}
+use Rattle.jade_run.specs.Words.{NeedsText, RefusesWords, RunWords, SerialWords, CheckWords, ShowWords, DrillWords}
 
 -- the key of a fault note
 abbrev pub fault_key : FaultNote → List ℕ
@@ -110,34 +113,45 @@ pub data IsShown (bytes : List ℕ) (text : List ℕ) (status : Status) : Type 0
   shown : (tree : Program) → ReadsAs bytes tree → text ≡ layout (spelling tree) → status ≡ Good → IsShown bytes text status
   not_shown : (place : Pos) (why : List ℕ) → RefusedAs bytes place why → text ≡ refused_text place why → status ≡ Refused → IsShown bytes text status
 
+-- what a drill of so many tasks comes to: its text, run with no numbers and the greatest limit, told by the sum of all cells; where that run does not come to
+-- cells, what it comes to itself
+pub data IsDrilled (tasks : ℕ) (text : List ℕ) (status : Status) : Type 0 where
+  summed : (tree : Program) → IsGood (drill_text tasks) tree → input_count tree ≡ 0 → (store : Store) → answer (program tree) [] 4294967295 ≡ Cells store →
+      text ≡ drilled_text tasks (sum_of_cells store) → status ≡ Good → IsDrilled tasks text status
+  not_summed : IsAnswered (drill_text tasks) [] 4294967295 text status → (status ≡ Good → ⊥) → IsDrilled tasks text status
+
 -- an execution has a limit of one step or more, and at most 64 numbers
 abbrev pub IsLimited : Execution → Type 0
 IsLimited e = (1 ≤ e.limit) × (length e.numbers ≤ 64)
 
--- what is asked of a command: the bounds of its numbers, where it executes
+-- what is asked of a command: the bounds of its numbers, where it executes or drills
 abbrev pub IsAllowed : Command → Type 0
 IsAllowed (Run workers e) = IsLimited e
 IsAllowed (Serial e) = IsLimited e
 IsAllowed Check = Unit {0}
 IsAllowed Show = Unit {0}
+IsAllowed (Drill tasks workers) = (1 ≤ tasks) × (tasks ≤ 10000)
 
--- what a command comes to on a text of at most 1,048,576 bytes
+-- what a command comes to on a text of at most 1,048,576 bytes; a drill has its own text
 abbrev pub IsCommanded : Command → (bytes : List ℕ) → (text : List ℕ) → Status → Type 0
 IsCommanded (Run workers e) bytes text status = IsAnswered bytes e.numbers e.limit text status
 IsCommanded (Serial e) bytes text status = IsAnswered bytes e.numbers e.limit text status
 IsCommanded Check bytes text status = IsTested bytes text status
 IsCommanded Show bytes text status = IsShown bytes text status
+IsCommanded (Drill tasks workers) bytes text status = IsDrilled tasks text status
 
--- what words and a text come to; the words are tested first, then the length of the text, then the text
+-- what words and a text come to; the words are tested first, then, where they need a text, its length, then the text. A drill comes to the same whatever
+-- the text is
 pub data IsOutcome (words : List (List ℕ)) (bytes : List ℕ) (text : List ℕ) (status : Status) : Type 0 where
   usage : RefusesWords words → text ≡ usage_text → status ≡ Words → IsOutcome words bytes text status
-  too_long : AcceptsWords words → 1048576 < length bytes → text ≡ refused_text first_place (codes "text") → status ≡ Refused → IsOutcome words bytes text status
+  too_long : NeedsText words → 1048576 < length bytes → text ≡ refused_text first_place (codes "text") → status ≡ Refused → IsOutcome words bytes text status
   run : (workers limit : ℕ) (numbers : List ℤ) → RunWords words workers limit numbers → length bytes ≤ 1048576 → IsAnswered bytes numbers limit text status →
       IsOutcome words bytes text status
   serial : (limit : ℕ) (numbers : List ℤ) → SerialWords words limit numbers → length bytes ≤ 1048576 → IsAnswered bytes numbers limit text status →
       IsOutcome words bytes text status
   check : CheckWords words → length bytes ≤ 1048576 → IsTested bytes text status → IsOutcome words bytes text status
   show : ShowWords words → length bytes ≤ 1048576 → IsShown bytes text status → IsOutcome words bytes text status
+  drill : (tasks workers : ℕ) → DrillWords words tasks workers → IsDrilled tasks text status → IsOutcome words bytes text status
 
 -- two outcomes are the same
 pub record SameOutcome (one : List ℕ) (first : Status) (other : List ℕ) (second : Status) : Type 0 where

@@ -91,3 +91,7 @@ abbrev pub objects_text : List Label → List (List ℤ) → List ℕ
 objects_text [] objects = []
 objects_text (label ∷ labels) [] = []
 objects_text (label ∷ labels) (cells ∷ objects) = object_text label cells ++ objects_text labels objects
+
+-- tasks N sum X
+abbrev pub drilled_text : (tasks : ℕ) → (total : ℤ) → List ℕ
+drilled_text tasks total = line_of (codes "tasks " ++ decimal tasks ++ codes " sum " ++ signed_decimal total)

@@ -1,9 +1,9 @@
 -- The words of a command. A number is spelled in decimal, without a needless zero.
-use Rattle.std.specs.Prelude.{◌≡◌, ℕ, ◌≤◌, Bool, true, List, [], ◌∷◌, length, map, codes, ℤ, pos, negsuc, nat_le}
+use Rattle.std.specs.Prelude.{◌≡◌, ℕ, ◌≤◌, Bool, true, false, List, [], ◌∷◌, length, map, codes, ℤ, pos, negsuc, nat_le}
 use Rattle.std.specs.List.{list_all}
 use Rattle.std.specs.Fmt.{decimal, signed_decimal}
 use Rattle.jade_run.specs.declared.words.Command.{Command}
-use Rattle.jade_run.specs.declared.words.Command.TheVariants.{Run, Serial, Check, Show}
+use Rattle.jade_run.specs.declared.words.Command.TheVariants.{Run, Serial, Check, Show, Drill}
 use Rattle.jade_run.specs.declared.words.WordsError.{WordsError}
 use Rattle.jade_run.specs.declared.words.WordsError.TheVariants.{Usage, Memory}
 
@@ -60,12 +60,35 @@ pub record CheckWords (words : List (List ℕ)) : Type 0 where
 pub record ShowWords (words : List (List ℕ)) : Type 0 where
   pub spelled : words ≡ codes "show" ∷ []
 
+-- words spell 1 to 10,000 tasks and then 1 to 64 workers, and nothing more
+pub record SpellsDrill (words : List (List ℕ)) (tasks workers : ℕ) : Type 0 where
+  pub first : List ℕ
+  pub second : List ℕ
+  pub two : words ≡ first ∷ second ∷ []
+  pub amount : SpellsAmount first 10000 tasks
+  pub crew : SpellsAmount second 64 workers
+
+-- `drill TASKS WORKERS`
+pub record DrillWords (words : List (List ℕ)) (tasks workers : ℕ) : Type 0 where
+  pub more : List (List ℕ)
+  pub two : words ≡ codes "drill" ∷ more
+  pub drill : SpellsDrill more tasks workers
+
+-- the words are those of a command that works on a text
+pub data NeedsText (words : List (List ℕ)) : Type 0 where
+  to_run : (workers limit : ℕ) (numbers : List ℤ) → RunWords words workers limit numbers → NeedsText words
+  to_serial : (limit : ℕ) (numbers : List ℤ) → SerialWords words limit numbers → NeedsText words
+  to_check : CheckWords words → NeedsText words
+  to_show : ShowWords words → NeedsText words
+
+-- no text is needed for the words: they are a drill's, or are refused
+abbrev pub NeedsNoText : List (List ℕ) → Type 0
+NeedsNoText words = NeedsText words → ⊥
+
 -- the words are those of a command
 pub data AcceptsWords (words : List (List ℕ)) : Type 0 where
-  to_run : (workers limit : ℕ) (numbers : List ℤ) → RunWords words workers limit numbers → AcceptsWords words
-  to_serial : (limit : ℕ) (numbers : List ℤ) → SerialWords words limit numbers → AcceptsWords words
-  to_check : CheckWords words → AcceptsWords words
-  to_show : ShowWords words → AcceptsWords words
+  on_text : NeedsText words → AcceptsWords words
+  to_drill : (tasks workers : ℕ) → DrillWords words tasks workers → AcceptsWords words
 
 -- the words are those of no command
 abbrev pub RefusesWords : List (List ℕ) → Type 0
@@ -77,6 +100,15 @@ Asks words (Run workers e) = RunWords words workers e.limit e.numbers
 Asks words (Serial e) = SerialWords words e.limit e.numbers
 Asks words Check = CheckWords words
 Asks words Show = ShowWords words
+Asks words (Drill tasks workers) = DrillWords words tasks workers
+
+-- whether a command works on a text
+abbrev pub works_on_text : Command → Bool
+works_on_text (Run workers e) = true
+works_on_text (Serial e) = true
+works_on_text Check = true
+works_on_text Show = true
+works_on_text (Drill tasks workers) = false
 
 -- words are refused that are those of no command; want of memory says nothing of them
 abbrev pub IsUsage : List (List ℕ) → WordsError → Type 0
@@ -97,3 +129,7 @@ NoExecution words Memory = Unit {0}
 abbrev pub NoRun : List (List ℕ) → WordsError → Type 0
 NoRun words Usage = (workers limit : ℕ) (numbers : List ℤ) → SpellsRun words workers limit numbers → ⊥
 NoRun words Memory = Unit {0}
+
+-- no tasks and workers of a drill are spelled
+abbrev pub NoDrill : List (List ℕ) → Type 0
+NoDrill words = (tasks workers : ℕ) → SpellsDrill words tasks workers → ⊥

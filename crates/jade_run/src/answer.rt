@@ -44,7 +44,7 @@ pub struct Answer {
 
 /// The answer that a report tells: the task that faults first and why, or nothing where the
 /// objects are the answer.
-fn fault_of(report: &Report, limit: u32) -> Option<(&Path, Blame)>
+pub(crate) fn fault_of(report: &Report, limit: u32) -> Option<(&Path, Blame)>
     requires { Ascends (map fault_key report.now.faults) }
     ensures { MatchOption result (report_answer limit report.now ≡ Cells report.now.objects) (λ f. report_answer limit report.now ≡ Faulted f.0.now f.1) }
 {
@@ -81,7 +81,7 @@ fn place_of_limit(steps: &PartSteps, limit: u32) -> Option<&PartStep>
 }
 
 /// What a report is answered with.
-fn answer_of(
+pub(crate) fn answer_of(
     alloc: Global,
     checked: &Checked,
     report: &Report,
@@ -173,7 +173,7 @@ fn refused(alloc: Global, pos: Pos, why: &[u8]) -> Result<Answer, Memory>
 }
 
 /// What a text that is no good program is answered with.
-fn not_read(alloc: Global, error: ReadError) -> Result<Answer, Memory>
+pub(crate) fn not_read(alloc: Global, error: ReadError) -> Result<Answer, Memory>
     ensures { IfOk result (λ a. IsNotRead error a.text.items a.status) }
 {
     match error {
@@ -183,7 +183,7 @@ fn not_read(alloc: Global, error: ReadError) -> Result<Answer, Memory>
 }
 
 /// The program of a text with which nothing is wrong before it runs.
-fn checked_of(alloc: Global, text: &[u8]) -> Result<Checked, ReadError>
+pub(crate) fn checked_of(alloc: Global, text: &[u8]) -> Result<Checked, ReadError>
     requires { length text.now ≤ 1048576 }
     ensures good { IfOk result (λ c. IsGood text.now c.program) }
     ensures refused { IfErr result (λ e. OnRefused e (RefusedFor text.now)) }
@@ -200,7 +200,7 @@ fn checked_of(alloc: Global, text: &[u8]) -> Result<Checked, ReadError>
 }
 
 /// What a program is answered with that has so many inputs and was given so many numbers.
-fn miscounted(alloc: Global, wanted: u32, got: u32) -> Result<Answer, Memory>
+pub(crate) fn miscounted(alloc: Global, wanted: u32, got: u32) -> Result<Answer, Memory>
     ensures text { IfOk result (λ a. a.text.items ≡ numbers_text wanted got) }
     ensures status { IfOk result (λ a. a.status ≡ Status.Numbers) }
 {

@@ -1,12 +1,13 @@
 //! The top call.
 
-ghost use Rattle.std.specs.Prelude.{◌≡◌, ◌≤◌, length, IfOk, IfErr, MatchResult, codes};
+ghost use Rattle.std.specs.Prelude.{◌≡◌, ◌≤◌, [], length, IfOk, IfErr, MatchResult, codes};
 ghost use Rattle.jade_run.specs.Headline.{Answers, Headline, Stops};
 ghost use Rattle.jade_run.specs.Outcome.{first_place, IsAllowed, IsCommanded};
-ghost use Rattle.jade_run.specs.Words.{RefusesWords};
+ghost use Rattle.jade_run.specs.Words.{NeedsNoText};
 ghost use Rattle.jade_run.specs.Texts.{refused_text, usage_text};
 
 use crate::answer::{Answer, check_text, run_text, show_text};
+use crate::drill::run_drill;
 use crate::gate::Gate;
 use crate::status::Status;
 use crate::texts;
@@ -18,7 +19,8 @@ use std::alloc::Global;
 const FIRST_PLACE: Pos = Pos { line: 1, column: 1 };
 
 /// Runs the command that the words after the program's name ask for: reads the text from the
-/// source where they are those of a command, writes what it comes to, and answers the status.
+/// source where they are those of a command that works on one, writes what it comes to, and answers
+/// the status. For a drill and for refused words nothing is read.
 ///
 /// The words are tested first, then the length of the text, then the text. The whole text of the
 /// answer is built before its first byte is written.
@@ -30,7 +32,7 @@ pub fn jade_main<R, S: Source, K: Sink, G: Gate>(
     sink: &mut K,
     _gate: &G,
 ) -> Status
-    ensures unread { RefusesWords words.now → (source.new ≡ source.old) × (result ≡ Status.Reading → ⊥) }
+    ensures unread { NeedsNoText words.now → (source.new ≡ source.old) × (result ≡ Status.Reading → ⊥) }
     ensures headline { Headline words.now result
         (record {
           left = S.left source.old;
@@ -59,7 +61,7 @@ pub fn jade_main<R, S: Source, K: Sink, G: Gate>(
 /// What words and a source come to. The error is the status of a failed source, or of want of
 /// memory.
 fn answer<S: Source>(alloc: Global, words: &[Word], source: &mut S) -> Result<Answer, Status>
-    ensures unread { RefusesWords words.now → (source.new ≡ source.old) × IfErr result (λ s. s ≡ Status.Memory) }
+    ensures unread { NeedsNoText words.now → (source.new ≡ source.old) × IfErr result (λ s. s ≡ Status.Memory) }
     ensures answer { MatchResult result (λ a. Answers words.now (S.left source.old) (S.left source.new) a.text.items a.status)
         (λ s. Stops s (S.faults source.old) (S.faults source.new)) }
 {
@@ -67,6 +69,9 @@ fn answer<S: Source>(alloc: Global, words: &[Word], source: &mut S) -> Result<An
         Ok(command) => command,
         Err(error) => return not_a_command(alloc, error),
     };
+    if !command.works_on_text() {
+        return without_text(alloc, &command);
+    }
     match read_text(alloc, source) {
         Ok(text) => match of_text(alloc, &command, &text) {
             Ok(answer) => Ok(answer),
@@ -78,6 +83,18 @@ fn answer<S: Source>(alloc: Global, words: &[Word], source: &mut S) -> Result<An
         },
         Err(TextError::Failed) => Err(Status::Reading),
         Err(TextError::Memory) => Err(Status::Memory),
+    }
+}
+
+/// What a command comes to that works on no text. The error is the status of want of memory.
+fn without_text(alloc: Global, command: &Command) -> Result<Answer, Status>
+    requires { IsAllowed command.now }
+    ensures answer { IfOk result (λ a. IsCommanded command.now [] a.text.items a.status) }
+    ensures memory { IfErr result (λ s. s ≡ Status.Memory) }
+{
+    match of_text(alloc, command, &[]) {
+        Ok(answer) => Ok(answer),
+        Err(Memory) => Err(Status::Memory),
     }
 }
 
@@ -93,6 +110,7 @@ fn of_text(alloc: Global, command: &Command, text: &[u8]) -> Result<Answer, Memo
         }
         Command::Check => check_text(alloc, text),
         Command::Show => show_text(alloc, text),
+        Command::Drill(tasks, _) => run_drill(alloc, *tasks),
     }
 }
 

@@ -3,9 +3,11 @@
 
 pub mod answer;
 pub mod call;
+pub mod drill;
 pub mod gate;
 pub mod laws;
 pub mod status;
+pub mod sums;
 pub mod sure;
 pub mod texts;
 pub mod words;

@@ -3,7 +3,7 @@
 ghost use Rattle.std.specs.Prelude.{◌≡◌, ℕ, List, Some, ◌≤◌, length};
 ghost use Rattle.jade_run.specs.Complete.{Completes};
 ghost use Rattle.jade_run.specs.Headline.{Headline};
-ghost use Rattle.jade_run.specs.Words.{RefusesWords};
+ghost use Rattle.jade_run.specs.Words.{NeedsNoText};
 
 use crate::call::jade_main;
 use crate::gate::Gate;
@@ -24,7 +24,7 @@ pub fn run_in_memory<R, G: Gate>(
     gate: &G,
 ) -> Status
     ensures completes { Completes words.now source.old sink.old.room result }
-    ensures unread { RefusesWords words.now → source.new ≡ source.old }
+    ensures unread { NeedsNoText words.now → source.new ≡ source.old }
     ensures headline { Headline words.now result
         (record { left = Some source.old; taken = Some sink.old.taken; room = Some sink.old.room; source_faults = 0; sink_faults = sink.old.faults })
         (record { left = Some source.new; taken = Some sink.new.taken; room = Some sink.new.room; source_faults = 0; sink_faults = sink.new.faults }) }

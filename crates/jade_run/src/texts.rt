@@ -3,7 +3,7 @@
 ghost use Rattle.std.specs.Prelude.{◌≡◌, ◌++◌, ◌∷◌, [], codes, IfOk, OnOk, ◌<◌, length, slice_get, Some};
 ghost use Rattle.std.specs.Fmt.{decimal, signed_decimal};
 ghost use Rattle.jade_run.specs.Texts.{place_text, path_text, fault_word, fault_text, place_before, refused_text, line_of, cells_text, member_text};
-ghost use Rattle.jade_run.specs.Texts.{object_text, objects_text, between, numbers_text, static_word};
+ghost use Rattle.jade_run.specs.Texts.{object_text, objects_text, between, numbers_text, static_word, drilled_text};
 ghost use Rattle.jade_syntax.specs.Objects.{labels};
 
 use itoa::Buffer;
@@ -25,6 +25,14 @@ fn push_signed(text: &mut Vec<u8>, number: i64) -> Result<(), AllocError>
 {
     let mut buffer = Buffer::new();
     text.extend_from_slice(buffer.format(number).as_bytes())
+}
+
+/// Puts a sum last, in decimal with its sign.
+fn push_sum(text: &mut Vec<u8>, sum: i128) -> Result<(), AllocError>
+    ensures { OnOk result (text.new.items ≡ text.old.items ++ signed_decimal sum) }
+{
+    let mut buffer = Buffer::new();
+    text.extend_from_slice(buffer.format(sum).as_bytes())
 }
 
 /// Puts a place last.
@@ -187,5 +195,17 @@ pub fn objects(alloc: Global, checked: &Checked, cells: &CellLists) -> Result<Ve
         let (name, member) = checked.label(ObjectId(i));
         push_object(&mut text, name, member, cells.at(place))?;
     }
+    Ok(text)
+}
+
+/// What a drill of so many tasks is answered with that has no fault: the sum of all cells.
+pub fn drilled(alloc: Global, tasks: u32, sum: i128) -> Result<Vec<u8>, AllocError>
+    ensures { IfOk result (λ text. text.items ≡ drilled_text tasks sum) }
+{
+    let mut text = Vec::from_slice(alloc, b"tasks ")?;
+    push_decimal(&mut text, tasks)?;
+    text.extend_from_slice(b" sum ")?;
+    push_sum(&mut text, sum)?;
+    text.push(b'\n')?;
     Ok(text)
 }

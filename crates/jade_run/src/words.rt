@@ -2,15 +2,19 @@
 
 ghost use Rattle.std.specs.Prelude.{◌≡◌, ◌≢◌, ℕ, ◌<◌, ◌≤◌, ◌^◌, ◌↔◌, ◌∷◌, true, ℤ, Some, IfSome, IfNone, IsTrue, MatchOption, MatchResult};
 ghost use Rattle.std.specs.Fmt.{decimal, signed_decimal};
-ghost use Rattle.jade_run.specs.Words.{Asks, IsUsage, NoExecution, NoNumbers, NoRun, SpellsAmount, SpellsExecution, SpellsNumbers, SpellsRun, is_number};
+ghost use Rattle.jade_run.specs.Words.{Asks, IsUsage, NoDrill, NoExecution, NoNumbers, NoRun, SpellsAmount, SpellsDrill, SpellsExecution, SpellsNumbers};
+ghost use Rattle.jade_run.specs.Words.{SpellsRun, is_number, works_on_text};
 
 use itoa::Buffer;
 use jade_base::{Numbers, Word};
 use std::alloc::Global;
 use std::str;
 
-/// The most workers of a run.
+/// The most workers of a run or a drill.
 const MOST_WORKERS: u32 = 64;
+
+/// The most tasks of a drill.
+const MOST_TASKS: u32 = 10_000;
 
 /// The most numbers of a run.
 const MOST_NUMBERS: usize = 64;
@@ -104,14 +108,27 @@ pub struct Execution {
     pub numbers: Numbers,
 }
 
-/// What is asked for: that a text be run with so many workers, or serially, that it be checked, or
-/// that the layout of its program be shown.
+/// What is asked for: that a text be run with so many workers, or serially, that it be checked, that
+/// the layout of its program be shown, or that a drill of so many tasks be run with so many workers.
 #[derive(Debug, Drop)]
 pub enum Command {
     Run(u32, Execution),
     Serial(Execution),
     Check,
     Show,
+    Drill(u32, u32),
+}
+
+impl Command {
+    /// Whether it works on a text; a drill has its own.
+    pub fn works_on_text(&self) -> bool
+        ensures { result ≡ works_on_text self.now }
+    {
+        match self {
+            Command::Run(_, _) | Command::Serial(_) | Command::Check | Command::Show => true,
+            Command::Drill(_, _) => false,
+        }
+    }
 }
 
 /// Why there is no command: the words are those of none, or there was no memory, which says
@@ -173,6 +190,28 @@ fn run_of(alloc: Global, words: &[Word]) -> Result<(u32, Execution), WordsError>
     }
 }
 
+/// The tasks and the workers that words spell.
+fn drill_of(words: &[Word]) -> Option<(u32, u32)>
+    ensures { MatchOption result (NoDrill words.now) (λ c. SpellsDrill words.now c.0 c.1) }
+{
+    let Some((tasks, rest)) = words.split_first() else {
+        return None;
+    };
+    let Some((workers, rest)) = rest.split_first() else {
+        return None;
+    };
+    if !rest.is_empty() {
+        return None;
+    }
+    let Some(tasks) = amount_of(tasks.bytes(), MOST_TASKS) else {
+        return None;
+    };
+    let Some(workers) = amount_of(workers.bytes(), MOST_WORKERS) else {
+        return None;
+    };
+    Some((tasks, workers))
+}
+
 /// The command of a name and the words after it.
 fn named(alloc: Global, name: &[u8], rest: &[Word]) -> Result<Command, WordsError>
     ensures { MatchResult result (Asks (name.now ∷ rest.now)) (IsUsage (name.now ∷ rest.now)) }
@@ -189,6 +228,12 @@ fn named(alloc: Global, name: &[u8], rest: &[Word]) -> Result<Command, WordsErro
             Err(error) => Err(error),
         };
     }
+    if is_text(name, b"drill") {
+        return match drill_of(rest) {
+            Some((tasks, workers)) => Ok(Command::Drill(tasks, workers)),
+            None => Err(WordsError::Usage),
+        };
+    }
     if !rest.is_empty() {
         return Err(WordsError::Usage);
     }
@@ -201,9 +246,10 @@ fn named(alloc: Global, name: &[u8], rest: &[Word]) -> Result<Command, WordsErro
     Err(WordsError::Usage)
 }
 
-/// The command that the words spell: `run WORKERS LIMIT NUMBER*`, `serial LIMIT NUMBER*`, `check`
-/// or `show`, with 1 to 64 workers, a limit of 1 to 4,294,967,295 steps, and at most 64 numbers of
-/// 64 bits with their signs. The error is `Usage` exactly where they are none of these.
+/// The command that the words spell: `run WORKERS LIMIT NUMBER*`, `serial LIMIT NUMBER*`, `check`,
+/// `show` or `drill TASKS WORKERS`, with 1 to 64 workers, a limit of 1 to 4,294,967,295 steps, at most
+/// 64 numbers of 64 bits with their signs, and 1 to 10,000 tasks. The error is `Usage` exactly where
+/// they are none of these.
 pub fn command_of(alloc: Global, words: &[Word]) -> Result<Command, WordsError>
     ensures { MatchResult result (Asks words.now) (IsUsage words.now) }
 {

@@ -1,5 +1,5 @@
 use Rattle.std.proofs.Common.{refl}
-use Rattle.jade_run.proofs.Naming.{not_run, not_serial}
+use Rattle.jade_run.proofs.Naming.{not_run, not_serial, not_drill}
 use Rattle.jade_run.proofs.words.named.Goals as goal
 
 pub returns-in-Err : goal.returns-in-Err
@@ -8,3 +8,6 @@ returns-in-Err c = not_run c.args.name.now c.args.rest.now c.in-Err.error (c.if-
 pub returns-in-Err-execution_of : goal.returns-in-Err-execution_of
 returns-in-Err-execution_of c =
     not_serial c.args.name.now c.args.rest.now c.in-Err-execution_of.error (c.if-is_text-2.ensures.0 refl) c.in-Err-execution_of.ensures
+
+pub returns-in-None : goal.returns-in-None
+returns-in-None c = not_drill c.args.name.now c.args.rest.now (c.if-is_text-3.ensures.0 refl) c.in-None.ensures
