@@ -11,8 +11,8 @@ pub(crate) fn path_word(alloc: Global, path: &Path) -> Result<String, Stop> {
     let mut text = String::new(alloc);
     for number in path.numbers() {
         let dot = if text.is_empty() { "" } else { "." };
-        let piece = format!(in alloc; "{dot}{number}").map_err(|_| Stop::Failed)?;
-        text.push_str(piece.as_str()).map_err(|_| Stop::Failed)?;
+        let piece = format!(in alloc; "{dot}{number}")?;
+        text.push_str(piece.as_str())?;
     }
     Ok(text)
 }
@@ -37,9 +37,9 @@ pub(crate) fn entry_word(alloc: Global, entry: &Entry) -> Result<String, Stop> {
         Some(version) => {
             let cells = version.as_slice();
             let value = if cells.is_empty() { 0 } else { cells[0] };
-            format!(in alloc; "{path}({hold}, keeps {value})").map_err(|_| Stop::Failed)
+            Ok(format!(in alloc; "{path}({hold}, keeps {value})")?)
         }
-        None => format!(in alloc; "{path}({hold})").map_err(|_| Stop::Failed),
+        None => Ok(format!(in alloc; "{path}({hold})")?),
     }
 }
 
@@ -62,5 +62,5 @@ pub(crate) fn event_word(alloc: Global, act: Act, carried: Carried) -> Result<St
         (Act::Resign, _) => format!(in alloc; "resigns"),
         _ => format!(in alloc; "does something else"),
     };
-    text.map_err(|_| Stop::Failed)
+    Ok(text?)
 }

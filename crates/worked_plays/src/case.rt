@@ -9,8 +9,10 @@ use jade_parser::{ParseError, parse};
 use jade_syntax::Checked;
 use jade_types::{TypeError, check};
 use schedule_core::play;
-use std::alloc::Global;
-use std::str;
+use std::alloc::{AllocError, AllocFailed, Global};
+use std::num::ParseIntError;
+use std::str::Utf8Error;
+use std::{io, str};
 
 /// Why the cases could not be played to their end.
 #[derive(Clone, Copy, Debug, PartialEq, Eq)]
@@ -19,6 +21,36 @@ pub(crate) enum Stop {
     Line,
     /// Memory was wanting, or a line could not be written.
     Failed,
+}
+
+impl From<io::Error> for Stop {
+    fn from(_error: io::Error) -> Stop {
+        Stop::Failed
+    }
+}
+
+impl From<AllocError> for Stop {
+    fn from(_error: AllocError) -> Stop {
+        Stop::Failed
+    }
+}
+
+impl<T: Copy> From<AllocFailed<T>> for Stop {
+    fn from(_error: AllocFailed<T>) -> Stop {
+        Stop::Failed
+    }
+}
+
+impl From<ParseIntError> for Stop {
+    fn from(_error: ParseIntError) -> Stop {
+        Stop::Line
+    }
+}
+
+impl From<Utf8Error> for Stop {
+    fn from(_error: Utf8Error) -> Stop {
+        Stop::Line
+    }
 }
 
 impl From<Memory> for Stop {
@@ -60,8 +92,8 @@ impl Case {
             if word == ":" {
                 picking = true;
             } else if picking {
-                let pick = word.parse::<u32>().map_err(|_| Stop::Line)?;
-                case.picks.push(pick).map_err(|_| Stop::Failed)?;
+                let pick = word.parse::<u32>()?;
+                case.picks.push(pick)?;
             } else {
                 case.put_word(word)?;
             }
@@ -72,10 +104,10 @@ impl Case {
     /// The limit, or a number after it.
     fn put_word(&mut self, word: &str) -> Result<(), Stop> {
         if self.limit == 0 {
-            self.limit = word.parse::<u32>().map_err(|_| Stop::Line)?;
+            self.limit = word.parse::<u32>()?;
         } else {
-            let number = word.parse::<i64>().map_err(|_| Stop::Line)?;
-            self.numbers.push(number).map_err(|_| Stop::Failed)?;
+            let number = word.parse::<i64>()?;
+            self.numbers.push(number)?;
         }
         Ok(())
     }
@@ -83,12 +115,11 @@ impl Case {
     /// Puts a line of its text last.
     pub(crate) fn put(&mut self, line: &str) -> Result<(), Stop> {
         if self.has_lines {
-            self.text.push(b'\n').map_err(|_| Stop::Failed)?;
+            self.text.push(b'\n')?;
         }
         self.has_lines = true;
-        self.text
-            .extend_from_slice(line.as_bytes())
-            .map_err(|_| Stop::Failed)
+        self.text.extend_from_slice(line.as_bytes())?;
+        Ok(())
     }
 
     /// Plays the case, and prints its report, or why its text or its count of numbers is refused.
@@ -100,14 +131,14 @@ impl Case {
             Ok(checked) => checked,
             Err(refused) => {
                 let Refused { at, why } = refused;
-                return println!(rt; "refused {}:{} {why}", at.line, at.column).map_err(
-                    |_| Stop::Failed,
-                );
+                println!(rt; "refused {}:{} {why}", at.line, at.column)?;
+                return Ok(());
             }
         };
         let (want, got) = (checked.inputs() as usize, self.numbers.len());
         if want != got {
-            return println!(rt; "numbers: want {want}, got {got}").map_err(|_| Stop::Failed);
+            println!(rt; "numbers: want {want}, got {got}")?;
+            return Ok(());
         }
         let numbers = self.numbers.as_slice();
         let report = play(alloc, &checked, numbers, self.limit, self.picks.as_slice())?;
@@ -153,16 +184,16 @@ fn print_object(
         return Ok(());
     }
     let (name, member) = checked.label(ObjectId(object));
-    let name = str::from_utf8(name.bytes()).map_err(|_| Stop::Line)?;
+    let name = str::from_utf8(name.bytes())?;
     match member {
         Some(member) => print!(rt; "{name}[{member}] ="),
         None => print!(rt; "{name} ="),
-    }
-    .map_err(|_| Stop::Failed)?;
+    }?;
     for cell in report.objects.at(object as usize).as_slice() {
-        print!(rt; " {cell}").map_err(|_| Stop::Failed)?;
+        print!(rt; " {cell}")?;
     }
-    println!(rt;).map_err(|_| Stop::Failed)
+    println!(rt;)?;
+    Ok(())
 }
 
 /// Prints the objects, the faults and the steps of a report.
@@ -173,11 +204,11 @@ fn print(rt: &HostRuntime, alloc: Global, checked: &Checked, report: &Report) ->
     for fault in report.faults.as_slice() {
         let key = key(alloc, &fault.path, fault.children)?;
         let blame = blame(alloc, fault.blame)?;
-        println!(rt; "fault {key} {blame}").map_err(|_| Stop::Failed)?;
+        println!(rt; "fault {key} {blame}")?;
     }
     for part in report.steps.as_slice() {
         let key = key(alloc, &part.path, part.children)?;
-        println!(rt; "steps {key} {}", part.steps).map_err(|_| Stop::Failed)?;
+        println!(rt; "steps {key} {}", part.steps)?;
     }
     Ok(())
 }

@@ -20,7 +20,7 @@ fn play_cases(rt: &HostRuntime, alloc: Global, text: &str) -> Result<(), Stop> {
         match line.strip_prefix("> play ") {
             Some(words) => {
                 finish(rt, alloc, open)?;
-                println!(rt; "> play {words}").map_err(|_| Stop::Failed)?;
+                println!(rt; "> play {words}")?;
                 open = Some(Case::of(alloc, words)?);
             }
             None => match &mut open {

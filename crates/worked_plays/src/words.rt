@@ -34,11 +34,11 @@ pub(crate) fn static_word(kind: StaticKind) -> &'static str {
 pub(crate) fn key(alloc: Global, path: &Path, children: u32) -> Result<String, Stop> {
     let mut text = String::new(alloc);
     for number in path.numbers() {
-        let piece = format!(in alloc; "{number}.").map_err(|_| Stop::Failed)?;
-        text.push_str(piece.as_str()).map_err(|_| Stop::Failed)?;
+        let piece = format!(in alloc; "{number}.")?;
+        text.push_str(piece.as_str())?;
     }
-    let last = format!(in alloc; "{children}").map_err(|_| Stop::Failed)?;
-    text.push_str(last.as_str()).map_err(|_| Stop::Failed)?;
+    let last = format!(in alloc; "{children}")?;
+    text.push_str(last.as_str())?;
     Ok(text)
 }
 
@@ -49,5 +49,5 @@ pub(crate) fn blame(alloc: Global, blame: Blame) -> Result<String, Stop> {
         Some(pos) => format!(in alloc; "{}:{} {kind}", pos.line, pos.column),
         None => format!(in alloc; "{kind}"),
     };
-    text.map_err(|_| Stop::Failed)
+    Ok(text?)
 }

@@ -9,9 +9,11 @@ use jade_base::{
     Memory, MemorySink, MemorySource, StdSource, SureSink, SureSource, Word, read_text,
 };
 use jade_run::{EmptyGate, jade_main, run_in_memory};
-use std::alloc::Global;
+use std::alloc::{AllocError, AllocFailed, Global};
+use std::num::ParseIntError;
 use std::process::ExitCode;
-use std::str;
+use std::str::Utf8Error;
+use std::{io, str};
 
 /// The most bytes that a case writes.
 const ROOM: usize = 65_536;
@@ -26,6 +28,42 @@ enum Stop {
     Line,
     /// Memory was wanting, or a line could not be written.
     Failed,
+}
+
+impl From<Memory> for Stop {
+    fn from(_error: Memory) -> Stop {
+        Stop::Failed
+    }
+}
+
+impl From<io::Error> for Stop {
+    fn from(_error: io::Error) -> Stop {
+        Stop::Failed
+    }
+}
+
+impl From<AllocError> for Stop {
+    fn from(_error: AllocError) -> Stop {
+        Stop::Failed
+    }
+}
+
+impl<T: Copy> From<AllocFailed<T>> for Stop {
+    fn from(_error: AllocFailed<T>) -> Stop {
+        Stop::Failed
+    }
+}
+
+impl From<ParseIntError> for Stop {
+    fn from(_error: ParseIntError) -> Stop {
+        Stop::Line
+    }
+}
+
+impl From<Utf8Error> for Stop {
+    fn from(_error: Utf8Error) -> Stop {
+        Stop::Line
+    }
 }
 
 /// A case: the words of its call, and its text so far.
@@ -58,12 +96,11 @@ impl Case {
             Some(rest) => self.repeat(rest),
             None => {
                 if !self.is_joined {
-                    self.text.push(b'\n').map_err(|_| Stop::Failed)?;
+                    self.text.push(b'\n')?;
                 }
                 self.is_joined = false;
-                self.text
-                    .extend_from_slice(line.as_bytes())
-                    .map_err(|_| Stop::Failed)
+                self.text.extend_from_slice(line.as_bytes())?;
+                Ok(())
             }
         }
     }
@@ -73,11 +110,9 @@ impl Case {
         let Some((count, piece)) = rest.split_once(' ') else {
             return Err(Stop::Line);
         };
-        let count = count.parse::<u32>().map_err(|_| Stop::Line)?;
+        let count = count.parse::<u32>()?;
         for _ in 0..count {
-            self.text
-                .extend_from_slice(piece.as_bytes())
-                .map_err(|_| Stop::Failed)?;
+            self.text.extend_from_slice(piece.as_bytes())?;
         }
         self.is_joined = true;
         Ok(())
@@ -86,10 +121,11 @@ impl Case {
     /// Runs the case, and prints what it writes and its status.
     fn run(self, rt: &HostRuntime, alloc: Global) -> Result<(), Stop> {
         let mut source = SureSource::new(self.text);
-        let mut sink = SureSink::new(alloc, ROOM).map_err(|_| Stop::Failed)?;
+        let mut sink = SureSink::new(alloc, ROOM)?;
         let status = run_in_memory(rt, alloc, &self.words, &mut source, &mut sink, &EmptyGate);
-        let written = str::from_utf8(sink.taken()).map_err(|_| Stop::Line)?;
-        println!(rt; "{}status {}", written, status.number()).map_err(|_| Stop::Failed)
+        let written = str::from_utf8(sink.taken())?;
+        println!(rt; "{}status {}", written, status.number())?;
+        Ok(())
     }
 }
 
@@ -100,8 +136,8 @@ fn run_cases(rt: &HostRuntime, alloc: Global, text: &str) -> Result<(), Stop> {
         match line.strip_prefix("> ") {
             Some(words) => {
                 finish(rt, alloc, open)?;
-                println!(rt; "> {words}").map_err(|_| Stop::Failed)?;
-                open = Some(Case::of(alloc, words).map_err(|_| Stop::Failed)?);
+                println!(rt; "> {words}")?;
+                open = Some(Case::of(alloc, words)?);
             }
             None => match &mut open {
                 Some(case) => case.put(line)?,
@@ -124,7 +160,7 @@ fn finish(rt: &HostRuntime, alloc: Global, case: Option<Case>) -> Result<(), Sto
 fn calls(alloc: Global, failing: Option<u64>) -> Result<Vec<u64>, Stop> {
     let mut calls = Vec::new(alloc);
     if let Some(call) = failing {
-        calls.push(call).map_err(|_| Stop::Failed)?;
+        calls.push(call)?;
     }
     Ok(calls)
 }
@@ -137,13 +173,14 @@ fn run_failing(
     read: Option<u64>,
     write: Option<u64>,
 ) -> Result<(), Stop> {
-    let case = Case::of(alloc, "run 4 100").map_err(|_| Stop::Failed)?;
-    let text = Vec::from_slice(alloc, SEVEN.as_bytes()).map_err(|_| Stop::Failed)?;
+    let case = Case::of(alloc, "run 4 100")?;
+    let text = Vec::from_slice(alloc, SEVEN.as_bytes())?;
     let mut source = MemorySource::new(text, 4, calls(alloc, read)?);
-    let mut sink = MemorySink::new(alloc, 3, calls(alloc, write)?, 1024).map_err(|_| Stop::Failed)?;
+    let mut sink = MemorySink::new(alloc, 3, calls(alloc, write)?, 1024)?;
     let status = jade_main(rt, alloc, &case.words, &mut source, &mut sink, &EmptyGate);
-    let taken = str::from_utf8(sink.taken()).map_err(|_| Stop::Line)?;
-    println!(rt; "{:?} was taken, status {}", taken, status.number()).map_err(|_| Stop::Failed)
+    let taken = str::from_utf8(sink.taken())?;
+    println!(rt; "{:?} was taken, status {}", taken, status.number())?;
+    Ok(())
 }
 
 /// Runs over a source that fails, a sink that fails, and over both without a fault.
