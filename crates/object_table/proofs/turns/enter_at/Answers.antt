@@ -82,7 +82,7 @@ returns-in-Ok-entered-clause-rests c =
     let me : t3.seat.me ≡ (w, []) = ap (λ s. s.me) c.settle.ensures.seat
     ∙ finished t r key (c.core_laws.ensures key) slots seat1 o y new turn (Enter o c.args.rights) refl c.requires.next c.leave_turn.new.seat.me
     c.leave_turn.ensures.done in
-    done_rests t r t3 w me c.settle.ensures.path c.settle.ensures.events refl refl refl refl refl
+    done_rests t r t3 w me c.settle.ensures.path c.settle.ensures.events refl refl refl refl refl c.requires.next.born
 
 pub returns-in-Ok-entered-clause-answer :
     goal.returns-in-Ok-entered-clause-answer

@@ -70,7 +70,7 @@ returns-clause-rests c =
     let me : t3.seat.me ≡ (w, []) = ap (λ s. s.me) c.settle.ensures.seat
     ∙ finished t r key (c.core_laws.ensures key) slots seat1 o y new turn (Shift o c.args.rights) refl c.requires.next c.leave_turn.new.seat.me
     c.leave_turn.ensures.done in
-    done_rests t r t3 w me c.settle.ensures.path c.settle.ensures.events refl refl refl refl refl
+    done_rests t r t3 w me c.settle.ensures.path c.settle.ensures.events refl refl refl refl refl c.requires.next.born
 
 pub returns-clause-answer :
     goal.returns-clause-answer
