@@ -1,6 +1,6 @@
 -- Where a creation is next, there is a walk of the child: what a section creates is what its statements make of the task.
 use Rattle.std.proofs.Common.{◌≡◌, ℕ, zero, suc, Bool, true, false, List, [], ◌∷◌, ◌++◌, map, drop, refl, ap, subst, Option, Some, None}
-use Rattle.std.specs.Prelude.{ℤ, pos, ◌+ℤ◌, nat_lt, is_none, is_some, if◌then◌else◌}
+use Rattle.std.specs.Prelude.{ℤ, pos, ◌+ℤ◌, nat_lt, is_none, if◌then◌else◌}
 use Rattle.std.specs.List.{flat_map}
 use Rattle.jade_base.specs.declared.place.Pos.{Pos}
 use Rattle.jade_base.specs.declared.report.Blame.{Blame}
@@ -20,8 +20,8 @@ use Rattle.jade_meaning.specs.declared.values.Value.TheVariants.{IntOf}
 use Rattle.jade_meaning.specs.declared.resolve.Range.{Range}
 use Rattle.jade_meaning.specs.declared.resolve.ResolvedObject.{ResolvedObject}
 use Rattle.jade_meaning.specs.Values.{Given, Gives, Fails, operated, decides, signed, whole, holds, is_index, magnitude, turn_count}
-use Rattle.jade_meaning.specs.Specification.{Specification, rights_on, objects, covers, fitted, yields}
-use Rattle.jade_meaning.specs.Changes.{amended, declared}
+use Rattle.jade_meaning.specs.Specification.{Specification, rights_on, objects, covers, fitted}
+use Rattle.jade_meaning.specs.Changes.{amended}
 use Rattle.jade_meaning.specs.Laws.{Every}
 use Rattle.jade_meaning.specs.Course.{Course, Reads, Writes, Steps, Creates, Changes, Ends, Environment, Setting, Mine, On, Draft, NoDraft, Building, Amending}
 use Rattle.jade_meaning.specs.Course.{drafted, finish, choose, step, given, place_of, member, reach, read_cell, write_cell, bind, leave, scoped, turns, amend}
@@ -42,20 +42,7 @@ use Rattle.jade_meaning.specs.Course.{
   none_of,
 }
 use Rattle.jade_meaning.specs.Talk.{Task, Event, Enter, Enroll, Take, TouchRead, TouchWrite, Wants, Give, Leave, Shift, Resign, Holds, held, when, take_in}
-use Rattle.jade_meaning.specs.Talk.{
-  first_take,
-  touched,
-  start_holds,
-  start_takes,
-  creation_gives,
-  enters,
-  kept,
-  given_back,
-  change_gives,
-  shift,
-  shifts,
-  taken_anew,
-}
+use Rattle.jade_meaning.specs.Talk.{first_take, touched, start_holds, start_takes, creation_gives, enters, kept, change_gives, shift, shifts, taken_anew}
 use Rattle.jade_meaning.specs.Talk.{change_takes, changed, end_gives, end_leaves, events}
 use Rattle.jade_meaning.specs.Walks.{Walk, setting_of}
 use Rattle.jade_meaning.specs.Walk.{task_of, upcoming, First, IsChildOf, begun_as}

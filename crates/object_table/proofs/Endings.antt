@@ -1,31 +1,28 @@
 -- The slots at the end of a run, and the report that is made of them.
-use Rattle.std.proofs.Common.{◌≡◌, ◌≢◌, ℕ, zero, suc, ◌+◌, ◌<◌, ◌≤◌, Bool, true, false, List, [], ◌∷◌, ◌++◌, map, length, take, refl, sym, ap, ◌∙◌, subst}
-use Rattle.std.proofs.Common.{arith, eq-eqb, ne_eqb, Option, Some, None}
-use Rattle.std.specs.Prelude.{ℤ, slice_get, slice_index_or, slice_set, replicate, if◌then◌else◌}
+use Rattle.std.proofs.Common.{◌≡◌, ◌≢◌, ℕ, zero, suc, ◌+◌, ◌<◌, Bool, true, false, List, [], ◌∷◌, ◌++◌, map, length, take, refl, sym, ap, ◌∙◌, subst}
+use Rattle.std.proofs.Common.{arith, eq-eqb, ne_eqb}
+use Rattle.std.specs.Prelude.{slice_get, slice_index_or, slice_set, replicate, if◌then◌else◌}
 use Rattle.std.specs.List.{filter_map}
 use Rattle.std.specs.Mem.Slots.Ownership.{Filled}
 use mathlib.Core.Logic.{dite}
-use mathlib.Core.Option.{none, some, some-injective}
+use mathlib.Core.Option.{some, some-injective}
 use native.Mathlib.Decide.{ℕ_discrete}
 use lib.ListN.{get_elem?}
 use Rattle.atomic_table.specs.Table as table
 use Rattle.atomic_table.specs.Table.{Final, Seen}
-use Rattle.jade_base.specs.declared.report.Report.{Report}
 use Rattle.jade_syntax.specs.Image.{program as abstracted}
 use Rattle.jade_meaning.specs.Report.{report}
 use Rattle.object_shelf.specs.declared.queue.Entry.{Entry}
 use Rattle.object_shelf.specs.Views.{ObjectView}
 use Rattle.object_shelf.specs.Whole.{is_out}
-use Rattle.task_roll.specs.declared.note.PartNote.{PartNote}
 use Rattle.task_roll.specs.Rolls.{by_key}
-use Rattle.schedule_core.specs.declared.steps.Seat.{Seat}
-use Rattle.schedule_core.specs.Notes.{step_note, fault_note, told}
+use Rattle.schedule_core.specs.Notes.{step_note, fault_note}
 use Rattle.schedule_core.specs.Reports.{told_of}
 use Rattle.schedule_core.specs.ByNumber.{shelf_at}
 use Rattle.schedule_core.specs.Plain.{Reached}
 use Rattle.schedule_core.specs.Queued.{Owner}
 use Rattle.jade_meaning.specs.Plan.{RunPlan}
-use Rattle.object_table.specs.Views.{count_of, View, shelf_of, home_if, paths_of, part_of}
+use Rattle.object_table.specs.Views.{count_of, View, home_if, part_of}
 use Rattle.object_table.specs.Rule.{PlaceOk, free, taken, Ruled}
 use Rattle.object_table.specs.steps.Endings.{cells_in, notes_in, or_none, on_shelf, LastSlots, EndLaws}
 use Rattle.object_table.specs.declared.slot.Slot.{Slot}

@@ -1,5 +1,5 @@
 -- A task makes its next child, which stands before it on the roll and has no pass yet.
-use Rattle.std.proofs.Common.{◌≡◌, ◌≢◌, ℕ, suc, ◌<◌, ◌+◌, true, false, List, [], ◌∷◌, ◌++◌, map, length, set, refl, sym, ap, ◌∙◌, subst, arith, append_assoc}
+use Rattle.std.proofs.Common.{◌≡◌, ◌≢◌, ℕ, suc, true, false, List, [], ◌∷◌, ◌++◌, map, length, set, refl, sym, ap, ◌∙◌, subst, arith, append_assoc}
 use Rattle.std.proofs.Common.{eq-eqb, ne_eqb, Option, Some, None}
 use Rattle.std.specs.Prelude.{slice_get, is_some, if◌then◌else◌}
 use mathlib.Core.Logic.{dite}
@@ -18,7 +18,7 @@ use Rattle.jade_meaning.specs.Walk.{upcoming, First, Bears, IsChildOf, moved}
 use Rattle.object_shelf.specs.declared.queue.Entry.{Entry}
 use Rattle.object_shelf.specs.Shelves.{find}
 use Rattle.task_roll.specs.declared.note.PartNote.{PartNote}
-use Rattle.task_roll.specs.Order.{stands_before, entered, fits}
+use Rattle.task_roll.specs.Order.{stands_before, entered}
 use Rattle.task_roll.specs.Rolls.{RollView, enrolled, noting}
 use Rattle.task_roll.proofs.Rolls.{by_key-last as by_key_last}
 use Rattle.schedule_core.specs.declared.steps.Seat.{Seat}
@@ -27,8 +27,8 @@ use Rattle.schedule_core.specs.Plain.{Reached, Born}
 use Rattle.schedule_core.specs.Holders.{IsLive}
 use Rattle.schedule_core.proofs.Lines.{every_append, every_front, every_back}
 use Rattle.jade_meaning.specs.Plan.{RunPlan}
-use Rattle.object_table.specs.Views.{count_of, View, shelf_of, paths_of, part_of, core_notes}
-use Rattle.object_table.specs.Touches.{passed, all_touches}
+use Rattle.object_table.specs.Views.{count_of, View, shelf_of, paths_of, core_notes}
+use Rattle.object_table.specs.Touches.{passed}
 use Rattle.object_table.specs.Rule.{pass_of, kid_of, hold_of, nothing, Absent, Spot, OnRoll, Agrees, Owned, by_maker, Sits, Ruled}
 use Rattle.object_table.specs.Plays.{bore, Ahead, left_enrolled}
 use Rattle.object_table.specs.steps.Kept.{Laws}
@@ -37,8 +37,8 @@ use Rattle.object_table.specs.declared.slot.Slot.TheVariants as slot
 use Rattle.object_table.proofs.Bearing.{child_walk}
 use Rattle.object_table.proofs.Lists.{put_seat, seat_here, seat_else, map_absent, roll_put, place_get, at_inside, every_with, path_same, not_kid}
 use Rattle.object_table.proofs.Owners.{spot_more, not_empty, some_seat, owned_more, no_kid_of, every_of, place_next, entered_seat, fits_seats}
-use Rattle.object_table.proofs.Goes.{Goes, parts0, parts1, leaving}
-use Rattle.object_table.proofs.Quiet.{on, f, b, roll_is, stands, seat_on, reach_on}
+use Rattle.object_table.proofs.Goes.{Goes, parts0, leaving}
+use Rattle.object_table.proofs.Quiet.{on, f, b, roll_is, stands, reach_on}
 use Rattle.object_table.proofs.Touching.{set_set, passing, passed_same}
 use Rattle.object_table.proofs.Finishing.{ahead_once}
 

@@ -1,6 +1,6 @@
 -- A task ends: it leaves the roll, and its last part leaves its note.
-use Rattle.std.proofs.Common.{◌≡◌, ◌≢◌, ℕ, suc, ◌+◌, Bool, true, false, List, [], ◌∷◌, ◌++◌, map, set, refl, sym, ap, ◌∙◌, subst, arith}
-use Rattle.std.proofs.Common.{eq-eqb, ne_eqb, Option, Some, None}
+use Rattle.std.proofs.Common.{◌≡◌, ◌≢◌, ℕ, suc, Bool, true, List, [], ◌∷◌, ◌++◌, map, set, refl, sym, ap, ◌∙◌, subst, arith}
+use Rattle.std.proofs.Common.{eq-eqb, ne_eqb, Option, None}
 use Rattle.std.specs.Prelude.{if◌then◌else◌}
 use mathlib.Core.Option.{none, some}
 use lib.ListN.{get_elem?}
@@ -9,7 +9,7 @@ use Rattle.atomic_table.specs.Table.{Me, step, gives, stepped, Allows, rest}
 use Rattle.atomic_table.proofs.Lists.{set_here}
 use Rattle.jade_base.specs.declared.report.Blame.{Blame}
 use Rattle.jade_meaning.specs.Laws.{Every}
-use Rattle.jade_meaning.specs.Talk.{Event, Resign}
+use Rattle.jade_meaning.specs.Talk.{Resign}
 use Rattle.jade_meaning.specs.Walk.{upcoming, First}
 use Rattle.task_roll.specs.declared.note.PartNote.{PartNote}
 use Rattle.task_roll.specs.Order.{without}
@@ -17,7 +17,7 @@ use Rattle.task_roll.specs.Rolls.{RollView, resigned, noting}
 use Rattle.task_roll.proofs.Rolls.{by_key-last as by_key_last}
 use Rattle.schedule_core.specs.declared.steps.Seat.{Seat}
 use Rattle.schedule_core.specs.ByNumber.{shelf_at}
-use Rattle.schedule_core.specs.Plain.{Reached, seat_after}
+use Rattle.schedule_core.specs.Plain.{Reached}
 use Rattle.schedule_core.proofs.Lines.{every_append, every_front, every_back, every_apply}
 use Rattle.jade_meaning.specs.Plan.{RunPlan}
 use Rattle.object_table.specs.Views.{count_of, View, shelf_of, paths_of, core_notes}

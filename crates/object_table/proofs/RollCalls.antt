@@ -1,11 +1,10 @@
 -- What a pass shows once a call has left its turn at the roll; its cut in two, and its taking in of another.
-use Rattle.std.proofs.Common.{◌≡◌, ℕ, zero, suc, ◌<◌, ◌+◌, ◌%◌, ◌^◌, Bool, true, false, ◌&&◌, ◌||◌, List, [], ◌∷◌, ◌++◌, refl, sym, ap, ◌∙◌, subst, arith}
+use Rattle.std.proofs.Common.{◌≡◌, ℕ, zero, suc, ◌+◌, ◌%◌, ◌^◌, Bool, true, false, ◌&&◌, ◌||◌, List, [], ◌∷◌, ◌++◌, refl, sym, ap, ◌∙◌, subst, arith}
 use Rattle.std.proofs.Common.{eq-eqb, Option, Some, None}
 use Rattle.std.specs.Prelude.{if◌then◌else◌}
 use mathlib.Core.Option.{none}
-use Rattle.atomic_table.specs.Table.{Me, step, rest, Splits, Joins}
+use Rattle.atomic_table.specs.Table.{Me, step, Splits, Joins}
 use Rattle.atomic_table.specs.declared.shared.Seat.{Seat}
-use Rattle.jade_base.specs.Held.{Held}
 use Rattle.jade_base.specs.declared.report.Blame.{Blame}
 use Rattle.jade_meaning.specs.Talk.{Task as TaskOf, Event, Enter, Enroll, Take, TouchRead, TouchWrite, Wants, Give, Leave, Shift, Resign}
 use Rattle.jade_meaning.specs.Walk.{upcoming, First, Bears, IsChildOf}
@@ -17,7 +16,7 @@ use Rattle.jade_meaning.specs.Plan.{RunPlan}
 use Rattle.object_table.specs.Views.{count_of, View, shelf_of, paths_of}
 use Rattle.object_table.specs.Touches.{touched_first, touched, touch_next, passed, all_touches}
 use Rattle.object_table.specs.Rule.{Ruled}
-use Rattle.object_table.specs.Plays.{Told, in_turn, bore, left_enrolled, nobody, is_deserted, gone, left_resigned, without_kid, kid_view, joined, spent_view}
+use Rattle.object_table.specs.Plays.{Told, bore, left_enrolled, nobody, is_deserted, gone, left_resigned, without_kid, kid_view, joined, spent_view}
 use Rattle.object_table.specs.Calls.{Next, saw_roll, Bore, Ended, IsGone}
 use Rattle.object_table.specs.steps.Kept.{Rests, InTurn, Leaves, Laws, Youngest, shown, with_slot, IsRoll}
 use Rattle.object_table.specs.declared.task.Task.{Task}
@@ -29,7 +28,7 @@ use Rattle.object_table.proofs.Enrolling.{enrolling}
 use Rattle.object_table.proofs.Resigning.{resigning}
 use Rattle.object_table.proofs.Splitting.{splits}
 use Rattle.object_table.proofs.Joining.{joins}
-use Rattle.object_table.proofs.Calls.{on_try, passed_try, all_try, path_is, children_is, tries_same, idle_same, alive, ahead_is, left_rests, done_shown}
+use Rattle.object_table.proofs.Calls.{on_try, passed_try, path_is, children_is, tries_same, idle_same, alive, ahead_is, left_rests, done_shown}
 
 -- the roll's slot shows the roll
 pub roll_there : (slots : ℕ) (v : View) (o : ℕ) (y : Slot) (key : RunPlan) → slots ≡ suc (count_of key) → o ≡ count_of key → Told slots v o y → IsRoll y

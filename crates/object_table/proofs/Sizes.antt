@@ -12,8 +12,8 @@ use Rattle.jade_meaning.specs.Plan.{RunPlan}
 use Rattle.jade_meaning.specs.Talk.{Event, Enter, Enroll, Take, TouchRead, TouchWrite, Wants, Give, Leave, Shift, Resign}
 use Rattle.jade_syntax.specs.Objects.{sizes}
 use Rattle.object_shelf.specs.declared.queue.Entry.{Entry}
-use Rattle.object_shelf.specs.Views.{ObjectView, ShelfView}
-use Rattle.object_shelf.specs.Shelves.{same_path, find, changes, at, without, newborn, entered_in, if_read_only, version_or, held_for, released, with_rights}
+use Rattle.object_shelf.specs.Views.{ObjectView}
+use Rattle.object_shelf.specs.Shelves.{same_path, find, changes, at, without, newborn, entered_in, version_or, held_for, released, with_rights}
 use Rattle.object_shelf.specs.Shelves.{taken, given, entered, shifted, left, written}
 use Rattle.object_shelf.specs.Homes.{hand_of, hand_in, or_home}
 use Rattle.object_shelf.specs.Whole.{is_out}

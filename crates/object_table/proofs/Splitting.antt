@@ -1,6 +1,6 @@
 -- The pass of a child that was enrolled is cut off its parent's.
-use Rattle.std.proofs.Common.{◌≡◌, ◌≢◌, ◌⊎◌, inl, inr, ℕ, zero, suc, ◌<◌, ◌+◌, true, false, List, [], ◌∷◌, ◌++◌, map, set, length, refl, sym, ap, ◌∙◌}
-use Rattle.std.proofs.Common.{subst, arith, length-set, Option, Some, None}
+use Rattle.std.proofs.Common.{◌≡◌, ◌≢◌, ◌⊎◌, inl, inr, ℕ, zero, suc, ◌<◌, true, List, [], ◌∷◌, ◌++◌, map, set, length, refl, sym, ap, ◌∙◌}
+use Rattle.std.proofs.Common.{subst, arith, length-set, Some}
 use mathlib.Core.Logic.{dite}
 use mathlib.Core.Option.{some, some-injective, some-ne-none}
 use native.Mathlib.Decide.{ℕ_discrete}
@@ -9,18 +9,16 @@ use Rattle.atomic_table.specs.Table as table
 use Rattle.atomic_table.specs.Table.{Splits}
 use Rattle.atomic_table.proofs.Lists.{at_set, set_here, set_else, at_longer, at_last}
 use Rattle.jade_meaning.specs.Laws.{Every}
-use Rattle.object_shelf.specs.Views.{ObjectView}
 use Rattle.schedule_core.specs.declared.steps.Seat.{Seat}
-use Rattle.schedule_core.specs.ByNumber.{shelf_at}
 use Rattle.schedule_core.specs.Plain.{Reached}
 use Rattle.schedule_core.proofs.Lines.{every_append, every_front, every_back, every_apply}
 use Rattle.jade_meaning.specs.Plan.{RunPlan}
 use Rattle.object_table.specs.Views.{count_of, View, part_of, core_notes}
-use Rattle.object_table.specs.Rule.{pass_of, kid_of, Absent, Spot, OnRoll, Owned, by_pass, by_maker, Sits, TurnOk, PlaceOk, free, taken, SeatOk, Ruled}
+use Rattle.object_table.specs.Rule.{pass_of, kid_of, Absent, Spot, OnRoll, Owned, by_pass, by_maker, TurnOk, PlaceOk, free, taken, SeatOk, Ruled}
 use Rattle.object_table.specs.Plays.{without_kid, kid_view}
 use Rattle.object_table.specs.declared.slot.Slot.{Slot}
-use Rattle.object_table.proofs.Lists.{put_seat, seat_here, seat_else, map_absent, roll_split, roll_put, at_inside, same_view, every_with}
-use Rattle.object_table.proofs.Owners.{spot_more, spot_less, not_empty, none_some, some_seat}
+use Rattle.object_table.proofs.Lists.{put_seat, seat_here, seat_else, roll_split, roll_put, at_inside, same_view, every_with}
+use Rattle.object_table.proofs.Owners.{spot_more, spot_less, not_empty, none_some}
 
 snoc_at : {A : Type 0} (l : List A) (a b : A) (j : ℕ) → get_elem? (l ++ a ∷ []) j ≡ some b → (get_elem? l j ≡ some b) ⊎ ((j ≡ length l) × (a ≡ b))
 snoc_at [] a b zero e = inr (refl, some-injective a b e)

@@ -1,4 +1,4 @@
-use Rattle.std.proofs.Common.{rules, ◌≡◌, ◌<◌, ◌+◌, suc, [], true, refl, ap, sym, ◌∙◌, subst, arith}
+use Rattle.std.proofs.Common.{rules, ◌≡◌, ◌+◌, suc, [], true, refl, ap, sym, ◌∙◌, subst, arith}
 use Rattle.atomic_table.specs.declared.shared.Seat.{Seat as Sitting}
 use Rattle.jade_meaning.specs.Talk.{Enroll}
 use Rattle.schedule_core.specs.Plain.{Born}

@@ -4,7 +4,6 @@ use Rattle.object_shelf.specs.Homes.{returned}
 use Rattle.object_table.specs.Touches.{put_held}
 use Rattle.object_table.specs.Plays.{did}
 use Rattle.object_table.specs.steps.Kept.{InTurn, shown}
-use Rattle.object_table.specs.declared.turns.Handed.TheVariants as handing
 use Rattle.object_table.specs.declared.slot.Slot.TheVariants as slot
 use Rattle.object_table.proofs.Calls.{on_try, alive, path_is, busy_is, busy_shown, tried_rests}
 use Rattle.object_table.proofs.Calls.{may_finish, finished, done_rests, done_shown, did_shown}

@@ -1,7 +1,7 @@
-use Rattle.std.proofs.Common.{rules, ◌≡◌, ◌<◌, suc, [], true, refl, ap, sym, ◌∙◌, arith}
+use Rattle.std.proofs.Common.{rules, ◌≡◌, suc, [], true, refl, ap, sym, ◌∙◌, arith}
 use Rattle.jade_meaning.specs.Talk.{Resign}
 use Rattle.atomic_table.specs.declared.shared.Seat.{Seat as Sitting}
-use Rattle.task_roll.specs.Rolls.{RollView, resigned}
+use Rattle.task_roll.specs.Rolls.{RollView}
 use Rattle.object_table.specs.Views.{View}
 use Rattle.object_table.specs.Plays.{nobody, gone}
 use Rattle.object_table.specs.steps.Kept.{InTurn, shown}

@@ -1,4 +1,4 @@
-use Rattle.std.proofs.Common.{rules, ◌≡◌, ◌<◌, ◌≤◌, ◌-◌, ◌∷◌, ◌++◌, [], suc, false, refl, ap, sym, ◌∙◌, arith}
+use Rattle.std.proofs.Common.{rules, ◌≡◌, ◌-◌, ◌∷◌, ◌++◌, [], false, refl, ap, ◌∙◌, arith}
 use Rattle.object_table.specs.declared.task.Task.{Task}
 use Rattle.object_table.proofs.RollCalls.{youngest, has_child, may_split, parent_rests, parent_shown, child_rests, child_shown}
 use Rattle.object_table.proofs.turns.split_off.Goals as goal

@@ -1,4 +1,4 @@
-use Rattle.std.proofs.Common.{rules, ◌≡◌, ◌<◌, suc, refl, ap, sym, ◌∙◌, arith}
+use Rattle.std.proofs.Common.{arith}
 use Rattle.object_table.proofs.RollCalls.{may_join, joined_rests, joined_shown}
 use Rattle.object_table.proofs.turns.take_in.Goals as goal
 
