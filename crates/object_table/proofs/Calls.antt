@@ -1,28 +1,61 @@
 -- What a pass shows once a call has left its turn.
-use Rattle.std.proofs.Common.{◌≡◌, ◌≢◌, ℕ, zero, suc, ◌<◌, ◌+◌, ◌%◌, ◌^◌, Bool, true, false, ◌&&◌, List, [], ◌∷◌, ◌++◌, refl, sym, ap, ◌∙◌, subst, arith}
-use Rattle.std.proofs.Common.{ne_eqb, Option, None}
-use Rattle.std.specs.Prelude.{if◌then◌else◌}
+use Rattle.std.proofs.Common.{
+  ◌≡◌,
+  ◌≢◌,
+  ℕ,
+  zero,
+  suc,
+  ◌<◌,
+  ◌+◌,
+  ◌%◌,
+  ◌^◌,
+  Bool,
+  true,
+  false,
+  ◌&&◌,
+  List,
+  [],
+  ◌∷◌,
+  ◌++◌,
+  length,
+  refl,
+  sym,
+  ap,
+  ◌∙◌,
+  subst,
+  arith,
+}
+use Rattle.std.proofs.Common.{eq-eqb, ne_eqb, Option, Some, None}
+use Rattle.std.specs.Prelude.{ℤ, nat_eq, slice_get, if◌then◌else◌}
+use mathlib.Core.Logic.{dite}
 use mathlib.Core.Option.{none}
+use native.Mathlib.Decide.{ℕ_discrete}
 use Rattle.atomic_table.specs.Table.{Me, step, rest}
 use Rattle.atomic_table.specs.declared.shared.Seat.{Seat}
 use Rattle.jade_base.specs.Held.{Held}
+use Rattle.jade_base.specs.declared.rights.Mode.{Mode}
+use Rattle.jade_syntax.specs.Objects.{sizes}
 use Rattle.jade_meaning.specs.Talk.{Event, Enter, Enroll, Take, TouchRead, TouchWrite, Wants, Give, Leave, Shift, Resign}
 use Rattle.jade_meaning.specs.Walk.{upcoming, First}
 use Rattle.object_shelf.specs.Views.{ShelfView}
+use Rattle.object_shelf.specs.Homes.{hand_in}
+use Rattle.schedule_core.specs.declared.steps.Seat.{Seat as Place}
 use Rattle.schedule_core.specs.ByNumber.{shelf_at}
 use Rattle.schedule_core.specs.Plain.{seat_after}
 use Rattle.jade_meaning.specs.Plan.{RunPlan}
-use Rattle.object_table.specs.Views.{count_of, View, shelf_of, paths_of}
+use Rattle.object_table.specs.Views.{count_of, View, shelf_of, paths_of, core_notes}
 use Rattle.object_table.specs.Touches.{is_touch, touched_first, touched, touch_next, passed, all_touches}
 use Rattle.object_table.specs.Plays.{Told, tried_at, in_turn, turned_off, left_as_it_was, did, Ahead, left_done}
 use Rattle.object_table.specs.Calls.{Next, saw, found_busy, AsBefore}
-use Rattle.object_table.specs.steps.Kept.{Rests, InTurn, Leaves, Laws, Made, shown, with_slot, IsObject}
+use Rattle.object_table.specs.steps.Kept.{Rests, InTurn, Leaves, Laws, Made, Youngest, shown, with_slot, IsObject}
 use Rattle.object_table.specs.declared.task.Task.{Task}
 use Rattle.object_table.specs.declared.slot.Slot.{Slot}
 use Rattle.object_table.specs.declared.slot.Slot.TheVariants as slot
 use Rattle.object_table.proofs.Goes.{desisting}
 use Rattle.object_table.proofs.Touching.{passed_same, Same}
 use Rattle.object_table.proofs.Finishing.{finishing}
+use Rattle.object_table.proofs.Owners.{none_some}
+use Rattle.object_table.proofs.Sizes.{got_sized}
 
 -- a view with another side of the table's
 abbrev pub on_try : Bool → (tries place word : ℕ) → Slot → View → View
@@ -61,6 +94,31 @@ object_there slots v o y key deep lt told =
           told.notes;
     }) else slot.Object (shelf_of (shelf_at told.shelves o))) (ne_eqb o told.objects ne))) tt
 
+-- what is handed out of an object has as many cells as the program says
+pub told_sized : (slots : ℕ) (v : View) (o : ℕ) (y : Slot) → Told slots v o y → (z : ShelfView) → y ≡ slot.Object z → (p : List ℕ) (m : Mode) (xs : List ℤ)
+    → hand_in p m z ≡ Some xs → slice_get (sizes v.key.program.items) o ≡ Some (length xs)
+told_sized slots v o y told z is p m xs got = dite (ℕ_discrete o told.objects)
+    (λ same. absurd (no_roll (sym is ∙ shown_as true (eq-eqb o told.objects same))))
+    (λ ne. got_sized v.key told.count (told.front ++ (v.seat ∷ told.back)) told.shelves (core_notes told.notes) told.reached o p m xs
+    (ap (hand_in p m) (sym (object_is z (shelf_of (shelf_at told.shelves o)) (sym is ∙ shown_as false (ne_eqb o told.objects ne)))) ∙ got))
+  where
+    shown_as : (b : Bool) → nat_eq o told.objects ≡ b → y ≡ (if b then slot.Roll (record {
+      live = paths_of (told.front ++ (v.seat ∷ told.back));
+      notes =
+          told.notes;
+    }) else slot.Object (shelf_of (shelf_at told.shelves o)))
+    shown_as b e = told.shows ∙ ap (λ c. if c then slot.Roll (record {
+      live = paths_of (told.front ++ (v.seat ∷ told.back));
+      notes =
+          told.notes;
+    }) else slot.Object (shelf_of (shelf_at told.shelves o))) e
+
+    no_roll : slot.Object z ≡ slot.Roll (record { live = paths_of (told.front ++ (v.seat ∷ told.back)); notes = told.notes }) → ⊥
+    no_roll e = cc
+
+    object_is : (a b : ShelfView) → slot.Object a ≡ slot.Object b → a ≡ b
+    object_is a b e = cc
+
 next_event : (l : List Event) (e d : Event) → First l (λ x. x ≡ e) → First l (λ x. x ≡ e)
 next_event l e d f = f
 
@@ -87,6 +145,7 @@ module _ (t : Task) (r : Rests t) where
         events = to (λ m. t.events ≡ (passed t.touched m.0).seat.walker.done % 2 ^ 64) (r.events
             ∙ ap (λ (z : View). z.seat.walker.done % 2 ^ 64) (sym (passed_try false n o w y t.touched v0)));
         over = to (λ m. t.over ≡ m.0.over) r.over;
+        kid = to (λ m. (k : Place) → m.0.unborn ≡ Some k → Youngest m.0.seat.path m.0.seat.children k) r.kid;
       }
 
   pub tried_shown : (seat : Seat Slot View) (n o w : ℕ) (y : Slot) → seat.me ≡ (on_try false n o w y v0, []) → shown (record t { seat = seat })
@@ -103,10 +162,10 @@ module _ (t : Task) (r : Rests t) where
   pub children_is : t.children ≡ v.seat.children
   children_is = r.children ∙ sym same.children
 
-  tries_same : suc v0.tries ≡ suc v.tries
+  pub tries_same : suc v0.tries ≡ suc v.tries
   tries_same = ap suc (sym same.tries)
 
-  idle_same : false ≡ v.turn
+  pub idle_same : false ≡ v.turn
   idle_same = sym r.idle ∙ sym same.turn
 
   -- another had the turn
@@ -180,25 +239,34 @@ module _ (t : Task) (r : Rests t) where
         (desisting key slots seat1.id o in_it new refl refl refl same)
 
   -- an event done: the fields follow
-  pub done_rests : (t3 : Task) (w : View) → t3.seat.me ≡ (w, []) → (t3.path ≡ t.path) × (t3.children ≡ t.children) × (t3.over ≡ t.over) → (t3.touched ≡ 0)
-      × (t3.events ≡ (t.events + 1) % 2 ^ 64) → w.turn ≡ false → w.seat.path ≡ v.seat.path → w.seat.children ≡ v.seat.children → w.seat.walker.done
-      ≡ suc v.seat.walker.done → w.over ≡ v.over → Rests t3
-  done_rests t3 w is fields counts off path children done over =
+  pub left_rests : (t3 : Task) (w : View) → t3.seat.me ≡ (w, []) → t3.path ≡ w.seat.path → t3.children ≡ w.seat.children → t3.over ≡ w.over
+      → (t3.touched ≡ 0) × (t3.events ≡ (t.events + 1) % 2 ^ 64) → w.turn ≡ false → w.seat.walker.done ≡ suc v.seat.walker.done
+      → ((k : Place) → w.unborn ≡ Some k → Youngest w.seat.path w.seat.children k) → Rests t3
+  left_rests t3 w is path children over counts off done kid =
       let to : (P : Me Slot View → Type 0) → P (w, []) → P t3.seat.me = λ P p. subst P (sym is) p in
       record {
         holds = ap (λ (m : Me Slot View). m.1) is;
         idle = ap (λ (m : Me Slot View). m.0.turn) is ∙ off;
         touches = ap (λ k. all_touches k t3.seat.me.0) counts.0;
-        path = to (λ m. t3.path ≡ m.0.seat.path) (fields.0 ∙ r.path ∙ sym same.path ∙ sym path);
-        children = to (λ m. t3.children ≡ m.0.seat.children) (fields.1 ∙ r.children ∙ sym same.children ∙ sym children);
+        path = to (λ m. t3.path ≡ m.0.seat.path) path;
+        children = to (λ m. t3.children ≡ m.0.seat.children) children;
         events = counts.1 ∙ ap (λ x. (x + 1) % 2 ^ 64) r.events ∙ next_mod v.seat.walker.done
             ∙ ap (λ x. x % 2 ^ 64) (sym done ∙ sym (ap (λ (m : Me Slot View). m.0.seat.walker.done) is)
             ∙ sym (ap (λ k. (passed k t3.seat.me.0).seat.walker.done) counts.0));
-        over = to (λ m. t3.over ≡ m.0.over) (fields.2 ∙ r.over ∙ sym same.over ∙ sym over);
+        over = to (λ m. t3.over ≡ m.0.over) over;
+        kid = to (λ m. (k : Place) → m.0.unborn ≡ Some k → Youngest m.0.seat.path m.0.seat.children k) kid;
       }
     where
       next_mod : (x : ℕ) → (x % 2 ^ 64 + 1) % 2 ^ 64 ≡ suc x % 2 ^ 64
       next_mod x = omega arith
+
+  -- the same of an event that leaves path, children and the rest as they were
+  pub done_rests : (t3 : Task) (w : View) → t3.seat.me ≡ (w, []) → (t3.path ≡ t.path) × (t3.children ≡ t.children) × (t3.over ≡ t.over) → (t3.touched ≡ 0)
+      × (t3.events ≡ (t.events + 1) % 2 ^ 64) → w.turn ≡ false → w.seat.path ≡ v.seat.path → w.seat.children ≡ v.seat.children → w.seat.walker.done
+      ≡ suc v.seat.walker.done → w.over ≡ v.over → w.unborn ≡ None → Rests t3
+  done_rests t3 w is fields counts off path children done over born =
+      left_rests t3 w is (fields.0 ∙ path_is ∙ sym path) (fields.1 ∙ children_is ∙ sym children) (fields.2 ∙ over_is ∙ sym over) counts off done
+      (λ k e. absurd (none_some k (sym born ∙ e)))
 
   pub done_shown : (t3 : Task) (w : View) → t3.seat.me ≡ (w, []) → t3.touched ≡ 0 → shown t3 ≡ w
   done_shown t3 w is zeroed = ap (λ k. passed k t3.seat.me.0) zeroed ∙ ap (λ (m : Me Slot View). m.0) is

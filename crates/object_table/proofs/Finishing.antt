@@ -1,5 +1,5 @@
 -- A turn is left with the pass's touches and an event on its object done.
-use Rattle.std.proofs.Common.{◌≡◌, ◌≢◌, ◌⊎◌, inl, inr, ℕ, zero, suc, ◌<◌, ◌+◌, true, false, List, [], ◌∷◌, ◌++◌, map, length, set, refl, sym, ap}
+use Rattle.std.proofs.Common.{◌≡◌, ◌≢◌, ◌⊎◌, inl, inr, ℕ, zero, suc, ◌<◌, true, false, List, [], ◌∷◌, ◌++◌, map, length, set, refl, sym, ap}
 use Rattle.std.proofs.Common.{◌∙◌, subst, arith, Option, Some, None}
 use Rattle.std.specs.Prelude.{slice_get}
 use mathlib.Core.Logic.{dite}
@@ -240,7 +240,8 @@ finishing key tells entries once slots id o me new alive turn place lt has k e a
       gives,
       tt,
       subst (λ l. Ruled key (record { words = set s.words o 0; homes = table.put_back s.homes me.1; views = l })) (set_set s.views id v (did e v))
-          (event_on key tells entries once s' h' id v (set_here s.views id v (at_inside s.views id me.0 at)) (same.live ∙ alive) (same.turn ∙ turn) o (same.place
+          (event_on key tells entries once s' h' id v (set_here s.views id v (at_inside s.views id me.0 at)) (same.live ∙ alive) (same.turn ∙ turn) o
+          (same.place
           ∙ place) object me.1 new has e ahead.next made),
       ((λ j d other. let q = ahead_once k j e d me.0 ahead other in λ i. did (q.1 i) (passed (q.0 i) me.0)), refl),
     )

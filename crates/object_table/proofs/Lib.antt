@@ -9,3 +9,12 @@ pub mod Calls
 pub mod Onces
 pub mod Starts
 pub mod Passing
+pub mod Bearing
+pub mod Owners
+pub mod Enrolling
+pub mod Resigning
+pub mod Splitting
+pub mod Joining
+pub mod RollCalls
+pub mod Endings
+pub mod Sizes

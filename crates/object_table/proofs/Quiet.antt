@@ -1,5 +1,5 @@
 -- A live task does an event after which it alone stands in its place.
-use Rattle.std.proofs.Common.{◌≡◌, ◌≢◌, ℕ, suc, ◌+◌, true, false, List, [], ◌∷◌, ◌++◌, map, take, length, set, refl, sym, ap, ◌∙◌, subst}
+use Rattle.std.proofs.Common.{◌≡◌, ◌≢◌, ℕ, suc, true, false, List, [], ◌∷◌, ◌++◌, map, take, length, set, refl, sym, ap, ◌∙◌, subst}
 use Rattle.std.proofs.Common.{arith, ne_eqb, Option, Some}
 use Rattle.std.specs.Prelude.{nat_eq, slice_get, if◌then◌else◌}
 use mathlib.Core.Option.{some}

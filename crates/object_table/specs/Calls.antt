@@ -1,19 +1,25 @@
 -- What a pass is between two calls, and what the calls answer.
-use Rattle.std.specs.Prelude.{◌≡◌, ◌+◌, ℕ, suc, true, List, Option, Some, None, Result, Ok, Err}
+use Rattle.std.specs.Prelude.{◌≡◌, ◌+◌, ℕ, suc, true, false, List, length, slice_get, Option, Some, None, Result, Ok, Err}
 use Rattle.atomic_table.specs.Seated.{TableId}
 use Rattle.jade_base.specs.Held.{Held}
 use Rattle.jade_base.specs.declared.failure.Memory.{Memory}
+use Rattle.jade_base.specs.declared.report.Blame.{Blame}
+use Rattle.jade_base.specs.declared.report.Report.{Report}
 use Rattle.jade_base.specs.declared.rights.Mode.{Mode}
+use Rattle.jade_syntax.specs.Objects.{sizes}
 use Rattle.jade_meaning.specs.Talk.{Event}
 use Rattle.jade_meaning.specs.Walk.{upcoming, First}
 use Rattle.object_shelf.specs.declared.queue.Entry.{Entry}
 use Rattle.object_shelf.specs.Views.{ShelfView}
 use Rattle.object_shelf.specs.Shelves.{keeper_in}
 use Rattle.object_shelf.specs.Homes.{hand_in}
-use Rattle.schedule_core.specs.Plain.{seat_after}
+use Rattle.schedule_core.specs.declared.steps.Seat.{Seat}
+use Rattle.schedule_core.specs.Plain.{seat_after, Born}
+use Rattle.task_roll.specs.Rolls.{RollView, resigned}
 use Rattle.jade_meaning.specs.Plan.{RunPlan}
 use Rattle.object_table.specs.Views.{View}
 use Rattle.object_table.specs.Touches.{put_held, all_touches}
+use Rattle.object_table.specs.Plays.{nobody}
 use Rattle.object_table.specs.declared.slot.Slot.TheVariants as slot
 use Rattle.object_table.specs.declared.answers.Taken.{Taken}
 use Rattle.object_table.specs.declared.answers.Taken.TheVariants as taken
@@ -29,6 +35,11 @@ pub record Desk : Type 0 where
 pub record Pass : Type 0 where
   pub mark : TableId
   pub shows : View
+
+-- what a run did, to its end, and the plan that it is of
+pub record RanView : Type 0 where
+  pub report : Report
+  pub plan : RunPlan
 
 -- an event is the next one of a live pass, whose children all have passes
 pub record Next (e : Event) (v : View) : Type 0 where
@@ -48,12 +59,14 @@ saw o x v = record v { tries = suc v.tries; place = o; word = 0; note = slot.Obj
 abbrev pub found_busy : ℕ → View → View
 found_busy o v = record v { tries = suc v.tries; place = o; word = 1 }
 
--- a Take: no entry keeps the task from it, the content is the one that the object hands out, and it is held from then on
+-- a Take: no entry keeps the task from it, the content is the one that the object hands out, with as many cells as the program says, and it
+-- is held from then on
 pub record Took (o : ℕ) (m : Mode) (c : Held) (v w : View) : Type 0 where
   pub object : ShelfView
   pub free : keeper_in v.seat.path m object.queue ≡ None
   pub content : hand_in v.seat.path m object ≡ Some c.cells
   pub mode : c.mode ≡ m
+  pub sized : slice_get (sizes v.key.program.items) o ≡ Some (length c.cells)
   pub after : w ≡ record (saw o object v) { seat = seat_after None v.seat; held = put_held o (Some c) v.held }
 
 -- the entry of this path keeps the task from a Take, as it was read in this turn
@@ -85,6 +98,42 @@ pub record Did (o : ℕ) (held : List (Option Held)) (v w : View) : Type 0 where
 abbrev pub TriedAs : ℕ → View → Tried → View → Type 0
 TriedAs o v tried.Done w = Did o v.held v w
 TriedAs o v (tried.Busy n) w = IsBusy n o v w
+
+-- one try more, which read 0 at the roll's place, whose slot showed this
+abbrev pub saw_roll : ℕ → RollView → View → View
+saw_roll o r v = record v { tries = suc v.tries; place = o; word = 0; note = slot.Roll r }
+
+-- a creation: the child has its seat, and no pass yet
+pub record Bore (o : ℕ) (v w : View) : Type 0 where
+  pub roll : RollView
+  pub kid : Seat
+  pub born : Born v.seat kid w.seat
+  pub after : w ≡ record (saw_roll o roll v) { seat = w.seat; unborn = Some kid }
+
+-- an end, with so many steps in the last part and this fault, if one: the task is live no longer, and the pass knows whether it left the
+-- roll empty
+pub record Ended (o : ℕ) (b : Option Blame) (steps : ℕ) (v w : View) : Type 0 where
+  pub roll : RollView
+  pub after : w ≡ record (saw_roll o roll v) {
+    live = false;
+    seat = seat_after None v.seat;
+    over = nobody (resigned v.seat.path v.seat.children b steps roll).live;
+  }
+
+-- what a try at a creation answers
+abbrev pub EnrolledAs : ℕ → View → Tried → View → Type 0
+EnrolledAs o v tried.Done w = Bore o v w
+EnrolledAs o v (tried.Busy n) w = IsBusy n o v w
+
+-- what a try at an end answers
+abbrev pub ResignedAs : ℕ → Option Blame → (steps : ℕ) → View → Tried → View → Type 0
+ResignedAs o b steps v tried.Done w = Ended o b steps v w
+ResignedAs o b steps v (tried.Busy n) w = IsBusy n o v w
+
+-- a pass whose task has ended
+pub record IsGone (v : View) : Type 0 where
+  pub live : v.live ≡ false
+  pub born : v.unborn ≡ None
 
 -- the next k events are touches, after which so many events are done
 pub record Comes (k events : ℕ) (v : View) : Type 0 where

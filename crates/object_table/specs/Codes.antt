@@ -3,6 +3,8 @@ use Rattle.std.specs.Prelude.{ℕ, Bool, List, Option, ℤ, refl}
 use Rattle.std.specs.Coded.{Coded, code_by, coded×, coded_list, coded_option, coded_bool, coded_ℕ, coded_ℤ}
 use Rattle.jade_base.specs.Held.{Held}
 use Rattle.jade_base.specs.contracts.content.Content as content
+use Rattle.jade_base.specs.declared.report.Report.{Report}
+use Rattle.jade_base.specs.contracts.report.Report as report
 use Rattle.jade_syntax.specs.declared.tree.Program.{Program}
 use Rattle.jade_syntax.specs.contracts.tree.Program as tree
 use Rattle.jade_meaning.specs.Walks.{Walk}
@@ -10,7 +12,7 @@ use Rattle.jade_meaning.specs.Codes.{coded_walk}
 use Rattle.schedule_core.specs.declared.steps.Seat.{Seat}
 use Rattle.jade_meaning.specs.Plan.{RunPlan}
 use Rattle.object_table.specs.Views.{View}
-use Rattle.object_table.specs.Calls.{Pass, Desk}
+use Rattle.object_table.specs.Calls.{Pass, Desk, RanView}
 use Rattle.atomic_table.specs.Seated.{TableId, table_id_coded}
 use Rattle.object_table.specs.declared.slot.Slot.{Slot}
 use Rattle.object_table.specs.contracts.slot.Slot as slot
@@ -72,3 +74,8 @@ coded_pass = code_by (TableId × View) (coded× table_id_coded coded_view) (λ p
 
 abbrev pub coded_desk : Coded Desk
 coded_desk = code_by (TableId × RunPlan) (coded× table_id_coded coded_plan) (λ d. (d.mark, d.plan)) (λ q. record { mark = q.0; plan = q.1 }) (λ _. refl)
+
+-- of what a run did
+abbrev pub coded_ran : Coded RanView
+coded_ran =
+    code_by (Report × RunPlan) (coded× report.the_row.coded coded_plan) (λ r. (r.report, r.plan)) (λ p. record { report = p.0; plan = p.1 }) (λ _. refl)

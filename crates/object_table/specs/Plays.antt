@@ -1,16 +1,17 @@
 -- What the steps on the words tell.
-use Rattle.std.specs.Prelude.{◌≡◌, ◌≢◌, ℕ, suc, true, false, List, [], ◌∷◌, ◌++◌, Option, Some, None, ℤ}
+use Rattle.std.specs.Prelude.{◌≡◌, ◌≢◌, ℕ, suc, Bool, true, false, ◌||◌, List, [], ◌∷◌, ◌++◌, Option, Some, None, ℤ}
 use Rattle.atomic_table.specs.Table as table
 use Rattle.atomic_table.specs.Table.{Me, Step}
 use Rattle.jade_base.specs.Held.{Held}
+use Rattle.jade_base.specs.declared.report.Blame.{Blame}
 use Rattle.jade_base.specs.declared.rights.Mode.{Mode}
-use Rattle.jade_meaning.specs.Talk.{Event, Enter, Enroll, Take, TouchRead, TouchWrite, Wants, Give, Leave, Shift, Resign}
-use Rattle.jade_meaning.specs.Walk.{upcoming, First}
+use Rattle.jade_meaning.specs.Talk.{Task, Event, Enter, Enroll, Take, TouchRead, TouchWrite, Wants, Give, Leave, Shift, Resign}
+use Rattle.jade_meaning.specs.Walk.{upcoming, First, moved}
 use Rattle.object_shelf.specs.Views.{ObjectView}
 use Rattle.object_shelf.specs.Homes.{hand_in}
 use Rattle.schedule_core.specs.declared.steps.Seat.{Seat}
 use Rattle.task_roll.specs.declared.note.PartNote.{PartNote}
-use Rattle.schedule_core.specs.Plain.{Reached, seat_after}
+use Rattle.schedule_core.specs.Plain.{Reached, seat_after, Born}
 use Rattle.object_table.specs.Views.{View, part_of, core_notes}
 use Rattle.object_table.specs.Touches.{put_held, is_touch, passed, all_touches}
 use Rattle.object_table.specs.Rule.{Agrees}
@@ -87,6 +88,72 @@ pub record Ahead (k : ℕ) (e : Event) (v : View) : Type 0 where
 -- the turn is left with the pass's touches and then its next event done
 abbrev pub left_done : Step Slot → Me Slot View → ℕ → Me Slot View → Type 0
 left_done st m r m' = ((k : ℕ) (e : Event) → Ahead k e m.0 → m'.0 ≡ did e (passed k m.0)) × (m'.1 ≡ table.rest m.1)
+
+-- a child with this seat is enrolled, which has no pass yet
+abbrev pub bore : Seat → View → View
+bore kid v =
+    record v {
+      seat = record v.seat { walker = moved None v.seat.walker; children = suc v.seat.children };
+      unborn = Some kid;
+      turn = false;
+    }
+
+-- the turn at the roll is left with the pass's touches and then a creation done
+abbrev pub left_enrolled : Step Slot → Me Slot View → ℕ → Me Slot View → Type 0
+left_enrolled st m r m' =
+    ((k : ℕ) (t : Task) (n : ℕ) → Ahead k (Enroll t n) m.0 → (kid : Seat) × Born (passed k m.0).seat kid m'.0.seat × (m'.0 ≡ bore kid (passed k m.0)))
+    × (m'.1 ≡ table.rest m.1)
+
+-- no task is live
+abbrev pub nobody : List (List ℕ) → Bool
+nobody [] = true
+nobody (p ∷ ps) = false
+
+-- the same of a slot's value
+abbrev pub is_deserted : Slot → Bool
+is_deserted (slot.Roll r) = nobody r.live
+is_deserted slot.Away = false
+is_deserted (slot.Object x) = false
+
+-- and of the one that a pass took last
+abbrev pub deserted_in : List (ℕ × Slot) → Bool
+deserted_in [] = false
+deserted_in (x ∷ xs) = is_deserted x.1
+
+-- a task has ended, and the roll was left empty by it or not
+abbrev pub gone : Bool → View → View
+gone last v = record v { live = false; seat = seat_after None v.seat; over = last; turn = false }
+
+-- the turn at the roll is left with the pass's touches and then its end done
+abbrev pub left_resigned : Step Slot → Me Slot View → ℕ → Me Slot View → Type 0
+left_resigned st m r m' =
+    ((k : ℕ) (b : Option Blame) (n : ℕ) → Ahead k (Resign b n) m.0 → m'.0 ≡ gone (deserted_in m.1) (passed k m.0)) × (m'.1 ≡ table.rest m.1)
+
+-- a pass whose child that it enrolled last has its pass
+abbrev pub without_kid : View → View
+without_kid v = record v { unborn = None }
+
+-- what the pass of a child with this seat shows at first
+abbrev pub kid_view : Option Seat → View → View
+kid_view None v = v
+kid_view (Some s) v =
+    record {
+      key = v.key;
+      live = true;
+      unborn = None;
+      seat = s;
+      held = [];
+      over = false;
+      turn = false;
+      tries = 0;
+      place = 0;
+      word = 0;
+      note = slot.Away;
+    }
+
+-- a resigned pass takes another in, and knows what either knew of the end
+abbrev pub joined : View → View → View
+joined v w = record v { over = v.over || w.over }
 
 -- what is left of a pass that was taken into another
 abbrev pub spent_view : View

@@ -2,7 +2,9 @@
 #![tactic(auto)]
 
 mod answers;
+mod finish;
 mod pass;
+mod ran;
 mod slot;
 mod table;
 mod task;
@@ -11,4 +13,5 @@ mod view;
 
 pub use answers::{Taken, Tried};
 pub use pass::TaskPass;
+pub use ran::Ran;
 pub use table::ObjectTable;

@@ -1,22 +1,28 @@
 //! The table of a run's objects.
 
 ghost use Rattle.std.specs.Prelude.{◌≡◌, ◌<◌, ◌∷◌, [], true, Some, None, IfOk, IfErr, OnOk, OnErr, length};
-ghost use Rattle.jade_meaning.specs.Talk.{Take, Give, Enter, Shift, Leave};
+ghost use Rattle.jade_meaning.specs.Talk.{Task as TaskOf, Take, Give, Enter, Enroll, Shift, Leave, Resign};
+ghost use Rattle.schedule_core.specs.declared.steps.Seat.{Seat as SeatOf};
 ghost use Rattle.jade_syntax.specs.Objects.{sizes};
 ghost use Rattle.object_table.specs.Views.{count_of};
 ghost use Rattle.object_table.specs.Rule.{first_view};
 ghost use Rattle.object_table.specs.Touches.{held_at, put_held};
-ghost use Rattle.object_table.specs.Calls.{Next, TakenAs, TriedAs, AsBefore, Did, IsBusy};
+ghost use Rattle.object_table.specs.Plays.{without_kid, kid_view, joined};
+ghost use Rattle.object_table.specs.Calls.{Next, TakenAs, TriedAs, EnrolledAs, ResignedAs, AsBefore, Did, IsBusy, IsGone};
 ghost use Rattle.object_table.specs.steps.Kept.{FirstSlots, start_slots};
 
 use crate::answers::{Taken, Tried};
+use crate::finish::finish_with;
 use crate::pass::TaskPass;
+use crate::ran::Ran;
 use crate::slot::Slot;
 use crate::task::Task;
-use crate::turns::{enter_at, give_at, leave_at, shift_at, take_at};
-use crate::view::{Sharing, View};
+use crate::turns::{
+    enroll_at, enter_at, give_at, leave_at, resign_at, shift_at, split_off, take_at, take_in,
+};
+use crate::view::{Bearing, Joining, Sharing, View};
 use atomic_table::Table;
-use jade_base::{Content, Memory, Mode, ObjectId, Path, Right, Rights};
+use jade_base::{Blame, Content, Memory, Mode, ObjectId, Path, Right, Rights};
 use jade_meaning::Plan;
 use object_shelf::Shelf;
 use std::alloc::Global;
@@ -206,6 +212,79 @@ impl<'c> ObjectTable<'c> {
         ensures answer { TriedAs object.0 pass.old.shows result pass.new.shows }
     {
         leave_at(&self.table.shared, &mut pass.task, object.0 as usize)
+    }
+
+    // The place of the roll, behind those of the objects.
+    fn roll_place(&self) -> usize
+        ensures { result ≡ count_of self.now.plan }
+    {
+        self.table.slot_count() - 1
+    }
+
+    /// One try to put the next child on the roll, which is the pass's next event; the part that ends
+    /// with it has so many steps. The child then has its seat, and `split` makes its pass. The error
+    /// is want of memory, and leaves the pass and the objects as before.
+    pub fn enroll(&self, alloc: Global, pass: &mut TaskPass, steps: u64) -> Result<Tried, Memory>
+        requires mark { pass.old.mark ≡ self.now.mark }
+        requires next { (t : TaskOf) × Next (Enroll t steps) pass.old.shows }
+        ensures mark { pass.new.mark ≡ pass.old.mark }
+        ensures answer { IfOk result (λ r. EnrolledAs (count_of self.now.plan) pass.old.shows r pass.new.shows) }
+        ensures unchanged { OnErr result (AsBefore pass.old.shows pass.new.shows) }
+    {
+        let place = self.roll_place();
+        enroll_at(&self.table.shared, alloc, &mut pass.task, place, steps)
+    }
+
+    /// The pass of the child that was enrolled last, with no event done. It is no event. The error is
+    /// want of memory, and changes nothing.
+    pub fn split(&self, alloc: Global, pass: &mut TaskPass) -> Result<TaskPass, Memory>
+        requires mark { pass.old.mark ≡ self.now.mark }
+        requires live { pass.old.shows.live ≡ true }
+        requires kid { (kid : SeatOf) × (pass.old.shows.unborn ≡ Some kid) }
+        ensures mark { pass.new.mark ≡ pass.old.mark }
+        ensures parent { OnOk result (pass.new.shows ≡ without_kid pass.old.shows) }
+        ensures child { IfOk result (λ child. (child.mark ≡ pass.old.mark) × (child.shows ≡ kid_view pass.old.shows.unborn pass.old.shows)) }
+        ensures unchanged { OnErr result (pass.new.shows ≡ pass.old.shows) }
+    {
+        let task = split_off(&self.table.shared, alloc, &mut pass.task)?;
+        Ok(TaskPass { task })
+    }
+
+    /// One try to end the task, which is the pass's last event; its last part has so many steps, and
+    /// it ended with this fault, if with one. Where it leaves the roll empty, the pass knows from then
+    /// on that all is over. It takes no memory.
+    pub fn resign(&self, pass: &mut TaskPass, blame: Option<Blame>, steps: u64) -> Tried
+        requires mark { pass.old.mark ≡ self.now.mark }
+        requires next { Next (Resign blame steps) pass.old.shows }
+        ensures mark { pass.new.mark ≡ pass.old.mark }
+        ensures answer { ResignedAs (count_of self.now.plan) blame steps pass.old.shows result pass.new.shows }
+    {
+        let place = self.roll_place();
+        resign_at(&self.table.shared, &mut pass.task, place, blame, steps)
+    }
+
+    /// Takes one resigned pass into another; what either knew of the end is kept. It takes no memory.
+    pub fn end(&self, keeper: &mut TaskPass, ended: TaskPass)
+        requires mark { (keeper.old.mark ≡ self.now.mark) × (ended.mark ≡ self.now.mark) }
+        requires gone { IsGone keeper.old.shows × IsGone ended.shows }
+        ensures mark { keeper.new.mark ≡ keeper.old.mark }
+        ensures shows { keeper.new.shows ≡ joined keeper.old.shows ended.shows }
+    {
+        let TaskPass { task } = ended;
+        take_in(&self.table.shared, &mut keeper.task, task);
+    }
+
+    /// What the run did, once a pass knows that all is over; the plan is the one that the table is of.
+    /// Nobody shares the table any more, and it ends with this. The error is want of memory.
+    pub fn finish(self, alloc: Global, plan: Plan<'c>, pass: TaskPass) -> Result<Ran<'c>, Memory>
+        requires plan { plan ≡ self.plan }
+        requires mark { pass.mark ≡ self.mark }
+        requires over { pass.shows.over ≡ true }
+        ensures { IfOk result (λ ran. ran.plan ≡ self.entry.plan) }
+    {
+        let ObjectTable { table } = self;
+        let TaskPass { task } = pass;
+        finish_with(alloc, table, plan, task)
     }
 }
 

@@ -1,28 +1,31 @@
 //! Turns at the words, and what is done in them.
 
-ghost use Rattle.std.specs.Prelude.{◌≡◌, ◌<◌, ◌%◌, ◌+◌, ◌^◌, ◌∷◌, ◌++◌, [], ℕ, true, false, None, Some, IfOk, IfErr, OnOk, OnErr, MatchOption};
+ghost use Rattle.std.specs.Prelude.{◌≡◌, ◌<◌, ◌%◌, ◌+◌, ◌^◌, ◌∷◌, ◌++◌, ◌||◌, [], ℕ, true, false, None, Some, IfOk, IfErr, OnOk, OnErr, MatchOption};
 ghost use mathlib.Core.Option.{none};
 ghost use Rattle.atomic_table.specs.Table.{Me, Step, step, rest};
-ghost use Rattle.jade_meaning.specs.Talk.{Take, Give, Enter, Shift, Leave};
+ghost use Rattle.jade_meaning.specs.Talk.{Task as TaskOf, Take, Give, Enter, Enroll, Shift, Leave, Resign};
 ghost use Rattle.object_shelf.specs.Views.{ShelfView};
 ghost use Rattle.object_shelf.specs.Shelves.{keeper_in, at, without, entered_in, with_rights};
 ghost use Rattle.object_shelf.specs.Homes.{hand_in, handed, returned, on_queue};
-ghost use Rattle.object_table.specs.Plays.{tried_at};
+ghost use Rattle.object_table.specs.Plays.{tried_at, nobody, without_kid, joined};
 ghost use Rattle.object_table.specs.Touches.{held_at, put_held};
-ghost use Rattle.object_table.specs.Calls.{Next, TakenAs, TriedAs, AsBefore, Did, IsBusy};
-ghost use Rattle.object_table.specs.steps.Kept.{Rests, Fits, Laid, InTurn, Leaves, Laws, with_slot, shown, IsObject, HandedAs, EnteredAs};
+ghost use Rattle.object_table.specs.Calls.{Next, TakenAs, TriedAs, EnrolledAs, ResignedAs, AsBefore, Did, IsBusy, IsGone};
+ghost use Rattle.schedule_core.specs.declared.steps.Seat.{Seat as SeatOf};
+ghost use Rattle.object_table.specs.steps.Kept.{Rests, Fits, FitsRoll, Laid, InTurn, Leaves, Laws};
+ghost use Rattle.object_table.specs.steps.Kept.{with_slot, shown, IsObject, IsRoll, IsKidOf, HandedAs, EnteredAs};
 ghost use Rattle.object_table.specs.declared.slot.Slot.{Slot as SlotOf};
 ghost use Rattle.jade_meaning.specs.Plan.{RunPlan};
 
 use crate::answers::{Taken, Tried};
 use crate::slot::Slot;
 use crate::task::Task;
-use crate::view::{Desist, Finish, Sharing, Try, View};
+use crate::view::{Bearing, Desist, Enrolling, Finish, Joining, Resigning, Sharing, Try, View};
 use atomic_table::{Play, Seat, Shared};
-use jade_base::{Content, Memory, Mode, Path, Rights};
+use jade_base::{Blame, Content, Memory, Mode, Path, Rights};
 use jade_meaning::Plan;
 use object_shelf::Shelf;
 use std::alloc::Global;
+use task_roll::Roll;
 
 /// The words and slots of a table.
 pub(crate) type Words<'c> = Shared<Slot, View, Plan<'c>, Sharing>;
@@ -33,6 +36,8 @@ fn core_laws()
 {
     schedule_core::laws::core_tells();
     schedule_core::laws::entries_are_there();
+    schedule_core::laws::in_serial_order();
+    schedule_core::laws::holders_are_live();
 }
 
 // One try at a turn; with it the slot's value is taken out.
@@ -278,4 +283,148 @@ pub(crate) fn enter_at(
             Err(Memory)
         }
     }
+}
+
+// The roll of the roll's slot.
+fn roll_in(slot: Slot) -> Roll
+    requires { IsRoll slot }
+    ensures { slot ≡ SlotOf.Roll result }
+{
+    match slot {
+        Slot::Roll(roll) => roll,
+        Slot::Away => unreachable!(),
+        Slot::Object(_) => unreachable!(),
+    }
+}
+
+/// One try at the creation of the next child.
+pub(crate) fn enroll_at(
+    words: &Words,
+    alloc: Global,
+    task: &mut Task,
+    place: usize,
+    steps: u64,
+) -> Result<Tried, Memory>
+    requires fits { FitsRoll words.now.table_id words.now.key task.old place }
+    requires rests { Rests task.old }
+    requires next { (t : TaskOf) × Next (Enroll t steps) (shown task.old) }
+    ensures mark { task.new.seat.table_id ≡ task.old.seat.table_id }
+    ensures rests { Rests task.new }
+    ensures answer { IfOk result (λ r. EnrolledAs place (shown task.old) r (shown task.new)) }
+    ensures unchanged { OnErr result (AsBefore (shown task.old) (shown task.new)) }
+{
+    core_laws();
+    let children = match task.children.checked_add(1) {
+        Some(children) => children,
+        None => return Err(Memory),
+    };
+    let slot = match take_turn(words, &mut task.seat, place) {
+        Ok(slot) => slot,
+        Err(word) => return Ok(Tried::Busy(word)),
+    };
+    let mut roll = roll_in(slot);
+    let done = roll.enroll(alloc, &task.path, task.children, steps);
+    let slot = Slot::Roll(roll);
+    match done {
+        Ok(()) => {
+            leave_turn::<Enrolling>(words, &mut task.seat, place, slot);
+            settle(task);
+            task.children = children;
+            Ok(Tried::Done)
+        }
+        Err(_) => {
+            leave_turn::<Desist>(words, &mut task.seat, place, slot);
+            Err(Memory)
+        }
+    }
+}
+
+/// One try at the task's end.
+pub(crate) fn resign_at(
+    words: &Words,
+    task: &mut Task,
+    place: usize,
+    blame: Option<Blame>,
+    steps: u64,
+) -> Tried
+    requires fits { FitsRoll words.now.table_id words.now.key task.old place }
+    requires rests { Rests task.old }
+    requires next { Next (Resign blame steps) (shown task.old) }
+    ensures mark { task.new.seat.table_id ≡ task.old.seat.table_id }
+    ensures rests { Rests task.new }
+    ensures answer { ResignedAs place blame steps (shown task.old) result (shown task.new) }
+{
+    core_laws();
+    let slot = match take_turn(words, &mut task.seat, place) {
+        Ok(slot) => slot,
+        Err(word) => return Tried::Busy(word),
+    };
+    let mut roll = roll_in(slot);
+    roll.resign(&task.path, task.children, blame, steps);
+    let over = is_over(&roll);
+    leave_turn::<Resigning>(words, &mut task.seat, place, Slot::Roll(roll));
+    settle(task);
+    task.over = over;
+    Tried::Done
+}
+
+// Whether no task is live.
+fn is_over(roll: &Roll) -> bool
+    ensures { result ≡ nobody roll.now.live }
+{
+    roll.is_empty()
+}
+
+/// The token of the child that was enrolled last, with no event done.
+pub(crate) fn split_off(words: &Words, alloc: Global, task: &mut Task) -> Result<Task, Memory>
+    requires laid { Laid words.now.table_id words.now.key }
+    requires mark { task.old.seat.table_id ≡ words.now.table_id }
+    requires rests { Rests task.old }
+    requires live { (shown task.old).live ≡ true }
+    requires kid { (kid : SeatOf) × ((shown task.old).unborn ≡ Some kid) }
+    ensures mark { task.new.seat.table_id ≡ task.old.seat.table_id }
+    ensures rests { Rests task.new }
+    ensures parent { OnOk result (shown task.new ≡ without_kid (shown task.old)) }
+    ensures child { IfOk result (IsKidOf task.old) }
+    ensures unchanged { OnErr result (shown task.new ≡ shown task.old) }
+{
+    let path = task.path.child(alloc, task.children - 1)?;
+    let seat = words.split_seat::<Bearing>(&mut task.seat);
+    Ok(Task {
+        seat,
+        path,
+        children: 0,
+        events: 0,
+        touched: 0,
+        over: false,
+    })
+}
+
+/// Takes the token of a task that has ended into that of another.
+pub(crate) fn take_in(words: &Words, keeper: &mut Task, ended: Task)
+    requires laid { Laid words.now.table_id words.now.key }
+    requires mark { (keeper.old.seat.table_id ≡ words.now.table_id) × (ended.seat.table_id ≡ words.now.table_id) }
+    requires rests { Rests keeper.old × Rests ended }
+    requires gone { IsGone (shown keeper.old) × IsGone (shown ended) }
+    ensures mark { keeper.new.seat.table_id ≡ keeper.old.seat.table_id }
+    ensures rests { Rests keeper.new }
+    ensures shows { shown keeper.new ≡ joined (shown keeper.old) (shown ended) }
+{
+    let Task {
+        seat,
+        path: _,
+        children: _,
+        events: _,
+        touched: _,
+        over,
+    } = ended;
+    words.join_seat::<Joining>(&mut keeper.seat, seat);
+    keeper.over = either(keeper.over, over);
+}
+
+// Whether one of two holds.
+fn either(first: bool, other: bool) -> bool
+    ensures { result ≡ first || other }
+{
+    first || other
 }

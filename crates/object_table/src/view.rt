@@ -1,7 +1,7 @@
 //! What a pass knows, and how the steps on the words change it.
 
 use crate::slot::Slot;
-use atomic_table::{Play, TableRule};
+use atomic_table::{Join, Play, Split, TableRule};
 use jade_meaning::Plan;
 use std::marker::Model;
 
@@ -56,4 +56,44 @@ impl Play<Slot, View> for Finish {
     ghost use Rattle.object_table.specs.Plays.{left_done};
 
     ghost then = { left_done };
+}
+
+/// A turn left with a creation done.
+pub(crate) struct Enrolling;
+
+impl Play<Slot, View> for Enrolling {
+    ghost use Rattle.object_table.specs.Plays.{left_enrolled};
+
+    ghost then = { left_enrolled };
+}
+
+/// A turn left with the task's end done.
+pub(crate) struct Resigning;
+
+impl Play<Slot, View> for Resigning {
+    ghost use Rattle.object_table.specs.Plays.{left_resigned};
+
+    ghost then = { left_resigned };
+}
+
+/// How a child's pass is cut off its parent's.
+pub(crate) struct Bearing;
+
+impl Split<View> for Bearing {
+    ghost use Rattle.object_table.specs.Plays.{without_kid, kid_view};
+
+    ghost left = { without_kid };
+
+    ghost right = { λ v. kid_view v.unborn v };
+}
+
+/// How a pass whose task has ended takes in another.
+pub(crate) struct Joining;
+
+impl Join<View> for Joining {
+    ghost use Rattle.object_table.specs.Plays.{joined, spent_view};
+
+    ghost both = { joined };
+
+    ghost spent = { spent_view };
 }

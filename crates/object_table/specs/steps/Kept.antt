@@ -18,11 +18,13 @@ use Rattle.task_roll.specs.declared.note.PartNote.{PartNote}
 use Rattle.schedule_core.specs.ByNumber.{shelf_at}
 use Rattle.schedule_core.specs.Plain.{Reached}
 use Rattle.schedule_core.specs.Tells.{CoreTells, EntriesAreThere}
+use Rattle.schedule_core.specs.Queued.{InSerialOrder}
+use Rattle.schedule_core.specs.Holders.{HoldersAreLive}
 use Rattle.jade_meaning.specs.Plan.{RunPlan}
 use Rattle.object_table.specs.Views.{count_of, View}
 use Rattle.object_table.specs.Touches.{held_at, passed, all_touches}
 use Rattle.object_table.specs.Rule.{Ruled}
-use Rattle.object_table.specs.Plays.{Told, in_turn}
+use Rattle.object_table.specs.Plays.{Told, in_turn, kid_view}
 use Rattle.object_table.specs.declared.task.Task.{Task}
 use Rattle.atomic_table.specs.Seated.{TableId}
 use Rattle.object_table.specs.declared.turns.Handed.{Handed}
@@ -56,6 +58,14 @@ pub record Once (key : RunPlan) : Type 0 where
 abbrev pub shown : Task → View
 shown t = passed t.touched t.seat.me.0
 
+-- a child that a task of this path and with so many children made last, at its first event
+pub record Youngest (p : List ℕ) (children : ℕ) (s : Seat) : Type 0 where
+  pub number : ℕ
+  pub count : children ≡ suc number
+  pub path : s.path ≡ p ++ number ∷ []
+  pub childless : s.children ≡ 0
+  pub begins : s.walker.done ≡ 0
+
 -- a pass between two calls: it has no slot and no turn, and its fields are what it shows
 pub record Rests (t : Task) : Type 0 where
   pub holds : t.seat.me.1 ≡ []
@@ -65,6 +75,11 @@ pub record Rests (t : Task) : Type 0 where
   pub children : t.children ≡ t.seat.me.0.seat.children
   pub events : t.events ≡ (shown t).seat.walker.done % 2 ^ 64
   pub over : t.over ≡ t.seat.me.0.over
+  pub kid : (s : Seat) → t.seat.me.0.unborn ≡ Some s → Youngest t.seat.me.0.seat.path t.seat.me.0.seat.children s
+
+-- the token of the child that a task enrolled last
+abbrev pub IsKidOf : Task → Task → Type 0
+IsKidOf t kid = (kid.seat.table_id ≡ t.seat.table_id) × Rests kid × (shown kid ≡ kid_view (shown t).unborn (shown t))
 
 -- the words and slots are those of the objects and of the roll
 pub record Laid (z : TableId) (key : RunPlan) : Type 0 where
@@ -76,6 +91,12 @@ pub record Fits (z : TableId) (key : RunPlan) (t : Task) (o : ℕ) : Type 0 wher
   pub laid : Laid z key
   pub mark : t.seat.table_id ≡ z
   pub object : o < count_of key
+
+-- the task is of this table, and the place is the roll's
+pub record FitsRoll (z : TableId) (key : RunPlan) (t : Task) (o : ℕ) : Type 0 where
+  pub laid : Laid z key
+  pub mark : t.seat.table_id ≡ z
+  pub place : o ≡ count_of key
 
 -- a seat has the turn at a place, and the value that the slot showed
 pub record InTurn (slots o : ℕ) (y : Slot) (old new : Me Slot View) : Type 0 where
@@ -95,6 +116,14 @@ pub record Laws (key : RunPlan) : Type 0 where
   pub tells : CoreTells key.program key.numbers key.limit
   pub entries : EntriesAreThere key.program key.numbers key.limit
   pub once : Once key
+  pub order : InSerialOrder key.program key.numbers key.limit
+  pub holders : HoldersAreLive key.program key.numbers key.limit
+
+-- a slot's value is the roll's
+abbrev pub IsRoll : Slot → Type 0
+IsRoll (slot.Roll r) = Unit {0}
+IsRoll slot.Away = ⊥
+IsRoll (slot.Object y) = ⊥
 
 -- a slot's value is an object's
 abbrev pub IsObject : Slot → Type 0

@@ -1,4 +1,4 @@
-use Rattle.std.proofs.Common.{rules, ◌≡◌, ◌+◌, ◌-◌, ◌<◌, ap, sym, ◌∙◌, subst, arith, Fits, w64}
+use Rattle.std.proofs.Common.{◌≡◌, ◌+◌, ◌-◌, ◌<◌, ap, sym, ◌∙◌, subst, arith, Fits, w64}
 use Rattle.object_table.specs.Touches.{passed}
 use Rattle.object_table.specs.steps.Kept.{Rests}
 use Rattle.object_table.proofs.Passing.{step_is, not_less, no_overflow, past_shown, past_rests}

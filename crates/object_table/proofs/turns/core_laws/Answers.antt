@@ -5,4 +5,10 @@ use Rattle.object_table.proofs.turns.core_laws.Goals as goal
 pub returns : goal.returns
 returns c = λ (key : RunPlan).
     let there = c.entries_are_there.ensures key.program key.numbers key.limit in
-    record { tells = c.core_tells.ensures key.program key.numbers key.limit; entries = there; once = once_of key there }
+    record {
+      tells = c.core_tells.ensures key.program key.numbers key.limit;
+      entries = there;
+      once = once_of key there;
+      order = c.in_serial_order.ensures key.program key.numbers key.limit;
+      holders = c.holders_are_live.ensures key.program key.numbers key.limit;
+    }

@@ -4,7 +4,6 @@ use Rattle.object_shelf.specs.Shelves.{without}
 use Rattle.object_shelf.specs.Homes.{on_queue}
 use Rattle.object_table.specs.Plays.{did}
 use Rattle.object_table.specs.steps.Kept.{InTurn, shown}
-use Rattle.object_table.specs.declared.turns.Handed.TheVariants as handing
 use Rattle.object_table.specs.declared.slot.Slot.TheVariants as slot
 use Rattle.object_table.proofs.Calls.{on_try, alive, path_is, busy_is, busy_shown, tried_rests}
 use Rattle.object_table.proofs.Calls.{may_finish, finished, done_rests, done_shown, did_shown}
@@ -70,7 +69,7 @@ returns-clause-rests c =
     let me : t3.seat.me ≡ (w, []) = ap (λ s. s.me) c.settle.ensures.seat
     ∙ finished t r key (c.core_laws.ensures key) slots seat1 o y new turn (Leave o) refl c.requires.next c.leave_turn.new.seat.me
     c.leave_turn.ensures.done in
-    done_rests t r t3 w me c.settle.ensures.path c.settle.ensures.events refl refl refl refl refl
+    done_rests t r t3 w me c.settle.ensures.path c.settle.ensures.events refl refl refl refl refl c.requires.next.born
 
 pub returns-clause-answer :
     goal.returns-clause-answer

@@ -9,6 +9,11 @@ use Rattle.object_table.specs.declared.turns.Handed.TheVariants as handing
 use Rattle.object_table.specs.declared.slot.Slot.TheVariants as slot
 use Rattle.object_table.proofs.Calls.{on_try, alive, path_is, busy_is, busy_shown, tried_rests, off_is, off_shown, off_before}
 use Rattle.object_table.proofs.Calls.{may_finish, may_desist, finished, done_rests, done_shown, did_shown}
+use Rattle.std.specs.Prelude.{slice_get}
+use Rattle.jade_syntax.specs.Objects.{sizes}
+use Rattle.jade_meaning.specs.Plan.{RunPlan}
+use Rattle.object_table.proofs.Calls.{told_sized}
+use Rattle.object_table.proofs.Touching.{passed_same}
 use Rattle.object_table.proofs.turns.take_at.Goals as goal
 
 pub take_turn-requires-clause-rests :
@@ -76,7 +81,7 @@ returns-in-Ok-Content-clause-rests c =
     let me : t3.seat.me ≡ (w, []) = ap (λ s. s.me) c.settle.ensures.seat
     ∙ finished t r key (c.core_laws.ensures key) slots seat1 o y new turn (Take o c.args.mode) refl c.requires.next c.leave_turn.new.seat.me
     c.leave_turn.ensures.done in
-    done_rests t r t3 w me c.settle.ensures.path c.settle.ensures.events refl refl refl refl refl
+    done_rests t r t3 w me c.settle.ensures.path c.settle.ensures.events refl refl refl refl refl c.requires.next.born
 
 pub returns-in-Ok-Content-clause-answer :
     goal.returns-in-Ok-Content-clause-answer
@@ -121,6 +126,8 @@ returns-in-Ok-Content-clause-answer c =
       free = made.0;
       content = made.1;
       mode = made.2;
+      sized = ap (λ (x : RunPlan). slice_get (sizes x.program.items) o) (passed_same t.touched t.seat.me.0).key
+          ∙ told_sized slots t.seat.me.0 o y turn.told z is (shown t).seat.path m k.cells made.1;
       after = done_shown t r t3 w me c.settle.ensures.events.0 ∙ after ∙ did_shown t r o z y (put_held o (Some k) (shown t).held) is;
     }
 

@@ -1,4 +1,4 @@
-use Rattle.std.proofs.Common.{rules, arith}
+use Rattle.std.proofs.Common.{arith}
 use Rattle.object_table.proofs.Goes.{trying}
 use Rattle.object_table.proofs.turns.take_turn.Goals as goal
 

@@ -1,0 +1,155 @@
+//! The end of a run.
+
+ghost use Rattle.std.specs.Prelude.{◌≡◌, ◌<◌, ◌≤◌, ◌+◌, [], ◌∷◌, ◌++◌, true, map, vec_len, vec_capacity, take, IfOk};
+ghost use Rattle.std.specs.Mem.Slots.{slots_filled, slots_items, slots_len, IsFull};
+ghost use Rattle.jade_meaning.specs.Plan.{RunPlan};
+ghost use Rattle.schedule_core.specs.Reports.{told_of};
+ghost use Rattle.task_roll.specs.Rolls.{by_key};
+ghost use Rattle.object_table.specs.steps.Kept.{Laid, shown};
+ghost use Rattle.object_table.specs.steps.Endings.{EndLaws, LastSlots, Emptied, cells_in, notes_in};
+
+use crate::ran::Ran;
+use crate::slot::Slot;
+use crate::task::Task;
+use crate::view::{Sharing, View};
+use atomic_table::{Closed, Table};
+use jade_base::{CellLists, Memory, Numbers, Report};
+use jade_list::sequence::Sequence;
+use jade_meaning::Plan;
+use schedule_core::reports::report_of;
+use std::alloc::Global;
+use task_roll::PartNote;
+
+// What is true of every core at its end.
+fn end_laws()
+    ensures { (key : RunPlan) → EndLaws key }
+{
+    schedule_core::laws::core_shows();
+    schedule_core::laws::entries_are_owned();
+}
+
+/// What a run did, once a task knows that all is over.
+pub(crate) fn finish_with<'c>(
+    alloc: Global,
+    table: Table<Slot, View, Plan<'c>, Sharing, Global>,
+    plan: Plan<'c>,
+    task: Task,
+) -> Result<Ran<'c>, Memory>
+    requires plan { plan ≡ table.shared.key }
+    requires laid { Laid table.shared.table_id table.shared.key }
+    requires mark { task.seat.table_id ≡ table.shared.table_id }
+    requires over { (shown task).over ≡ true }
+    ensures { IfOk result (λ ran. ran.plan ≡ plan.entry) }
+{
+    end_laws();
+    let (slots, roll) = close(alloc, table, task)?;
+    let report = report_in(alloc, slots, roll)?;
+    Ok(Ran { report, plan })
+}
+
+// The slots of the objects and that of the roll, once nobody shares them.
+fn close<'c>(
+    alloc: Global,
+    table: Table<Slot, View, Plan<'c>, Sharing, Global>,
+    task: Task,
+) -> Result<(Vec<Slot>, Slot), Memory>
+    requires laid { Laid table.shared.table_id table.shared.key }
+    requires mark { task.seat.table_id ≡ table.shared.table_id }
+    requires over { (shown task).over ≡ true }
+    ensures { IfOk result (λ r. LastSlots table.entry.shared.key r.0.items r.1) }
+{
+    let count = table.slot_count() - 1;
+    let mut slots = Vec::with_capacity(alloc, count)?;
+    let Task {
+        seat,
+        path: _,
+        children: _,
+        events: _,
+        touched: _,
+        over: _,
+    } = task;
+    let mut closed = table.close_with(seat);
+    collect(&mut closed, &mut slots, count);
+    let roll = closed.take(count);
+    closed.free();
+    Ok((slots, roll))
+}
+
+// Takes the values of so many slots out.
+fn collect(closed: &mut Closed<Slot, Global>, slots: &mut Vec<Slot>, count: usize)
+    requires full { (count < slots_len closed.old.slots) × IsFull closed.old.slots }
+    requires room { (slots.old.items ≡ []) × (vec_len slots.old ≡ 0) × (count ≤ vec_capacity slots.old) }
+    ensures same { (slots_items closed.new.slots ≡ slots_items closed.old.slots) × (slots_len closed.new.slots ≡ slots_len closed.old.slots) }
+    ensures filled { Emptied (slots_filled closed.new.slots) count (slots_len closed.new.slots) }
+    ensures items { slots.new.items ≡ take count (slots_items closed.old.slots) }
+{
+    let mut i = 0;
+    while i < count {
+        let slot = closed.take(i);
+        add(slots, slot);
+        i += 1;
+    }
+}
+
+// One value more, for which there is room.
+fn add(slots: &mut Vec<Slot>, slot: Slot)
+    requires { vec_len slots.old < vec_capacity slots.old }
+    ensures items { slots.new.items ≡ slots.old.items ++ slot ∷ [] }
+    ensures len { vec_len slots.new ≡ vec_len slots.old + 1 }
+    ensures capacity { vec_capacity slots.old ≤ vec_capacity slots.new }
+{
+    match slots.push(slot) {
+        Ok(()) => {}
+        Err(_) => unreachable!(),
+    }
+}
+
+// The report of contents and notes in slots.
+fn report_in(alloc: Global, slots: Vec<Slot>, roll: Slot) -> Result<Report, Memory>
+    ensures { IfOk result (λ r. r ≡ told_of (map cells_in slots.items) (by_key (notes_in roll))) }
+{
+    let objects = contents_of(alloc, slots.as_slice())?;
+    let notes = notes_of(alloc, roll);
+    let report = report_of(alloc, objects, notes.as_slice())?;
+    Ok(report)
+}
+
+// The contents at home in slots.
+fn contents_of(alloc: Global, slots: &[Slot]) -> Result<CellLists, Memory>
+    ensures { IfOk result (λ lists. lists ≡ map cells_in slots.now) }
+{
+    let mut lists = Sequence::empty(alloc);
+    for slot in slots {
+        let cells = cells_of(alloc, slot)?;
+        match lists.push(cells) {
+            Ok(()) => {}
+            Err(_) => return Err(Memory),
+        }
+    }
+    Ok(lists)
+}
+
+// The content at home in a slot.
+fn cells_of(alloc: Global, slot: &Slot) -> Result<Numbers, Memory>
+    ensures { IfOk result (λ cells. cells ≡ cells_in slot.now) }
+{
+    match slot {
+        Slot::Object(shelf) => match shelf.cells(alloc)? {
+            Some(cells) => Ok(cells),
+            None => Ok(Sequence::empty(alloc)),
+        },
+        Slot::Away => Ok(Sequence::empty(alloc)),
+        Slot::Roll(_) => Ok(Sequence::empty(alloc)),
+    }
+}
+
+// The notes in a slot.
+fn notes_of(alloc: Global, slot: Slot) -> Vec<PartNote>
+    ensures { result.items ≡ notes_in slot }
+{
+    match slot {
+        Slot::Roll(roll) => roll.into_notes(),
+        Slot::Away => Vec::new(alloc),
+        Slot::Object(_) => Vec::new(alloc),
+    }
+}
