@@ -45,8 +45,8 @@ impl<'c> Model for Execution<'c> {
     ghost invariant = { λ e. IsReady e.code.now e.body e.own e.frame };
 }
 
-// The instructions of a body.
-fn instructions(code: &Code, body: u32) -> &[Instruction]
+/// The instructions of a body.
+pub fn instructions(code: &Code, body: u32) -> &[Instruction]
     requires { body < length code.now.bodies }
     ensures code { result.now ≡ (body_at code.now body).code }
     ensures valid { Valid code.now }
@@ -56,8 +56,8 @@ fn instructions(code: &Code, body: u32) -> &[Instruction]
     body.code.as_slice()
 }
 
-// The number of slots of a body.
-fn room(code: &Code, body: u32) -> u32
+/// The number of slots of a body.
+pub fn room(code: &Code, body: u32) -> u32
     requires { body < length code.now.bodies }
     ensures { result ≡ (body_at code.now body).slots }
 {
@@ -65,16 +65,16 @@ fn room(code: &Code, body: u32) -> u32
     body.slots
 }
 
-// There is a first body, with slots for the inputs.
-fn first_body(code: &Code)
+/// That there is a first body, with slots for the inputs. It does nothing.
+pub fn first_body(code: &Code)
     ensures there { 0 < length code.now.bodies }
     ensures room { code.now.inputs ≤ (body_at code.now 0).slots }
 {
     code.keeps_rules();
 }
 
-// The slots of the first body at its begin. The error is want of memory.
-fn root_slots(alloc: Global, code: &Code, numbers: &[i64]) -> Result<Vec<i64>, Memory>
+/// The slots of the first body at its begin. The error is want of memory.
+pub fn root_slots(alloc: Global, code: &Code, numbers: &[i64]) -> Result<Vec<i64>, Memory>
     requires numbers { length numbers.now ≡ code.now.inputs }
     ensures slots { IfOk result (λ slots. slots_of slots.items ≡ given_slots numbers.now) }
     ensures long { IfOk result (λ slots. length slots.items ≡ (body_at code.now 0).slots) }

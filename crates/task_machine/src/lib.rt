@@ -1,13 +1,13 @@
 //! Runs the code of a task, up to the next thing that the task asks for.
 #![tactic(auto)]
 
-mod execution;
+pub mod execution;
 pub mod frame;
 pub mod holdings;
 mod numbers;
 pub mod play;
 pub mod section;
-mod slots;
+pub mod slots;
 
 pub use execution::Execution;
 pub use frame::Pause;
