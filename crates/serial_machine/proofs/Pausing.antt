@@ -23,7 +23,8 @@ use Rattle.task_machine.specs.Playing.{Contents, Played, cell_of, where_held, wr
 use Rattle.task_machine.specs.Stages.{Wants, slots_of}
 use Rattle.task_machine.specs.steps.Owning.{rights_of, draft_of, drafted_as}
 use Rattle.task_machine.specs.steps.Running.{going, TellsAt, Advances, work_left}
-use Rattle.serial_machine.specs.steps.Pausing.{mode_in, AllHeld, GoesOn}
+use Rattle.serial_machine.specs.steps.Pausing.{mode_in, AllHeld, GoesOn, Stops, Outside}
+use Rattle.serial_machine.specs.declared.going.Stop.{Stop}
 use Rattle.serial_machine.specs.steps.Stack.{Next, once_more, comes_to}
 use Rattle.serial_machine.proofs.Settling.{plays_same}
 
@@ -144,3 +145,33 @@ takes_nothing o child code u g k held h = wants_nothing o u.objects (going child
 pub less_declared : (code : List Instruction) (g h : Frame) → h ≡ record g { place = g.place + 1 } → g.place < length code
     → work_left code h < work_left code g
 less_declared code g h e lt = subst (λ r. work_left code r < work_left code g) (sym e) (omega (arith, lt))
+
+-- children that do nothing
+abbrev pub nothing : Children
+nothing n ss spec = Ends None
+
+abbrev is_end : Pause → Type 0
+is_end pause.End = Unit {0}
+is_end (pause.Fault b) = ⊥
+is_end (pause.Take o) = ⊥
+is_end (pause.Declare b a) = ⊥
+is_end (pause.Create n) = ⊥
+is_end pause.Change = ⊥
+is_end pause.Other = ⊥
+
+pub change_is_no_end : (p : Pause) → p ≡ pause.Change → p ≡ pause.End → ⊥
+change_is_no_end p e q = subst is_end (sym q ∙ e) tt
+
+module _ {code : List Instruction} {w : Own} {f : Frame} {k : Contents} {u : Own} {g : Frame} {l : Contents} where
+  -- what goes on to do the same is at the same stop
+  pub stops_outside : (p : Stop) (v : Own) → GoesOn code w f k u g l → Outside code u g p v → Stops code w f k p v g l
+  stops_outside p v on o = record {
+    on = record {
+      same = λ child count x. on.same child count x ∙ ap (λ c. comes_to c count g.left l x) (o.same child);
+      fewer = on.fewer;
+      slots = on.slots;
+      objects = o.objects ∙ on.objects;
+      modes = on.modes;
+    };
+    tells = o.tells;
+  }
