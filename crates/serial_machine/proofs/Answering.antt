@@ -25,11 +25,13 @@ use Rattle.serial_machine.specs.declared.stack.Stack.{Stack}
 use Rattle.serial_machine.specs.steps.Settles.{Ending, Fault, Whole, settles, at_once, ending}
 use Rattle.serial_machine.specs.steps.Bodies.{children_of}
 use Rattle.serial_machine.specs.steps.Stack.{Counted, following, at_end, comes_to}
-use Rattle.serial_machine.specs.steps.Levels.{course_with, waits, total, Begins}
+use Rattle.serial_machine.specs.steps.Levels.{course_with, waits, total, Begins, Fits, Ready}
+use Rattle.jade_meaning.specs.Laws.{Every}
 use Rattle.serial_machine.specs.steps.Cells.{cells_held}
 use Rattle.serial_machine.proofs.Settling.{answers_as}
 use Rattle.serial_machine.proofs.Stacking.{comes_alone, root_is}
-use Rattle.serial_machine.proofs.Cells.{all_cells, long_after, long_zeros}
+use Rattle.serial_machine.proofs.Cells.{all_cells, store_held, long_after, long_zeros}
+use Rattle.serial_machine.specs.steps.Pausing.{AllHeld}
 
 abbrev is_fault : Ending → Type 0
 is_fault (Fault p b) = Unit {0}
@@ -53,10 +55,13 @@ fault_tells (Stopped p a ms) store q b e = ap (λ x. Faulted x a) (ap path_in e)
 fault_tells (Through left ms) store q b e = absurd (subst is_fault (sym e) tt)
 
 -- the cells of the objects are the answer
-whole_tells : (r : Run) (store : Store) (k : Contents) (n : ℕ) → length store ≡ n → ending r store ≡ Whole k → run_answer r store ≡ Cells (cells_held n k)
+whole_tells : (r : Run) (store : Store) (k : Contents) (n : ℕ) → length store ≡ n → ending r store ≡ Whole k
+    → AllHeld n k × (run_answer r store ≡ Cells (cells_held n k))
 whole_tells (Stopped p a ms) store k n long e = absurd (subst is_fault e tt)
 whole_tells (Through left ms) store k n long e =
-    ap Cells (sym (all_cells n k (after ms store) (sym (ap (contents_in k) e)) (long_after ms store ∙ long)))
+    let is : k ≡ all_held (after ms store) = sym (ap (contents_in k) e) in
+    let same = long_after ms store ∙ long in
+    (store_held n (after ms store) k same is, ap Cells (sym (all_cells n k (after ms store) is same)))
 
 module _ (p : AbstractProgram) (c : TaskCode) (zs : List ℤ) (limit : ℕ) (code_is : c ≡ whole_code p) (valid : Valid c)
     (follows : Follows c.bodies p limit) (many : length zs ≡ inputs_in p.items) (s : Stack) (none : s.waiting.items ≡ [])
@@ -73,6 +78,14 @@ module _ (p : AbstractProgram) (c : TaskCode) (zs : List ℤ) (limit : ℕ) (cod
 
   rights_is : replicate (length c.sizes) both_rights ≡ root_spec p
   rights_is = ap (λ (x : TaskCode). replicate (length x.sizes) both_rights) code_is
+
+  -- it may run
+  pub fits : Fits c s k
+  fits = record {
+    runs = begins.ready;
+    wait = subst (Every (Ready c)) (sym none) tt;
+    held = store_held (length c.sizes) (zeros (sizes p.items)) k (long_zeros (sizes p.items) ∙ ap (λ (x : TaskCode). length x.sizes) (sym code_is)) zero_held;
+  }
 
   root : course_with c zs limit v v.frame.left ≡ root_course p zs limit
   root =
@@ -98,11 +111,18 @@ module _ (p : AbstractProgram) (c : TaskCode) (zs : List ℤ) (limit : ℕ) (cod
       ∙ comes_alone (root_course p zs limit) 0 limit (all_held (zeros (sizes p.items))) at_end.bad at_end.ok
       ∙ answers_as p zs limit
 
+  whole_is : (l : Contents) (n : ℕ) → n ≡ length (sizes p.items) → (total c zs limit s k).comes ≡ Whole l
+      → AllHeld n l × (run_answer (stopping_run p zs limit) (zeros (sizes p.items)) ≡ Cells (cells_held n l))
+  whole_is l n en e = whole_tells (stopping_run p zs limit) (zeros (sizes p.items)) l n (long_zeros (sizes p.items) ∙ sym en) (sym comes ∙ e)
+
+  -- at the end all objects are held
+  pub whole_holds : (l : Contents) (n : ℕ) → n ≡ length (sizes p.items) → (total c zs limit s k).comes ≡ Whole l → AllHeld n l
+  whole_holds l n en e = (whole_is l n en e).0
+
   module _ (agrees : StoppingAgrees p zs limit) where
     pub fault_answered : (q : Path) (b : Blame) → (total c zs limit s k).comes ≡ Fault q b → Faulted q b ≡ answer p zs limit
     fault_answered q b e = sym (fault_tells (stopping_run p zs limit) (zeros (sizes p.items)) q b (sym comes ∙ e)) ∙ agrees.same
 
     pub whole_answered : (l : Contents) (n : ℕ) → n ≡ length (sizes p.items) → (total c zs limit s k).comes ≡ Whole l
         → Cells (cells_held n l) ≡ answer p zs limit
-    whole_answered l n en e =
-        sym (whole_tells (stopping_run p zs limit) (zeros (sizes p.items)) l n (long_zeros (sizes p.items) ∙ sym en) (sym comes ∙ e)) ∙ agrees.same
+    whole_answered l n en e = sym (whole_is l n en e).1 ∙ agrees.same

@@ -1,6 +1,6 @@
 -- The cells of objects that are held.
 use Rattle.std.proofs.Common.{◌≡◌, ℕ, zero, suc, ◌+◌, ◌<◌, ◌≤◌, List, [], ◌∷◌, ◌++◌, map, length, Option, Some, None, refl, sym, ap, ◌∙◌, subst, arith}
-use Rattle.std.proofs.Common.{length-set}
+use Rattle.std.proofs.Common.{cond, length-set}
 use Rattle.std.specs.Prelude.{ℤ, pos, slice_get, slice_set, replicate}
 use Rattle.std.proofs.lemmas.Option.{none-some, same_Some}
 use Rattle.jade_base.specs.declared.rights.Mode.{Mode}
@@ -9,7 +9,8 @@ use Rattle.jade_base.specs.Held.{Held}
 use Rattle.jade_meaning.specs.Specification.{numbers}
 use Rattle.jade_meaning.specs.Serial.{Store, Mark, Deed, DidRead, DidWrite, DidCreate, DidEnd, done_to, after, zeros}
 use Rattle.task_machine.specs.Playing.{Contents}
-use Rattle.task_machine.specs.Whole.{held_of, all_held}
+use Rattle.task_machine.specs.Whole.{held_of, all_held, without}
+use Rattle.std.proofs.lemmas.Bool.{ne_eqb}
 use Rattle.serial_machine.specs.steps.Pausing.{mode_in, AllHeld}
 use Rattle.serial_machine.specs.steps.Cells.{cells_in, cells_held}
 
@@ -19,11 +20,21 @@ tab_next f i (suc n) =
     let z : suc i + n ≡ i + suc n = omega arith in
     ap (λ l. f i ∷ l) (tab_next f (suc i) n ∙ ap (λ j. map f (numbers (suc i) n) ++ f j ∷ []) z)
 
-pub cells_next : (n : ℕ) (k : Contents) → cells_held n k ++ cells_in (k n) ∷ [] ≡ cells_held (n + 1) k
+cells_next : (n : ℕ) (k : Contents) → cells_held n k ++ cells_in (k n) ∷ [] ≡ cells_held (n + 1) k
 cells_next n k =
     let z : 0 + n ≡ n = omega arith in
     let y : suc n ≡ n + 1 = omega arith in
     ap (λ j. cells_held n k ++ cells_in (k j) ∷ []) (sym z) ∙ sym (tab_next (λ o. cells_in (k o)) 0 n) ∙ ap (λ m. cells_held m k) y
+
+pub cells_pushed : (i : ℕ) (k : Contents) (old new : List (List ℤ)) (x : Held) → old ≡ cells_held i k → k i ≡ Some x → new ≡ old ++ x.cells ∷ []
+    → new ≡ cells_held (i + 1) k
+cells_pushed i k old new x e at q =
+    q ∙ ap (λ l. l ++ x.cells ∷ []) e ∙ ap (λ w. cells_held i k ++ cells_in w ∷ []) (sym at) ∙ cells_next i k
+
+-- the contents after the first i are there still
+pub one_taken : (i : ℕ) (k old new : Contents) → new ≡ without i old → ((o : ℕ) → i ≤ o → old o ≡ k o) → (o : ℕ) → i + 1 ≤ o → new o ≡ k o
+one_taken i k old new e h o le =
+    ap (λ (f : Contents). f o) e ∙ ap (λ b. cond b None (old o)) (ne_eqb o i (λ q. omega (arith, le, q))) ∙ h o (omega (arith, le))
 
 -- an object that is held for writing
 pub no_content : (n o : ℕ) (k : Contents) → AllHeld n k → o < n → k o ≡ None → ⊥
@@ -61,12 +72,8 @@ held_at [] o lt = absurd (omega (arith, lt))
 held_at (x ∷ store) zero lt = refl
 held_at (x ∷ store) (suc o) lt = held_at store o (omega (arith, lt))
 
-pub zeros_held : (sizes : List ℕ) (k : Contents) → k ≡ all_held (zeros sizes) → AllHeld (length sizes) k
-zeros_held sizes k e = record {
-  held = λ o lt.
-    let long = long_zeros sizes in
-    ap (λ (j : Contents). mode_in (j o)) e ∙ held_at (zeros sizes) o (omega (arith, lt, long));
-}
+pub store_held : (n : ℕ) (store : Store) (k : Contents) → length store ≡ n → k ≡ all_held store → AllHeld n k
+store_held n store k long e = record { held = λ o lt. ap (λ (j : Contents). mode_in (j o)) e ∙ held_at store o (omega (arith, lt, long)) }
 
 tab_same : (f g : ℕ → List ℤ) (i n : ℕ) → ((k : ℕ) → f k ≡ g k) → map f (numbers i n) ≡ map g (numbers i n)
 tab_same f g i zero h = refl

@@ -26,11 +26,11 @@ pub enum RunAnswer {
 }
 
 // The cells of objects that are all held. The error is want of memory.
-fn cells_of(alloc: Global, objects: u32, held: Holdings) -> Result<CellLists, Memory>
-    requires { AllHeld objects (contents_of held) }
-    ensures { IfOk result (λ cells. cells ≡ cells_held objects (contents_of held)) }
+fn cells_of(alloc: Global, objects: u32, all: Holdings) -> Result<CellLists, Memory>
+    requires { AllHeld objects (contents_of all) }
+    ensures { IfOk result (λ cells. cells ≡ cells_held objects (contents_of all)) }
 {
-    let mut held = held;
+    let mut held = all;
     let mut lists = Vec::new(alloc);
     'objects: for object in 0..objects {
         match held.take(object as usize) {
@@ -55,6 +55,7 @@ pub fn run_serial(
 {
     stopping_agrees();
     let code = compiled.code();
+    code.keeps_rules();
     let objects = compiled.checked().objects();
     let mut held = Holdings::whole(alloc, compiled.checked())?;
     let mut stack = Stack {
