@@ -2,5 +2,6 @@
 #![tactic(auto)]
 
 pub mod code;
+pub mod laws;
 
 pub use code::{BinaryOp, Body, Instruction, Logic, Operand};

@@ -19,17 +19,18 @@ use Rattle.task_machine.specs.Whole.{all_held}
 use Rattle.task_machine.specs.Executions.{body_at}
 use Rattle.task_machine.specs.Stages.{slots_of}
 use Rattle.task_machine.specs.steps.Owning.{rights_of, draft_of}
-use Rattle.task_machine.proofs.Executing.{first_there, first_call}
+use Rattle.task_machine.proofs.Executing.{first_there, no_call}
 use Rattle.serial_machine.specs.declared.level.Level.{Level}
 use Rattle.serial_machine.specs.declared.stack.Stack.{Stack}
 use Rattle.serial_machine.specs.steps.Settles.{Ending, Fault, Whole, settles, at_once, ending}
-use Rattle.serial_machine.specs.steps.Bodies.{children_of}
+use Rattle.code_meaning.specs.Children.{children_of}
 use Rattle.serial_machine.specs.steps.Stack.{Counted, following, at_end, comes_to}
 use Rattle.serial_machine.specs.steps.Levels.{course_with, waits, total, Begins, Fits, Ready}
 use Rattle.jade_meaning.specs.Laws.{Every}
 use Rattle.serial_machine.specs.steps.Cells.{cells_held}
 use Rattle.serial_machine.proofs.Settling.{answers_as}
-use Rattle.serial_machine.proofs.Stacking.{comes_alone, root_is}
+use Rattle.serial_machine.proofs.Stacking.{comes_alone}
+use Rattle.code_meaning.proofs.Numbered.{root_is}
 use Rattle.serial_machine.proofs.Cells.{all_cells, store_held, long_after, long_zeros}
 use Rattle.serial_machine.specs.steps.Pausing.{AllHeld}
 
@@ -65,7 +66,7 @@ whole_tells (Through left ms) store k n long e =
 
 module _ (p : AbstractProgram) (c : TaskCode) (zs : List ℤ) (limit : ℕ) (code_is : c ≡ whole_code p) (valid : Valid c)
     (follows : Follows c.bodies p limit) (many : length zs ≡ inputs_in p.items) (s : Stack) (none : s.waiting.items ≡ [])
-    (begins : Begins c s.level 0 limit (given_slots zs) (replicate (length c.sizes) both_rights)) (k : Contents) (zero_held : k ≡ all_held (zeros (sizes p.items)))
+    (begins : Begins c zs s.level 0 limit (given_slots zs) (replicate (length c.sizes) both_rights)) (k : Contents) (zero_held : k ≡ all_held (zeros (sizes p.items)))
     where
   abbrev v : Level
   v = s.level
@@ -80,10 +81,10 @@ module _ (p : AbstractProgram) (c : TaskCode) (zs : List ℤ) (limit : ℕ) (cod
   rights_is = ap (λ (x : TaskCode). replicate (length x.sizes) both_rights) code_is
 
   -- it may run
-  pub fits : Fits c s k
+  pub fits : Fits c zs s k
   fits = record {
     runs = begins.ready;
-    wait = subst (Every (Ready c)) (sym none) tt;
+    wait = subst (Every (Ready c zs)) (sym none) tt;
     held = store_held (length c.sizes) (zeros (sizes p.items)) k (long_zeros (sizes p.items) ∙ ap (λ (x : TaskCode). length x.sizes) (sym code_is)) zero_held;
   }
 
@@ -97,7 +98,7 @@ module _ (p : AbstractProgram) (c : TaskCode) (zs : List ℤ) (limit : ℕ) (cod
       ∙ ap (λ ss. from_place (child 0) body.code limit 0 ss (rights_of v.own) (draft_of v.own)) begins.slots_are
       ∙ ap (λ sp. from_place (child 0) body.code limit 0 (given_slots zs) sp (draft_of v.own)) (begins.owns.rights_are ∙ rights_is)
       ∙ ap (λ d. from_place (child 0) body.code limit 0 (given_slots zs) (root_spec p) d) begins.owns.draft_is
-      ∙ ap (λ os. from_place (child 0) body.code limit 0 (passed zs os (λ k. pos 0)) (root_spec p) NoDraft) (sym (first_call c valid))
+      ∙ ap (λ os. from_place (child 0) body.code limit 0 (passed zs os (λ k. pos 0)) (root_spec p) NoDraft) (sym (no_call c valid))
       ∙ sym (root_is zs limit c.bodies body (root_spec p) here)
       ∙ follows zs many
 

@@ -29,12 +29,13 @@ use Rattle.serial_machine.specs.declared.stack.Stack.{Stack}
 use Rattle.serial_machine.specs.declared.stack.Progress.{Progress}
 use Rattle.serial_machine.specs.declared.stack.Progress.TheVariants as progress
 use Rattle.serial_machine.specs.steps.Settles.{Ending, Fault, Whole, settles, Alike}
-use Rattle.serial_machine.specs.steps.Bodies.{children_of}
+use Rattle.code_meaning.specs.Children.{children_of}
 use Rattle.serial_machine.specs.steps.Stack.{Counted, once_more, Next, Waiting, after_child, following, at_end, comes_to}
 use Rattle.serial_machine.specs.steps.Pausing.{AllHeld, GoesOn, Stops, StopTells}
 use Rattle.serial_machine.specs.steps.Levels.{code_in, course_with, waits, total, Ready, Fits, Begins, BeginsChild, Passes, resumed, Pops, Pushes, Proceeds, ComesTo}
 use Rattle.serial_machine.proofs.Budgets.{ok_alike, from_alike}
-use Rattle.serial_machine.proofs.Stacking.{newest_waits, fault_is, children_are}
+use Rattle.serial_machine.proofs.Stacking.{newest_waits, fault_is}
+use Rattle.code_meaning.proofs.Numbered.{children_are}
 use Rattle.serial_machine.proofs.Pausing.{all_held}
 
 every_end : {A : Type 0} (P : A → Type 0) (xs : List A) (x : A) → Every P (xs ++ x ∷ []) → Every P xs × P x
@@ -203,7 +204,7 @@ module _ (c : TaskCode) (zs : List ℤ) where
 
 -- ---- from one stop to the next
 
-module _ (c : TaskCode) (zs : List ℤ) (s : Stack) (k : Contents) (fits : Fits c s k) (u : Own) (g : Frame) (l : Contents) where
+module _ (c : TaskCode) (zs : List ℤ) (s : Stack) (k : Contents) (fits : Fits c zs s k) (u : Own) (g : Frame) (l : Contents) where
   -- the run at the stop
   abbrev mid : Stack
   mid = record { waiting = s.waiting; level = record { body = s.level.body; own = u; frame = g; children = s.level.children } }
@@ -213,8 +214,8 @@ module _ (c : TaskCode) (zs : List ℤ) (s : Stack) (k : Contents) (fits : Fits 
     mid_same limit =
         stops.on.same (children_of zs limit c.bodies s.level.body) s.level.children (following (map (waits c zs limit) s.waiting.items) at_end)
 
-    pub mid_ready : Ready c mid.level
-    mid_ready = record { there = fits.runs.there; slots = stops.on.slots ∙ fits.runs.slots; objects = stops.on.objects ∙ fits.runs.objects }
+    pub mid_ready : Ready c zs mid.level
+    mid_ready = record { there = fits.runs.there; slots = stops.on.slots ∙ fits.runs.slots; numbers = fits.runs.numbers; objects = stops.on.objects ∙ fits.runs.objects }
 
     mid_held : AllHeld (length c.sizes) l
     mid_held = record { held = λ o lt. stops.on.modes o ∙ fits.held.held o lt }
@@ -225,7 +226,7 @@ module _ (c : TaskCode) (zs : List ℤ) (s : Stack) (k : Contents) (fits : Fits 
     pub to_end : st ≡ stop.End → (p : Progress) (new : Stack) → Pops p mid new → ComesTo p c zs s k new l
     to_end e progress.On new h =
         let v = h.0 in
-        let all = every_end (Ready c) new.waiting.items v (subst (Every (Ready c)) h.1 fits.wait) in
+        let all = every_end (Ready c zs) new.waiting.items v (subst (Every (Ready c zs)) h.1 fits.wait) in
         let ready = all.1 in
         let less = stops.on.fewer in
         let left : new.level.frame.left ≡ g.left = ap (λ (w : Level). w.frame.left) h.2 in
@@ -235,7 +236,7 @@ module _ (c : TaskCode) (zs : List ℤ) (s : Stack) (k : Contents) (fits : Fits 
               (subst (λ p. StopTells p (children_of zs limit c.bodies s.level.body) (code_in c s.level) u g) e (tells limit));
           fewer = omega (arith, less, left);
           fits = record {
-            runs = subst (Ready c) (sym h.2) (record { there = ready.there; slots = ready.slots; objects = ready.objects });
+            runs = subst (Ready c zs) (sym h.2) (record { there = ready.there; slots = ready.slots; numbers = ready.numbers; objects = ready.objects });
             wait = all.0;
             held = mid_held;
           };
@@ -264,9 +265,10 @@ module _ (c : TaskCode) (zs : List ℤ) (s : Stack) (k : Contents) (fits : Fits 
         let left = p.child.left_is in
         let ready = mid_ready in
         let q = p.passes in
-        let parent : Ready c p.parent = record {
+        let parent : Ready c zs p.parent = record {
           there = subst (λ b. b < length c.bodies) (sym q.body_is) ready.there;
           slots = ap (λ (f : Frame). length f.slots.items) q.frame_is ∙ ready.slots ∙ ap (λ b. (body_at c b).slots) (sym q.body_is);
+          numbers = ready.numbers;
           objects = q.owns.objects_are ∙ ready.objects;
         } in
         record {
@@ -276,7 +278,7 @@ module _ (c : TaskCode) (zs : List ℤ) (s : Stack) (k : Contents) (fits : Fits 
           fewer = omega (arith, less, left);
           fits = record {
             runs = p.child.ready;
-            wait = subst (Every (Ready c)) (sym p.waiting) (every_more (Ready c) s.waiting.items p.parent fits.wait parent);
+            wait = subst (Every (Ready c zs)) (sym p.waiting) (every_more (Ready c zs) s.waiting.items p.parent fits.wait parent);
             held = mid_held;
           };
         }
@@ -304,6 +306,7 @@ module _ (c : TaskCode) (zs : List ℤ) (s : Stack) (k : Contents) (fits : Fits 
             runs = record {
               there = subst (λ b. b < length c.bodies) (sym q.body_is) ready.there;
               slots = ap (λ (f : Frame). length f.slots.items) q.frame_is ∙ ready.slots ∙ ap (λ b. (body_at c b).slots) (sym q.body_is);
+              numbers = ready.numbers;
               objects = q.owns.objects_are ∙ ready.objects;
             };
             wait = fits.wait;

@@ -1,6 +1,5 @@
 pub mod Settles
 pub mod Budget
-pub mod Bodies
 pub mod Stack
 pub mod Pausing
 pub mod Levels

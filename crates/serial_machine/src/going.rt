@@ -67,7 +67,7 @@ pub(crate) fn go_on(
             Pause::Declare(object, rights) => {
                 let alloc = own.alloc;
                 declare_for_child(own, alloc, object, rights)?;
-                go_past(frame);
+                go_past(code, frame);
             }
             Pause::End => return Ok(Stop::End),
             Pause::Fault(blame) => return Ok(Stop::Fault(blame)),

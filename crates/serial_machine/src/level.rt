@@ -1,24 +1,19 @@
 //! The tasks of a run: how each begins, and how it goes on after a section.
 
-ghost use Rattle.std.specs.Prelude.{◌≡◌, ◌+◌, ◌<◌, ◌≤◌, ◌^◌, length, replicate, IfOk, OnOk};
+ghost use Rattle.std.specs.Prelude.{◌≡◌, ◌<◌, length, replicate, IfOk, OnOk};
 ghost use Rattle.jade_base.specs.Rights.{both_rights};
-ghost use Rattle.jade_meaning.specs.Spread.{spread};
-ghost use Rattle.code_meaning.specs.Meaning.{given_slots, passed};
-ghost use Rattle.task_code.specs.Rules.{Valid};
-ghost use Rattle.task_machine.specs.Executions.{body_at};
-ghost use Rattle.task_machine.specs.Stages.{slots_of, copy_spread};
+ghost use Rattle.code_meaning.specs.Meaning.{given_slots};
+ghost use Rattle.task_machine.specs.Stages.{copy_spread};
 ghost use Rattle.task_machine.specs.steps.Owning.{rights_of};
-ghost use Rattle.serial_machine.specs.steps.Levels.{Begins, BeginsChild, Passes, Ready, resumed};
+ghost use Rattle.serial_machine.specs.steps.Levels.{Begins, BeginsChild, Passes, Ready, code_in, resumed};
 
-use crate::ownership::{outside, take_child};
-use code_meaning::code::Operand;
+use crate::ownership::take_child;
 use jade_base::Memory;
 use std::alloc::Global;
 use task_code::Code;
-use task_machine::execution::{first_body, room, root_slots};
+use task_machine::execution::{child_slots, first_body, input_slots, instructions};
 use task_machine::frame::{Frame, go_past};
-use task_machine::section::{Own, Section, all_rights, commit};
-use task_machine::slots::{empty_slots, give_call, give_inputs};
+use task_machine::section::{Own, all_rights, commit, outside_section};
 
 /// A task of a run: the number of its body, what it has of its own, where it is in its code, and how
 /// many children it has created whose run is over.
@@ -62,43 +57,12 @@ pub(crate) fn root(
 ) -> Result<Level, Memory>
     requires numbers { length numbers.now ≡ code.now.inputs }
     requires objects { objects ≡ length code.now.sizes }
-    ensures { IfOk result (λ v. Begins code.now v 0 limit (given_slots numbers.now) (replicate (length code.now.sizes) both_rights)) }
+    ensures { IfOk result (λ v. Begins code.now numbers.now v 0 limit (given_slots numbers.now) (replicate (length code.now.sizes) both_rights)) }
 {
     first_body(code);
-    let slots = root_slots(alloc, code, numbers)?;
-    let own = outside(alloc, objects, all_rights(alloc, objects)?);
+    let slots = input_slots(alloc, code, numbers, 0)?;
+    let own = outside_section(alloc, objects, all_rights(alloc, objects)?);
     Ok(begun(0, own, slots, limit))
-}
-
-// What a body is given, for which it has slots after the inputs.
-fn call(code: &Code, body: u32) -> &[Operand]
-    requires { body < length code.now.bodies }
-    ensures call { result.now ≡ (body_at code.now body).call }
-    ensures room { code.now.inputs + length result.now ≤ (body_at code.now body).slots }
-{
-    code.keeps_rules();
-    let body = &code.raw().bodies[body as usize];
-    body.call.as_slice()
-}
-
-// The slots of a child at its begin. The error is want of memory.
-fn child_slots(
-    alloc: Global,
-    code: &Code,
-    numbers: &[i64],
-    number: u32,
-    parent: &Frame,
-) -> Result<Vec<i64>, Memory>
-    requires there { number < length code.now.bodies }
-    requires numbers { length numbers.now ≡ code.now.inputs }
-    ensures slots { IfOk result (λ slots. slots_of slots.items ≡ passed numbers.now (body_at code.now number).call (slots_of parent.now.slots.items)) }
-    ensures long { IfOk result (λ slots. length slots.items ≡ (body_at code.now number).slots) }
-{
-    let call = call(code, number);
-    let mut slots = empty_slots(alloc, room(code, number))?;
-    give_inputs(&mut slots, numbers);
-    give_call(&mut slots, numbers.len(), call, parent);
-    Ok(slots)
 }
 
 /// The task that a section has made a specification for, at its begin; its creator goes on after the
@@ -111,25 +75,25 @@ pub(crate) fn create(
     number: u32,
 ) -> Result<Level, Memory>
     requires there { number < length code.now.bodies }
-    requires numbers { length numbers.now ≡ code.now.inputs }
-    requires ready { Ready code.now parent.old }
-    requires place { parent.old.frame.place < 2 ^ 63 }
+    requires ready { Ready code.now numbers.now parent.old }
+    requires place { parent.old.frame.place < length (code_in code.now parent.old) }
     ensures child { IfOk result (λ child. BeginsChild code.now numbers.now parent.old number child) }
     ensures parent { OnOk result (Passes parent.old parent.new (rights_of parent.old.own)) }
 {
     let slots = child_slots(alloc, code, numbers, number, &parent.frame)?;
     let own = take_child(&mut parent.own);
-    go_past(&mut parent.frame);
+    go_past(instructions(code, parent.body), &mut parent.frame);
     Ok(begun(number, own, slots, parent.frame.left))
 }
 
 /// The rights of a task are from here on what its section has made of them. It takes no memory.
-pub(crate) fn change(level: &mut Level)
-    requires place { level.old.frame.place < 2 ^ 63 }
+pub(crate) fn change(code: &Code, level: &mut Level)
+    requires there { level.old.body < length code.now.bodies }
+    requires place { level.old.frame.place < length (code_in code.now level.old) }
     ensures { Passes level.old level.new (copy_spread level.old.own.objects level.old.own.spec) }
 {
     commit(&mut level.own);
-    go_past(&mut level.frame);
+    go_past(instructions(code, level.body), &mut level.frame);
 }
 
 /// A task goes on after a child, with the steps that are left. The error is want of a number for one

@@ -1,4 +1,4 @@
-//! What a task has of its own: at its begin, and at the end of a section.
+//! What a task has of its own where it creates a child.
 
 ghost use Rattle.std.specs.Prelude.{◌≡◌, IfOk, OnOk};
 ghost use Rattle.jade_meaning.specs.Specification.{fitted};
@@ -9,33 +9,16 @@ ghost use Rattle.task_machine.specs.steps.Owning.{rights_of, draft_of};
 ghost use Rattle.task_machine.specs.steps.Acting.{KeepsRights};
 ghost use Rattle.serial_machine.specs.steps.Pausing.{Owns};
 
-use access_spec::WorkingCopy;
-use jade_base::{Memory, Spec};
-use std::alloc::Global;
-use std::mem;
-use task_machine::section::{Own, Section, open};
-
-/// A task with these rights, outside of all sections. It takes no memory.
-pub(crate) fn outside(alloc: Global, objects: u32, spec: Spec) -> Own
-    ensures { Owns result objects (spread objects spec.entries) NoDraft }
-{
-    Own {
-        objects,
-        spec: WorkingCopy::begin(spec),
-        child: Spec::empty(alloc),
-        section: Section::Absent,
-        alloc,
-    }
-}
+use jade_base::Memory;
+use task_machine::section::{Own, Section, end_section, open, outside_section};
 
 /// The child that a section has made; the section is over. It takes no memory.
 pub(crate) fn take_child(own: &mut Own) -> Own
     ensures child { Owns result own.old.objects (spread own.old.objects own.old.child.entries) NoDraft }
     ensures parent { Owns own.new own.old.objects (rights_of own.old) NoDraft }
 {
-    let spec = mem::replace(&mut own.child, Spec::empty(own.alloc));
-    own.section = Section::Absent;
-    outside(own.alloc, own.objects, spec)
+    let spec = end_section(own);
+    outside_section(own.alloc, own.objects, spec)
 }
 
 /// A section of a child, whatever section there is: none has made no rights, and that of the task

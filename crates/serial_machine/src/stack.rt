@@ -1,8 +1,8 @@
 //! A run by an explicit stack of its tasks.
 
-ghost use Rattle.std.specs.Prelude.{◌≡◌, ◌<◌, ◌≤◌, ◌^◌, ◌∷◌, length, map, IfOk, OnOk};
+ghost use Rattle.std.specs.Prelude.{◌≡◌, ◌<◌, ◌≤◌, ◌∷◌, length, map, IfOk, OnOk};
 ghost use Rattle.task_machine.specs.steps.Holding.{contents_of};
-ghost use Rattle.serial_machine.specs.steps.Levels.{ComesTo, Fits, Pops, Pushes, Ready, ended, total};
+ghost use Rattle.serial_machine.specs.steps.Levels.{ComesTo, Fits, Pops, Pushes, Ready, code_in, ended, total};
 
 use crate::going::{Stop, go_on};
 use crate::level::{Level, change, create, resume};
@@ -51,9 +51,8 @@ fn push(
     number: u32,
 ) -> Result<(), Memory>
     requires there { number < length code.now.bodies }
-    requires numbers { length numbers.now ≡ code.now.inputs }
-    requires ready { Ready code.now stack.old.level }
-    requires place { stack.old.level.frame.place < 2 ^ 63 }
+    requires ready { Ready code.now numbers.now stack.old.level }
+    requires place { stack.old.level.frame.place < length (code_in code.now stack.old.level) }
     ensures { OnOk result (Pushes code.now numbers.now stack.old number stack.new) }
 {
     let child = create(alloc, code, numbers, &mut stack.level, number)?;
@@ -70,8 +69,7 @@ fn proceed(
     stack: &mut Stack,
     held: &mut Holdings,
 ) -> Result<Progress, Memory>
-    requires numbers { length numbers.now ≡ code.now.inputs }
-    requires fits { Fits code.now stack.old (contents_of held.old) }
+    requires { Fits code.now numbers.now stack.old (contents_of held.old) }
     ensures { IfOk result (λ p. ComesTo p code.now numbers.now stack.old (contents_of held.old) stack.new (contents_of held.new)) }
 {
     let body = instructions(code, stack.level.body);
@@ -86,7 +84,7 @@ fn proceed(
             Ok(Progress::On)
         }
         Stop::Change => {
-            change(&mut stack.level);
+            change(code, &mut stack.level);
             Ok(Progress::On)
         }
     }
@@ -102,8 +100,7 @@ pub(crate) fn run(
     stack: &mut Stack,
     held: &mut Holdings,
 ) -> Result<Option<Blame>, Memory>
-    requires numbers { length numbers.now ≡ code.now.inputs }
-    requires fits { Fits code.now stack.old (contents_of held.old) }
+    requires fits { Fits code.now numbers.now stack.old (contents_of held.old) }
     requires limit { stack.old.level.frame.left ≤ limit }
     ensures { IfOk result (λ fault. (total code.now numbers.now limit stack.old (contents_of held.old)).comes ≡ ended fault stack.new (contents_of held.new)) }
 {

@@ -8,3 +8,9 @@ pub mod Acting
 mod Running
 pub mod Executing
 mod Filling
+mod Telling
+mod Left
+mod Tables
+mod Marks
+mod Asking
+mod Beginning

@@ -17,7 +17,7 @@ use Rattle.std.proofs.Common.{map}
 use Rattle.jade_base.specs.declared.place.ObjectId.{ObjectId}
 use Rattle.jade_base.specs.declared.rights.Rights.{Rights}
 use Rattle.jade_base.specs.Specification.{AllAbove, IsAscending}
-use Rattle.task_machine.specs.Executions.{with_content, without_content}
+use Rattle.task_machine.specs.Executions.{objects_in, with_content, without_content}
 use Rattle.task_machine.specs.steps.Holding.{RowsAbove, RowsAscend, contents_of, row_from, written, Written, written_in, whole_row}
 use Rattle.task_machine.specs.steps.Holding.{whole_from}
 
@@ -129,6 +129,13 @@ ascend_set (r ∷ rs) zero x d lt h e = (subst (λ n. RowsAbove n rs) (sym e) h.
 ascend_set (r ∷ rs) (suc k) x d lt h e =
     let far = above_at r.object.0 rs k d h.0 (omega (arith, lt)) in
     (above_set r.object.0 rs k x h.0 (omega (arith, far, e)), ascend_set rs k x d (omega (arith, lt)) h.1 e)
+
+-- the objects stay the same where a row of the same object is put in the place of another
+pub objects_set : (rs : List Row) (k : ℕ) (x d : Row) → k < length rs → x.object ≡ (slice_index_or rs k d).object
+    → objects_in (slice_set rs k x) ≡ objects_in rs
+objects_set [] k x d lt e = refl
+objects_set (r ∷ rs) zero x d lt e = ap (λ o. o ∷ objects_in rs) e
+objects_set (r ∷ rs) (suc k) x d lt e = ap (λ l. r.object ∷ l) (objects_set rs k x d (omega (arith, lt)) e)
 
 -- a content that is written where it stands
 pub written_row : (w : Option Held) (k l : Contents) (o c : ℕ) (v : ℤ) (r : Bool) (new : Option Held) → ((p : ℕ) → l p ≡ cond (eqb p o) new (k p))

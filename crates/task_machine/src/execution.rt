@@ -1,20 +1,24 @@
 //! The execution of the body of one task.
 
-ghost use Rattle.std.specs.Prelude.{◌≡◌, ◌<◌, ◌≤◌, ◌^◌, length, replicate, Some, None, IfOk, OnOk, OnErr};
-ghost use Rattle.task_machine.specs.Stages.{slots_of, rights_at};
-ghost use Rattle.code_meaning.specs.Meaning.{given_slots};
+ghost use Rattle.std.specs.Prelude.{◌≡◌, ◌+◌, ◌<◌, ◌≤◌, ◌^◌, [], length, map, replicate, slice_get, slice_set, Some, None, IfOk, OnOk, OnErr};
+ghost use Rattle.task_machine.specs.Stages.{copy_spread, slots_of, rights_at};
+ghost use Rattle.code_meaning.specs.Meaning.{given_slots, passed};
 ghost use Rattle.jade_base.specs.Rights.{both_rights};
 ghost use Rattle.jade_base.specs.Specification.{joined_in, kept, settled};
-ghost use Rattle.task_machine.specs.Executions.{Advanced, body_at, held_by, IsBegun, moved_on, with_content};
+ghost use Rattle.task_machine.specs.Executions.{Advanced, body_at, created_by, held_by, IsBegun, moved_on, with_content};
+ghost use Rattle.task_machine.specs.Executions.{without_content};
 ghost use Rattle.task_code.specs.Rules.{Valid};
+ghost use Rattle.jade_base.specs.Rights.{join};
+ghost use Rattle.jade_meaning.specs.Specification.{rights_on};
+ghost use Rattle.jade_meaning.specs.Spread.{spread};
+ghost use Rattle.task_machine.specs.declared.section.Section.{Section};
 
 use crate::frame::{Frame, Pause, go_past};
 use crate::holdings::Holdings;
 use crate::play;
-use crate::section::{Own, Section, all_rights, commit, declare_for_child};
-use crate::slots::{empty_slots, give_inputs};
-use access_spec::WorkingCopy;
-use code_meaning::code::Instruction;
+use crate::section::{Own, all_rights, commit, declare_for_child, end_section, outside_section};
+use crate::slots::{empty_slots, give_call, give_inputs};
+use code_meaning::code::{Instruction, Operand};
 use jade_base::{Content, Memory, ObjectId, Rights, Spec};
 use std::alloc::Global;
 use std::marker::Model;
@@ -42,7 +46,7 @@ impl<'c> Model for Execution<'c> {
 
     ghost view = { λ e. shown e.code.now e.numbers.now e.limit e.body e.own e.frame e.held };
 
-    ghost invariant = { λ e. IsReady e.code.now e.body e.own e.frame };
+    ghost invariant = { λ e. IsReady e.code.now e.numbers.now e.body e.own e.frame };
 }
 
 /// The instructions of a body.
@@ -56,8 +60,8 @@ pub fn instructions(code: &Code, body: u32) -> &[Instruction]
     body.code.as_slice()
 }
 
-/// The number of slots of a body.
-pub fn room(code: &Code, body: u32) -> u32
+// The number of slots of a body.
+fn room(code: &Code, body: u32) -> u32
     requires { body < length code.now.bodies }
     ensures { result ≡ (body_at code.now body).slots }
 {
@@ -65,23 +69,70 @@ pub fn room(code: &Code, body: u32) -> u32
     body.slots
 }
 
-/// That there is a first body, with slots for the inputs. It does nothing.
+// What a creator gives a body.
+fn call_of(code: &Code, body: u32) -> &[Operand]
+    requires { body < length code.now.bodies }
+    ensures { result.now ≡ (body_at code.now body).call }
+{
+    let body = &code.raw().bodies[body as usize];
+    body.call.as_slice()
+}
+
+/// That there is a first body. It does nothing.
 pub fn first_body(code: &Code)
-    ensures there { 0 < length code.now.bodies }
-    ensures room { code.now.inputs ≤ (body_at code.now 0).slots }
+    ensures { 0 < length code.now.bodies }
 {
     code.keeps_rules();
 }
 
-/// The slots of the first body at its begin. The error is want of memory.
-pub fn root_slots(alloc: Global, code: &Code, numbers: &[i64]) -> Result<Vec<i64>, Memory>
+// A body that is created is there.
+fn created_body(code: &Code, body: u32, place: usize, number: u32)
+    requires there { body < length code.now.bodies }
+    requires created { created_by (slice_get (body_at code.now body).code place) ≡ Some number }
+    ensures there { number < length code.now.bodies }
+    ensures place { place < length (body_at code.now body).code }
+{
+    code.keeps_rules();
+}
+
+// A body has slots for the inputs and for what it is given.
+fn body_room(code: &Code, body: u32)
+    requires { body < length code.now.bodies }
+    ensures { code.now.inputs + length (body_at code.now body).call ≤ (body_at code.now body).slots }
+{
+    code.keeps_rules();
+}
+
+/// The slots of a body with the inputs in the first of them. The error is want of memory.
+pub fn input_slots(alloc: Global, code: &Code, numbers: &[i64], body: u32) -> Result<Vec<i64>, Memory>
+    requires there { body < length code.now.bodies }
     requires numbers { length numbers.now ≡ code.now.inputs }
     ensures slots { IfOk result (λ slots. slots_of slots.items ≡ given_slots numbers.now) }
-    ensures long { IfOk result (λ slots. length slots.items ≡ (body_at code.now 0).slots) }
+    ensures long { IfOk result (λ slots. length slots.items ≡ (body_at code.now body).slots) }
 {
-    first_body(code);
-    let mut slots = empty_slots(alloc, room(code, 0))?;
+    body_room(code, body);
+    let mut slots = empty_slots(alloc, room(code, body))?;
     give_inputs(&mut slots, numbers);
+    Ok(slots)
+}
+
+/// The slots of a body that is created. The error is want of memory.
+pub fn child_slots(
+    alloc: Global,
+    code: &Code,
+    numbers: &[i64],
+    body: u32,
+    frame: &Frame,
+) -> Result<Vec<i64>, Memory>
+    requires there { body < length code.now.bodies }
+    requires numbers { length numbers.now ≡ code.now.inputs }
+    ensures slots { IfOk result (λ slots.
+        slots_of slots.items ≡ passed numbers.now (body_at code.now body).call (slots_of frame.now.slots.items)) }
+    ensures long { IfOk result (λ slots. length slots.items ≡ (body_at code.now body).slots) }
+{
+    body_room(code, body);
+    let mut slots = input_slots(alloc, code, numbers, body)?;
+    give_call(&mut slots, numbers.len(), call_of(code, body), frame);
     Ok(slots)
 }
 
@@ -95,33 +146,29 @@ fn count_objects(code: &Code) -> u32
 
 // The execution of a body from its begin.
 fn begun<'c>(
-    alloc: Global,
     code: &'c Code,
     numbers: &'c [i64],
     limit: u32,
     body: u32,
-    objects: u32,
     slots: Vec<i64>,
-    spec: Spec,
-) -> Result<Execution<'c>, Memory>
+    own: Own,
+    held: Holdings,
+) -> Execution<'c>
     requires there { body < length code.now.bodies }
-    requires objects { objects ≡ length code.now.sizes }
+    requires numbers { length numbers.now ≡ code.now.inputs }
+    requires objects { own.objects ≡ length code.now.sizes }
+    requires spec { own.spec ≡ settled own.spec.entries }
+    requires section { own.section ≡ Section.Absent }
     requires slots { length slots.items ≡ (body_at code.now body).slots }
-    ensures { IfOk result (λ e. IsBegun code.now numbers.now limit body (slots_of slots.items) spec.entries e) }
+    requires held { held ≡ map without_content own.spec.entries }
+    ensures { IsBegun code.now numbers.now limit body (slots_of slots.items) own.spec.entries result }
 {
-    let held = Holdings::none(alloc, &spec)?;
-    Ok(Execution {
+    Execution {
         code,
         numbers,
         limit,
         body,
-        own: Own {
-            objects,
-            spec: WorkingCopy::begin(spec),
-            child: Spec::empty(alloc),
-            section: Section::Absent,
-            alloc,
-        },
+        own,
         frame: Frame {
             slots,
             place: 0,
@@ -129,7 +176,7 @@ fn begun<'c>(
             events: 0,
         },
         held,
-    })
+    }
 }
 
 impl<'c> Execution<'c> {
@@ -148,9 +195,11 @@ impl<'c> Execution<'c> {
     {
         first_body(code);
         let objects = count_objects(code);
-        let slots = root_slots(alloc, code, numbers)?;
+        let slots = input_slots(alloc, code, numbers, 0)?;
         let spec = all_rights(alloc, objects)?;
-        begun(alloc, code, numbers, limit, 0, objects, slots, spec)
+        let held = Holdings::none(alloc, &spec)?;
+        let own = outside_section(alloc, objects, spec);
+        Ok(begun(code, numbers, limit, 0, slots, own, held))
     }
 
     /// Goes on to the next pause. It takes no memory.
@@ -158,7 +207,7 @@ impl<'c> Execution<'c> {
         ensures { Advanced self.old result self.new }
     {
         let code = instructions(self.code, self.body);
-        play::advance(code, &mut self.own, &mut self.frame, &mut self.held)
+        play::go_to_pause(code, &mut self.own, &mut self.frame, &mut self.held)
     }
 
     /// The content of an object is held; nothing changes where the task's specification does not
@@ -182,27 +231,62 @@ impl<'c> Execution<'c> {
     /// the next instruction. The error is want of memory, and changes nothing.
     pub fn declare(&mut self, alloc: Global, object: ObjectId, rights: Rights) -> Result<(), Memory>
         requires within { object.0 < self.old.stage.objects }
-        requires place { self.old.stage.place < 2 ^ 63 }
+        requires place { self.old.stage.place < length self.old.stage.code }
         ensures declared { OnOk result (self.new ≡ record self.old {
           stage = moved_on self.old.stage.section self.old.stage.spec
               (settled (joined_in self.old.stage.child.entries object rights)) self.old.stage;
         }) }
+        ensures spread { OnOk result (spread self.new.stage.objects self.new.stage.child.entries ≡ slice_set
+            (spread self.old.stage.objects self.old.stage.child.entries) object.0
+            (join (rights_on (spread self.old.stage.objects self.old.stage.child.entries) object.0) rights)) }
         ensures refused { OnErr result (self.new ≡ self.old) }
     {
         declare_for_child(&mut self.own, alloc, object, rights)?;
-        go_past(&mut self.frame);
+        go_past(instructions(self.code, self.body), &mut self.frame);
         Ok(())
     }
 
     /// The copy that a section of the task itself has changed is its specification from here on,
     /// and the next instruction follows. It takes no memory.
     pub fn change(&mut self)
-        requires place { self.old.stage.place < 2 ^ 63 }
-        ensures { self.new ≡ record self.old {
+        requires place { self.old.stage.place < length self.old.stage.code }
+        ensures changed { self.new ≡ record self.old {
           stage = moved_on Section.Absent (settled (kept self.old.stage.spec.entries self.old.stage.spec.draft)) self.old.stage.child self.old.stage;
         } }
+        ensures rights { rights_at self.new.stage ≡ copy_spread self.old.stage.objects self.old.stage.spec }
     {
         commit(&mut self.own);
-        go_past(&mut self.frame);
+        go_past(instructions(self.code, self.body), &mut self.frame);
+    }
+
+    /// The child of the body of this number, which is created: it begins with the slots that its
+    /// creator gives it and the specification that the section has made, with no content held. The
+    /// creator goes on to the next instruction, in no section. The error is want of memory, and
+    /// changes nothing.
+    pub fn child(&mut self, alloc: Global, number: u32) -> Result<Execution<'c>, Memory>
+        requires created { created_by (slice_get self.old.stage.code self.old.stage.place) ≡ Some number }
+        ensures begun { IfOk result (λ child. IsBegun self.old.program self.old.numbers self.old.limit number
+            (passed self.old.numbers (body_at self.old.program number).call (slots_of self.old.stage.slots))
+            self.old.stage.child.entries child) }
+        ensures moved { OnOk result (self.new ≡ record self.old {
+          stage = moved_on Section.Absent self.old.stage.spec (settled []) self.old.stage;
+        }) }
+        ensures refused { OnErr result (self.new ≡ self.old) }
+    {
+        created_body(self.code, self.body, self.frame.place, number);
+        let slots = child_slots(alloc, self.code, self.numbers, number, &self.frame)?;
+        let held = Holdings::none(alloc, &self.own.child)?;
+        let spec = end_section(&mut self.own);
+        go_past(instructions(self.code, self.body), &mut self.frame);
+        let own = outside_section(alloc, self.own.objects, spec);
+        Ok(begun(
+            self.code,
+            self.numbers,
+            self.limit,
+            number,
+            slots,
+            own,
+            held,
+        ))
     }
 }

@@ -5,7 +5,7 @@ ghost use Rattle.jade_syntax.specs.Objects.{sizes};
 ghost use Rattle.jade_meaning.specs.Serial.{zeros};
 ghost use Rattle.task_machine.specs.Whole.{all_held, without};
 ghost use Rattle.task_machine.specs.Playing.{cell_of};
-ghost use Rattle.task_machine.specs.Executions.{with_content, without_content};
+ghost use Rattle.task_machine.specs.Executions.{objects_in, with_content, without_content};
 ghost use Rattle.task_machine.specs.steps.Holding.{RowsAscend, contents_of, row_from, cell_in, Written, WrittenIn, whole_from};
 
 use jade_base::{Content, Memory, Mode, Numbers, ObjectId, Spec};
@@ -81,7 +81,8 @@ impl Holdings {
 
     /// Writes a number into a cell of an object; whether the object is held for more than reading.
     pub fn write(&mut self, object: usize, cell: usize, number: i64) -> bool
-        ensures { Written (contents_of self.old) object cell number result (contents_of self.new) }
+        ensures written { Written (contents_of self.old) object cell number result (contents_of self.new) }
+        ensures objects { objects_in self.new ≡ objects_in self.old }
     {
         write_among(self.rows.as_mut_slice(), object, cell, number)
     }
@@ -168,6 +169,7 @@ fn cell_among(rows: &[Row], object: usize, cell: usize) -> Option<i64>
 fn write_among(rows: &mut [Row], object: usize, cell: usize, number: i64) -> bool
     requires { RowsAscend rows.old }
     ensures written { Written (contents_of rows.old) object cell number result (contents_of rows.new) }
+    ensures objects { objects_in rows.new ≡ objects_in rows.old }
     ensures ascend { RowsAscend rows.new }
 {
     match place_of(rows, object) {

@@ -4,10 +4,12 @@
 pub mod execution;
 pub mod frame;
 pub mod holdings;
+pub mod laws;
+pub mod machine;
 mod numbers;
 pub mod play;
 pub mod section;
-pub mod slots;
+mod slots;
 
 pub use execution::Execution;
 pub use frame::Pause;

@@ -1,6 +1,6 @@
 //! The specification of a task, and what its sections make.
 
-ghost use Rattle.std.specs.Prelude.{◌≡◌, ◌<◌, true, false, None, Some, replicate, slice_set, IfOk, OnOk, OnErr};
+ghost use Rattle.std.specs.Prelude.{◌≡◌, ◌<◌, true, false, [], None, Some, replicate, slice_set, IfOk, OnOk, OnErr};
 ghost use Rattle.jade_base.specs.Rights.{both_rights, is_immediate, join, no_rights};
 ghost use Rattle.jade_base.specs.Specification.{joined_in, kept, rights_in, settled};
 ghost use Rattle.jade_meaning.specs.Specification.{rights_on, covers};
@@ -242,4 +242,32 @@ pub fn all_rights(alloc: Global, objects: u32) -> Result<Spec, Memory>
         spec.declare(alloc, ObjectId(object), both_rights())?;
     }
     Ok(spec)
+}
+
+/// What a task has that begins with a specification, in no section.
+pub fn outside_section(alloc: Global, objects: u32, spec: Spec) -> Own
+    ensures { result ≡ record {
+      objects = objects;
+      spec = settled spec.entries;
+      child = settled [];
+      section = Section.Absent;
+      alloc = alloc;
+    } }
+{
+    Own {
+        objects,
+        spec: WorkingCopy::begin(spec),
+        child: Spec::empty(alloc),
+        section: Section::Absent,
+        alloc,
+    }
+}
+
+/// The section of a child ends; the result is the specification that it has made.
+pub fn end_section(own: &mut Own) -> Spec
+    ensures made { result ≡ own.old.child }
+    ensures ended { own.new ≡ record own.old { child = settled []; section = Section.Absent } }
+{
+    own.section = Section::Absent;
+    mem::replace(&mut own.child, Spec::empty(own.alloc))
 }

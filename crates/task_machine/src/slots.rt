@@ -10,7 +10,7 @@ use jade_base::Memory;
 use std::alloc::Global;
 
 /// So many slots, which all hold 0. The error is want of memory.
-pub fn empty_slots(alloc: Global, count: u32) -> Result<Vec<i64>, Memory>
+pub(crate) fn empty_slots(alloc: Global, count: u32) -> Result<Vec<i64>, Memory>
     ensures empty { IfOk result (λ slots. slots_of slots.items ≡ given_slots []) }
     ensures long { IfOk result (λ slots. length slots.items ≡ count) }
 {
@@ -29,7 +29,7 @@ fn number_at(numbers: &[i64], place: usize) -> i64
 }
 
 /// The inputs go to the first of slots that all hold 0, the first input to the last of them.
-pub fn give_inputs(slots: &mut Vec<i64>, numbers: &[i64])
+pub(crate) fn give_inputs(slots: &mut Vec<i64>, numbers: &[i64])
     requires room { length numbers.now ≤ length slots.old.items }
     requires empty { slots_of slots.old.items ≡ given_slots [] }
     ensures slots { slots_of slots.new.items ≡ given_slots numbers.now }
@@ -44,7 +44,7 @@ pub fn give_inputs(slots: &mut Vec<i64>, numbers: &[i64])
 }
 
 /// What a creator gives goes to the slots after the inputs, the first of it to the last of them.
-pub fn give_call(slots: &mut Vec<i64>, inputs: usize, call: &[Operand], frame: &Frame)
+pub(crate) fn give_call(slots: &mut Vec<i64>, inputs: usize, call: &[Operand], frame: &Frame)
     requires room { inputs + length call.now ≤ length slots.old.items }
     ensures slots { (zs : List ℤ) → length zs ≡ inputs → slots_of slots.old.items ≡ given_slots zs
         → slots_of slots.new.items ≡ passed zs call.now (slots_of frame.now.slots.items) }

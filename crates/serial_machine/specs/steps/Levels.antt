@@ -20,7 +20,7 @@ use Rattle.serial_machine.specs.declared.stack.Stack.{Stack}
 use Rattle.serial_machine.specs.declared.stack.Progress.{Progress}
 use Rattle.serial_machine.specs.declared.stack.Progress.TheVariants as progress
 use Rattle.serial_machine.specs.steps.Settles.{Ending, Fault, Whole}
-use Rattle.serial_machine.specs.steps.Bodies.{children_of}
+use Rattle.code_meaning.specs.Children.{children_of}
 use Rattle.serial_machine.specs.steps.Stack.{Counted, once_more, Waiting, following, at_end, comes_to}
 use Rattle.serial_machine.specs.steps.Pausing.{Owns, AllHeld}
 
@@ -42,19 +42,19 @@ total c zs limit s k =
     comes_to (course_with c zs limit s.level s.level.frame.left) s.level.children s.level.frame.left k
     (following (map (waits c zs limit) s.waiting.items) at_end)
 
-abbrev pub Ready : TaskCode → Level → Type 0
-Ready c v = IsReady c v.body v.own v.frame
+abbrev pub Ready : TaskCode → List ℤ → Level → Type 0
+Ready c zs v = IsReady c zs v.body v.own v.frame
 
--- the body of each task is there, and so are its slots; all objects are held for writing
-pub record Fits (c : TaskCode) (s : Stack) (k : Contents) : Type 0 where
-  pub runs : Ready c s.level
-  pub wait : Every (Ready c) s.waiting.items
+-- each task is ready to run, and all objects are held for writing
+pub record Fits (c : TaskCode) (zs : List ℤ) (s : Stack) (k : Contents) : Type 0 where
+  pub runs : Ready c zs s.level
+  pub wait : Every (Ready c zs) s.waiting.items
   pub held : AllHeld (length c.sizes) k
 
 -- a task that begins: a body with these slots and rights, and so many steps left
-pub record Begins (c : TaskCode) (v : Level) (body left : ℕ) (ss : Slots) (spec : Specification) : Type 0 where
+pub record Begins (c : TaskCode) (zs : List ℤ) (v : Level) (body left : ℕ) (ss : Slots) (spec : Specification) : Type 0 where
   pub body_is : v.body ≡ body
-  pub ready : Ready c v
+  pub ready : Ready c zs v
   pub slots_are : slots_of v.frame.slots.items ≡ ss
   pub place_is : v.frame.place ≡ 0
   pub left_is : v.frame.left ≡ left
@@ -64,7 +64,7 @@ pub record Begins (c : TaskCode) (v : Level) (body left : ℕ) (ss : Slots) (spe
 -- a child that begins with what the section of its creator has made
 abbrev pub BeginsChild : TaskCode → List ℤ → (parent : Level) → (number : ℕ) → (child : Level) → Type 0
 BeginsChild c zs parent number child =
-    Begins c child number parent.frame.left (passed zs (body_at c number).call (slots_of parent.frame.slots.items))
+    Begins c zs child number parent.frame.left (passed zs (body_at c number).call (slots_of parent.frame.slots.items))
     (spread parent.own.objects parent.own.child.entries)
 
 -- a task that goes on after its section, with these rights
@@ -96,7 +96,7 @@ pub record Pushes (c : TaskCode) (zs : List ℤ) (old : Stack) (number : ℕ) (n
 pub record Proceeds (c : TaskCode) (zs : List ℤ) (old : Stack) (k : Contents) (new : Stack) (l : Contents) : Type 0 where
   pub same : (limit : ℕ) → old.level.frame.left ≤ limit → total c zs limit old k ≡ once_more (total c zs limit new l)
   pub fewer : new.level.frame.left ≤ old.level.frame.left
-  pub fits : Fits c new l
+  pub fits : Fits c zs new l
 
 -- where a run comes to, by what it shows
 abbrev pub ComesTo : Progress → TaskCode → List ℤ → (old : Stack) → Contents → (new : Stack) → Contents → Type 0

@@ -19,10 +19,6 @@ pub root-requires-clause-numbers : goal.root-requires-clause-numbers
 root-requires-clause-numbers c =
     c.requires.given ∙ inputs_many c.args.compiled.now.program.items ∙ sym (ap (λ (x : TaskCode). x.inputs) c.code-code.ensures.code)
 
-pub run-requires-clause-numbers : goal.run-requires-clause-numbers
-run-requires-clause-numbers c =
-    c.requires.given ∙ inputs_many c.args.compiled.now.program.items ∙ sym (ap (λ (x : TaskCode). x.inputs) c.code-code.ensures.code)
-
 pub run-requires-clause-fits : goal.run-requires-clause-fits
 run-requires-clause-fits c =
     let zero = c.in_ok-held.ensures ∙ ap (λ (q : CheckedProgram). all_held (zeros (sizes q.program.items))) c.checked-2.ensures in

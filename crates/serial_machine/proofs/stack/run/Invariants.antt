@@ -5,7 +5,7 @@ use Rattle.serial_machine.proofs.stack.run.Given as goal
 
 abbrev pub invariant-run : goal.invariant-run
 invariant-run l = record {
-  fits : Fits l.code l.stack (contents_of l.held);
+  fits : Fits l.code l.numbers l.stack (contents_of l.held);
   same : (total l.code l.numbers l.limit l.fn.stack (contents_of l.fn.held)).comes ≡ (total l.code l.numbers l.limit l.stack (contents_of l.held)).comes;
   within : l.stack.level.frame.left ≤ l.limit;
 }

@@ -2,7 +2,7 @@ use Rattle.std.proofs.Common.{refl, sym, subst, ◌∙◌, w64, slice_index_or}
 use Rattle.std.proofs.lemmas.Int.{to_z-of_z}
 use Rattle.task_machine.specs.Playing.{writable}
 use Rattle.task_machine.specs.steps.Holding.{contents_of, WrittenIn}
-use Rattle.task_machine.proofs.Rows.{row_missing, row_found, unwritten, written_row, ascend_set}
+use Rattle.task_machine.proofs.Rows.{row_missing, row_found, unwritten, written_row, ascend_set, objects_set}
 use Rattle.task_machine.proofs.holdings.write_among.Goals as goal
 
 pub returns-in-None-clause-written : goal.returns-in-None-clause-written
@@ -25,3 +25,8 @@ pub returns-in-Some-clause-ascend : goal.returns-in-Some-clause-ascend
 returns-in-Some-clause-ascend c =
     let row = row_found c.args.object c.args.rows.now c.in-Some.place (sym c.in-Some.is ∙ c.place_of.ensures.row) in
     ascend_set c.args.rows.now c.in-Some.place _ c.index-rows-place.result row.within c.requires refl
+
+pub returns-in-Some-clause-objects : goal.returns-in-Some-clause-objects
+returns-in-Some-clause-objects c =
+    let row = row_found c.args.object c.args.rows.now c.in-Some.place (sym c.in-Some.is ∙ c.place_of.ensures.row) in
+    objects_set c.args.rows.now c.in-Some.place _ c.index-rows-place.result row.within refl

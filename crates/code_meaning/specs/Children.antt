@@ -1,6 +1,5 @@
 -- What the children of each body do.
-use Rattle.std.specs.Prelude.{◌≡◌, ℕ, zero, suc, ◌+◌, ◌<◌, List, [], ◌∷◌, Some, ℤ, pos, slice_get, slice_index_or}
-use Rattle.code_meaning.specs.declared.code.Instruction.{Instruction}
+use Rattle.std.specs.Prelude.{◌≡◌, ℕ, zero, suc, ◌+◌, ◌<◌, List, [], ◌∷◌, Some, ℤ, pos, slice_get}
 use Rattle.code_meaning.specs.Meaning.{Children, Body, body_going, by_number, bodies_from, code_course}
 use Rattle.jade_meaning.specs.Specification.{Specification}
 
@@ -14,18 +13,14 @@ children_from zs limit base (x ∷ bodies) (suc n) = children_from zs limit (bas
 abbrev pub children_of : List ℤ → (limit : ℕ) → List Body → ℕ → Children
 children_of zs limit bodies n = children_from zs limit 0 bodies n
 
--- the instructions of a body
-abbrev pub code_at : List Body → ℕ → List Instruction
-code_at bodies n = (slice_index_or bodies n (record { call = []; slots = 0; code = [] })).code
-
 -- a body creates a later one
 abbrev pub ChildrenAre : List ℤ → (limit : ℕ) → List Body → Type 0
 ChildrenAre zs limit bodies =
-    (b n : ℕ) (body : Body) → b < n → slice_get bodies n ≡ Some body
-    → children_of zs limit bodies b n ≡ body_going (children_of zs limit bodies n) zs limit body
+    (b n : ℕ) (body : Body) → b < n → slice_get bodies n ≡ Some body → children_of zs limit bodies b n ≡
+    body_going (children_of zs limit bodies n) zs limit body
 
 -- the whole code is its first body
 abbrev pub RootIs : List ℤ → (limit : ℕ) → List Body → Type 0
 RootIs zs limit bodies =
-    (body : Body) (spec : Specification) → slice_get bodies 0 ≡ Some body
-    → code_course bodies zs limit spec ≡ body_going (children_of zs limit bodies 0) zs limit body (λ k. pos 0) spec
+    (body : Body) (spec : Specification) → slice_get bodies 0 ≡ Some body → code_course bodies zs limit spec ≡
+    body_going (children_of zs limit bodies 0) zs limit body (λ k. pos 0) spec

@@ -1,0 +1,304 @@
+-- What is left of a task's talk while it takes what is due, and gives up what it has to.
+use Rattle.std.proofs.Common.{◌≡◌, ℕ, zero, suc, ◌+◌, ◌<◌, ◌≤◌, ◌⊎◌, inl, inr, List, [], ◌∷◌, ◌++◌, map, length, Bool, true, false, Option, Some, None}
+use Rattle.std.proofs.Common.{refl, sym, ap, ap₂, ◌∙◌, subst, arith, get_or-set_same, get_or-set_other, set-set}
+use Rattle.std.specs.Prelude.{ℤ, nat_eq, not, ◌&&◌, ◌||◌, is_some, is_none, slice_index_or, slice_set, if◌then◌else◌}
+use Rattle.std.specs.List.{flat_map}
+use Rattle.std.proofs.lemmas.List.{append_assoc}
+use Rattle.std.proofs.lemmas.Bool.{cases_eq, eq-eqb, ne_eqb, true≢false}
+use Rattle.jade_base.specs.declared.report.Blame.{Blame}
+use Rattle.jade_base.specs.declared.rights.Rights.{Rights}
+use Rattle.jade_base.specs.declared.rights.Mode.{Mode}
+use Rattle.jade_base.specs.Rights.{mode_of, no_rights}
+use Rattle.jade_meaning.specs.Specification.{Specification, rights_on, numbers, objects, yields, same_hold}
+use Rattle.jade_meaning.specs.Course.{Course, Reads, Writes, Steps, Creates, Changes, Ends}
+use Rattle.jade_meaning.specs.Talk.{Task, Event, Enroll, Take, TouchRead, TouchWrite, Wants, Give, Resign, Holds, held, take_in, enters, shifts, end_leaves, given_back, made_immediate, taken_anew}
+use Rattle.jade_meaning.specs.Talk.{when, first_take, touched, kept, creation_gives, change_gives, end_gives, start_takes, start_holds, events, talk}
+use Rattle.task_machine.specs.Left.{Due, takes, planned, left_to_tell, due_anew, left_to_change, no_due, but, and_also, no_holds, IsFull, has_mode, BeginsDue}
+use Rattle.task_machine.specs.Left.{IsLeast, IsNone, to_take, TakesLeast, TellsOn, Touches, TakesTouched, for_child, GivesForChild, Enters, ChangesFirst}
+use Rattle.task_machine.specs.Left.{GivesForChange, Shifts, is_held, GivesAtEnd, Resigns}
+
+-- ---- lists over the numbers from one on
+
+same_from : (f g : ℕ → List Event) (i n : ℕ) → ((j : ℕ) → i ≤ j → j < i + n → f j ≡ g j) → flat_map f (numbers i n) ≡ flat_map g (numbers i n)
+same_from f g i zero h = refl
+same_from f g i (suc n) h =
+    ap₂ (λ a b. a ++ b) (h i (omega arith) (omega arith)) (same_from f g (suc i) n (λ j le lt. h j (omega (arith, le)) (omega (arith, lt))))
+
+none_from : (f : ℕ → List Event) (i n : ℕ) → ((j : ℕ) → i ≤ j → j < i + n → f j ≡ []) → flat_map f (numbers i n) ≡ []
+none_from f i zero h = refl
+none_from f i (suc n) h =
+    ap₂ (λ a b. a ++ b) (h i (omega arith) (omega arith)) (none_from f (suc i) n (λ j le lt. h j (omega (arith, le)) (omega (arith, lt))))
+
+least_from : (f g : ℕ → List Event) (i n o : ℕ) (x : Event) → i ≤ o → o < i + n → ((j : ℕ) → i ≤ j → j < o → f j ≡ []) → f o ≡ x ∷ [] → g o ≡ []
+    → ((j : ℕ) → (j ≡ o → ⊥) → g j ≡ f j) → flat_map f (numbers i n) ≡ x ∷ flat_map g (numbers i n)
+least_from f g i zero o x le lt before here after other = absurd (omega (arith, le, lt))
+least_from f g i (suc n) o x le lt before here after other =
+    go (λ far. least_from f g (suc i) n o x (omega (arith, far)) (omega (arith, lt)) (λ j le lt. before j (omega (arith, le)) lt) here after other) (cases_eq i o)
+  where
+    go : (i < o → flat_map f (numbers (suc i) n) ≡ x ∷ flat_map g (numbers (suc i) n)) → (i ≡ o) ⊎ (i ≡ o → ⊥)
+        → f i ++ flat_map f (numbers (suc i) n) ≡ x ∷ (g i ++ flat_map g (numbers (suc i) n))
+    go more (inl e) =
+        ap₂ (λ a b. a ++ b) (ap f e ∙ here) (same_from f g (suc i) n (λ j far lt. sym (other j (λ q. omega (arith, q, e, far)))))
+        ∙ ap (λ a. x ∷ (a ++ flat_map g (numbers (suc i) n))) (sym (ap g e ∙ after))
+    go more (inr ne) =
+        let far : i < o = omega (arith, le, ne) in
+        ap₂ (λ a b. a ++ b) (before i (omega arith) far) (more far)
+        ∙ ap (λ a. x ∷ (a ++ flat_map g (numbers (suc i) n))) (sym (other i ne ∙ before i (omega arith) far))
+
+-- below a number, counted from 0
+below : (j n : ℕ) → j < 0 + n → j < n
+below j n lt = omega (arith, lt)
+
+holds_from : (f g : ℕ → Option Mode) (i n : ℕ) → ((j : ℕ) → i ≤ j → j < i + n → f j ≡ g j) → map f (numbers i n) ≡ map g (numbers i n)
+holds_from f g i zero h = refl
+holds_from f g i (suc n) h =
+    ap₂ (λ a b. a ∷ b) (h i (omega arith) (omega arith)) (holds_from f g (suc i) n (λ j le lt. h j (omega (arith, le)) (omega (arith, lt))))
+
+next_from : (f : ℕ → Option Mode) (i n : ℕ) → map f (numbers (suc i) n) ≡ map (λ j. f (suc j)) (numbers i n)
+next_from f i zero = refl
+next_from f i (suc n) = ap (λ l. f (suc i) ∷ l) (next_from f (suc i) n)
+
+-- the holds one after another
+all_holds : (h : Holds) → map (λ o. held h o) (numbers 0 (length h)) ≡ h
+all_holds [] = refl
+all_holds (x ∷ h) = ap (λ l. x ∷ l) (next_from (λ o. held (x ∷ h) o) 0 (length h) ∙ all_holds h)
+
+all_modes : (spec : Specification) → map (λ o. mode_of (rights_on spec o)) (numbers 0 (length spec)) ≡ map mode_of spec
+all_modes [] = refl
+all_modes (a ∷ spec) = ap (λ l. mode_of a ∷ l) (next_from (λ o. mode_of (rights_on (a ∷ spec) o)) 0 (length spec) ∙ all_modes spec)
+
+none_held : (h : Holds) (o : ℕ) → held (slice_set h o None) o ≡ None
+none_held [] o = refl
+none_held (x ∷ h) zero = refl
+none_held (x ∷ h) (suc o) = none_held h o
+
+no_held : (spec : Specification) (o : ℕ) → held (no_holds spec) o ≡ None
+no_held [] o = refl
+no_held (a ∷ spec) zero = refl
+no_held (a ∷ spec) (suc o) = no_held spec o
+
+here_but : (o : ℕ) (due : Due) → but o due o ≡ false
+here_but o due = ap (λ b. if b then false else due o) (eq-eqb o o refl)
+
+other_but : (o : ℕ) (due : Due) (j : ℕ) → (j ≡ o → ⊥) → but o due j ≡ due j
+other_but o due j ne = ap (λ b. if b then false else due j) (ne_eqb j o ne)
+
+here_also : (o : ℕ) (due : Due) → and_also o due o ≡ true
+here_also o due = ap (λ b. if b then true else due o) (eq-eqb o o refl)
+
+other_also : (o : ℕ) (due : Due) (j : ℕ) → (j ≡ o → ⊥) → and_also o due j ≡ due j
+other_also o due j ne = ap (λ b. if b then true else due j) (ne_eqb j o ne)
+
+-- ---- a task that begins
+
+nothing_either : (d : Bool) (es : List Event) → es ≡ [] → (if d then es else []) ≡ []
+nothing_either true es h = h
+nothing_either false es h = refl
+
+none_either : (d : Bool) (m : Option Mode) → m ≡ None → (if d then m else None) ≡ None
+none_either true m h = h
+none_either false m h = refl
+
+taken_by : (d : Bool) (m : Option Mode) (o : ℕ) → (is_some m ≡ true → d ≡ true) → take_in m o ≡ (if d then take_in m o else [])
+taken_by d None o h = sym (nothing_either d (take_in None o) refl)
+taken_by d (Some m) o h = ap (λ b. if b then Take o m ∷ [] else []) (sym (h refl))
+
+mode_due : (d : Bool) (m : Option Mode) → (is_some m ≡ true → d ≡ true) → (if d then m else None) ≡ m
+mode_due d None h = none_either d None refl
+mode_due d (Some m) h = ap (λ b. if b then Some m else None) (h refl)
+
+pub begins_due : (due : Due) (t : Task) → BeginsDue due t
+begins_due due t all vs =
+    ap₂ (λ es h. es ++ events t.course t.spec h 0 vs)
+    (same_from (λ o. take_in (mode_of (rights_on t.spec o)) o) (λ o. if due o then take_in (mode_of (rights_on t.spec o)) o else []) 0
+    (length t.spec) (λ j le lt. taken_by (due j) (mode_of (rights_on t.spec j)) j (all j)))
+    (sym (holds_from (λ o. if due o then mode_of (rights_on t.spec o) else held (no_holds t.spec) o) (λ o. mode_of (rights_on t.spec o)) 0
+    (length t.spec) (λ j le lt. ap (λ m. if due j then mode_of (rights_on t.spec j) else m) (no_held t.spec j)
+    ∙ mode_due (due j) (mode_of (rights_on t.spec j)) (all j))
+    ∙ all_modes t.spec))
+
+-- ---- takes
+
+module _ (due : Due) (spec : Specification) where
+  nothing_taken : (d : Bool) (m : Option Mode) (j : ℕ) → (if d then is_some m else false) ≡ false → (if d then take_in m j else []) ≡ []
+  nothing_taken false m j h = refl
+  nothing_taken true None j h = refl
+  nothing_taken true (Some m) j h = absurd (true≢false h)
+
+  is_due : (d : Bool) (m : Option Mode) → (if d then is_some m else false) ≡ true → d ≡ true
+  is_due true m h = refl
+  is_due false m h = h
+
+  pub takes_least : (c : Course) (h : Holds) (n o : ℕ) (m : Mode) → TakesLeast due c spec h n o m
+  takes_least c h n o m full least mode vs =
+      let d = is_due (due o) (mode_of (rights_on spec o)) least.here in
+      let f : ℕ → List Event = λ j. if due j then take_in (mode_of (rights_on spec j)) j else [] in
+      let g : ℕ → List Event = λ j. if but o due j then take_in (mode_of (rights_on spec j)) j else [] in
+      let here : f o ≡ Take o m ∷ [] = ap₂ (λ b x. if b then take_in x o else []) d mode in
+      let after : g o ≡ [] = ap (λ b. if b then take_in (mode_of (rights_on spec o)) o else []) (here_but o due) in
+      let first = least_from f g 0 (length spec) o (Take o m) (omega arith) (omega (arith, least.within))
+          (λ j le lt. nothing_taken (due j) (mode_of (rights_on spec j)) j (least.before j lt)) here after
+          (λ j ne. ap (λ b. if b then take_in (mode_of (rights_on spec j)) j else []) (other_but o due j ne)) in
+      let h' = slice_set h o (Some m) in
+      let room : o < length h = subst (λ k. o < k) (sym full) least.within in
+      let at : (j : ℕ) → (j ≡ o) ⊎ (j ≡ o → ⊥) → (if due j then mode_of (rights_on spec j) else held h j)
+          ≡ (if but o due j then mode_of (rights_on spec j) else held h' j) =
+          λ j q. planned_at m h j q d mode room in
+      ap₂ (λ es k. es ++ events c spec k n vs) first (holds_from _ _ 0 (length spec) (λ j le lt. at j (cases_eq j o)))
+    where
+      planned_at : (m : Mode) (h : Holds) (j : ℕ) → (j ≡ o) ⊎ (j ≡ o → ⊥) → due o ≡ true → mode_of (rights_on spec o) ≡ Some m → o < length h
+          → (if due j then mode_of (rights_on spec j) else held h j) ≡ (if but o due j then mode_of (rights_on spec j) else held (slice_set h o (Some m)) j)
+      planned_at m h j (inl e) d mode room =
+          subst (λ i. (if due i then mode_of (rights_on spec i) else held h i) ≡ (if but o due i then mode_of (rights_on spec i) else held (slice_set h o (Some m)) i))
+          (sym e)
+          (ap (λ b. if b then mode_of (rights_on spec o) else held h o) d ∙ mode ∙ sym (get_or-set_same h o (Some m) None room)
+          ∙ ap (λ b. if b then mode_of (rights_on spec o) else held (slice_set h o (Some m)) o) (sym (here_but o due)))
+      planned_at m h j (inr ne) d mode room =
+          ap₂ (λ b x. if b then mode_of (rights_on spec j) else x) (sym (other_but o due j ne)) (sym (get_or-set_other h o j (Some m) None ne))
+
+  nothing_planned : (d : Bool) (m x : Option Mode) → (if d then is_some m else false) ≡ false → (d ≡ true → x ≡ None) → (if d then m else x) ≡ x
+  nothing_planned false m x h free = refl
+  nothing_planned true None x h free = sym (free refl)
+  nothing_planned true (Some m) x h free = absurd (true≢false h)
+
+  pub tells_on : (c : Course) (h : Holds) (n : ℕ) → TellsOn due c spec h n
+  tells_on c h n full none free vs =
+      let same : planned due spec h ≡ h =
+          holds_from (λ o. if due o then mode_of (rights_on spec o) else held h o) (λ o. held h o) 0 (length spec)
+          (λ j le lt. nothing_planned (due j) (mode_of (rights_on spec j)) (held h j) (none j (below j (length spec) lt)) (free j))
+          ∙ ap (λ k. map (λ o. held h o) (numbers 0 k)) (sym full) ∙ all_holds h in
+      ap₂ (λ es k. es ++ events c spec k n vs)
+      (none_from (λ o. if due o then take_in (mode_of (rights_on spec o)) o else []) 0 (length spec)
+      (λ j le lt. nothing_taken (due j) (mode_of (rights_on spec j)) j (none j (below j (length spec) lt)))) same
+
+module _ (spec : Specification) (h : Holds) (n o : ℕ) (m : Mode) (room : o < length h) (free : held h o ≡ None) (mode : mode_of (rights_on spec o) ≡ Some m) where
+  abbrev taken : Holds
+  taken = slice_set h o (Some m)
+
+  takes_it : first_take spec h o ≡ Take o m ∷ []
+  takes_it = ap₂ (λ x y. if is_none x then take_in y o else []) free mode
+
+  takes_no_more : first_take spec taken o ≡ []
+  takes_no_more = ap (λ x. if is_none x then take_in (mode_of (rights_on spec o)) o else []) (get_or-set_same h o (Some m) None room)
+
+  same_touched : touched spec h o ≡ touched spec taken o
+  same_touched = sym (set-set h o (Some m) (mode_of (rights_on spec o)))
+
+  at_read : (c : ℕ) (on : ℤ → Course) (vs : List ℤ) → events (Reads o c on) spec h n vs ≡ Take o m ∷ events (Reads o c on) spec taken n vs
+  at_read c on [] = ap (λ es. es ++ Wants o c ∷ []) takes_it ∙ ap (λ es. Take o m ∷ (es ++ Wants o c ∷ [])) (sym takes_no_more)
+  at_read c on (v ∷ vs) =
+      ap₂ (λ es g. es ++ TouchRead o c v ∷ events (on v) spec g n vs) takes_it same_touched
+      ∙ ap (λ es. Take o m ∷ (es ++ TouchRead o c v ∷ events (on v) spec (touched spec taken o) n vs)) (sym takes_no_more)
+
+  at_write : (c : ℕ) (v : ℤ) (on : Course) (vs : List ℤ) → events (Writes o c v on) spec h n vs ≡ Take o m ∷ events (Writes o c v on) spec taken n vs
+  at_write c v on vs =
+      ap₂ (λ es g. es ++ TouchWrite o c v ∷ events on spec g n vs) takes_it same_touched
+      ∙ ap (λ es. Take o m ∷ (es ++ TouchWrite o c v ∷ events on spec (touched spec taken o) n vs)) (sym takes_no_more)
+
+pub takes_touched : (c : Course) (spec : Specification) (h : Holds) (n o : ℕ) (m : Mode) → TakesTouched c spec h n o m
+takes_touched (Reads p c on) spec h n o m e room free mode vs =
+    subst (λ q. events (Reads q c on) spec h n vs ≡ Take o m ∷ events (Reads q c on) spec (slice_set h o (Some m)) n vs) e (at_read spec h n o m room free mode c on vs)
+takes_touched (Writes p c v on) spec h n o m e room free mode vs =
+    subst (λ q. events (Writes q c v on) spec h n vs ≡ Take o m ∷ events (Writes q c v on) spec (slice_set h o (Some m)) n vs) e
+    (at_write spec h n o m room free mode c v on vs)
+takes_touched (Steps on) spec h n o m e room free mode vs = absurd e
+takes_touched (Creates made body on) spec h n o m e room free mode vs = absurd e
+takes_touched (Changes new on) spec h n o m e room free mode vs = absurd e
+takes_touched (Ends b) spec h n o m e room free mode vs = absurd e
+
+-- ---- gives
+
+module _ (h : Holds) (o : ℕ) where
+  abbrev given : Holds
+  given = slice_set h o None
+
+  held_else : (j : ℕ) → (j ≡ o → ⊥) → held given j ≡ held h j
+  held_else j ne = get_or-set_other h o j None None ne
+
+  -- the least of what is given up, where the test is one of the hold
+  gives_least : (test : Option Mode → ℕ → Bool) (n : ℕ) → ((j : ℕ) → test None j ≡ false) → IsLeast (λ j. test (held h j) j) n o
+      → flat_map (λ j. when (test (held h j) j) (Give j)) (numbers 0 n) ≡ Give o ∷ flat_map (λ j. when (test (held given j) j) (Give j)) (numbers 0 n)
+  gives_least test n none least =
+      least_from (λ j. when (test (held h j) j) (Give j)) (λ j. when (test (held given j) j) (Give j)) 0 n o (Give o) (omega arith) (omega (arith, least.within))
+      (λ j le lt. ap (λ b. when b (Give j)) (least.before j lt)) (ap (λ b. when b (Give o)) least.here)
+      (ap (λ x. when (test x o) (Give o)) (none_held h o) ∙ ap (λ b. when b (Give o)) (none o))
+      (λ j ne. ap (λ x. when (test x j) (Give j)) (held_else j ne))
+
+gives_none : (test : ℕ → Bool) (n : ℕ) → IsNone test n → flat_map (λ j. when (test j) (Give j)) (numbers 0 n) ≡ []
+gives_none test n none = none_from (λ j. when (test j) (Give j)) 0 n (λ j le lt. ap (λ b. when b (Give j)) (none j (below j n lt)))
+
+pub gives_for_child : (made : Specification) (body on : Course) (spec : Specification) (h : Holds) (n o : ℕ) → GivesForChild made body on spec h n o
+gives_for_child made body on spec h n o least vs =
+    ap₂ (λ es k. es ++ enters made ++ Enroll (record { spec = made; course = body }) n ∷ events on spec k 0 vs)
+    (gives_least h o (λ x j. yields x (rights_on made j)) (length made) (λ j. refl) least)
+    (holds_from _ _ 0 (length made) (λ j le lt. at j (cases_eq j o)))
+  where
+    at : (j : ℕ) → (j ≡ o) ⊎ (j ≡ o → ⊥) → (if yields (held h j) (rights_on made j) then None else held h j)
+        ≡ (if yields (held (slice_set h o None) j) (rights_on made j) then None else held (slice_set h o None) j)
+    at j (inl e) =
+        subst (λ i. (if yields (held h i) (rights_on made i) then None else held h i)
+        ≡ (if yields (held (slice_set h o None) i) (rights_on made i) then None else held (slice_set h o None) i)) (sym e)
+        (ap (λ b. if b then None else held h o) least.here ∙ ap (λ x. if yields x (rights_on made o) then None else x) (sym (none_held h o)))
+    at j (inr ne) = ap (λ x. if yields x (rights_on made j) then None else x) (sym (held_else h o j ne))
+
+pub enters_now : (made : Specification) (body on : Course) (spec : Specification) (h : Holds) (n : ℕ) → Enters made body on spec h n
+enters_now made body on spec h n long none vs =
+    let same : kept made h ≡ h =
+        holds_from (λ o. if yields (held h o) (rights_on made o) then None else held h o) (λ o. held h o) 0 (length made)
+        (λ j le lt. ap (λ b. if b then None else held h j) (none j (below j (length made) lt)))
+        ∙ ap (λ k. map (λ o. held h o) (numbers 0 k)) long ∙ all_holds h in
+    ap₂ (λ es k. es ++ enters made ++ Enroll (record { spec = made; course = body }) n ∷ events on spec k 0 vs)
+    (gives_none (for_child made h) (length made) none) same
+
+pub changes_first : (new : Specification) (on : Course) (old : Specification) (h : Holds) (n : ℕ) → ChangesFirst new on old h n
+changes_first new on old h n vs =
+    append_assoc (change_gives new h ++ shifts old new) (takes (due_anew no_due old new h) new) (events on new (planned (due_anew no_due old new h) new h) n vs)
+
+either_true : (a b : Bool) → b ≡ true → (a || b) ≡ true
+either_true true b h = refl
+either_true false b h = h
+
+first_true : (a b : Bool) → a ≡ true → (a || b) ≡ true
+first_true true b h = refl
+first_true false b h = absurd (true≢false (sym h))
+
+pub gives_for_change : (due : Due) (new : Specification) (on : Course) (old : Specification) (h : Holds) (n o : ℕ) → GivesForChange due new on old h n o
+gives_for_change due new on old h n o least vs =
+    ap₂ (λ es rest. es ++ shifts old new ++ rest)
+    (gives_least h o (λ x j. is_some x && not (same_hold x (mode_of (rights_on new j)))) (length new) (λ j. refl) least)
+    (ap₂ (λ es k. es ++ events on new k n vs)
+    (same_from _ _ 0 (length new) (λ j le lt. ap (λ b. if b then take_in (mode_of (rights_on new j)) j else []) (anew j (cases_eq j o))))
+    (holds_from _ _ 0 (length new) (λ j le lt. hold j (cases_eq j o))))
+  where
+    was : due_anew due old new h o ≡ true
+    was = either_true (due o) (taken_anew old new h o) (first_true (given_back new h o) _ least.here)
+
+    is : due_anew (and_also o due) old new (slice_set h o None) o ≡ true
+    is = first_true (and_also o due o) (taken_anew old new (slice_set h o None) o) (here_also o due)
+
+    apart : (j : ℕ) → (j ≡ o → ⊥) → due_anew due old new h j ≡ due_anew (and_also o due) old new (slice_set h o None) j
+    apart j ne = ap₂ (λ b x. b || ((is_some x && not (same_hold x (mode_of (rights_on new j)))) || (is_none x && made_immediate (rights_on old j) (rights_on new j))))
+        (sym (other_also o due j ne)) (sym (held_else h o j ne))
+
+    anew : (j : ℕ) → (j ≡ o) ⊎ (j ≡ o → ⊥) → due_anew due old new h j ≡ due_anew (and_also o due) old new (slice_set h o None) j
+    anew j (inl e) = subst (λ i. due_anew due old new h i ≡ due_anew (and_also o due) old new (slice_set h o None) i) (sym e) (was ∙ sym is)
+    anew j (inr ne) = apart j ne
+
+    hold : (j : ℕ) → (j ≡ o) ⊎ (j ≡ o → ⊥) → (if due_anew due old new h j then mode_of (rights_on new j) else held h j)
+        ≡ (if due_anew (and_also o due) old new (slice_set h o None) j then mode_of (rights_on new j) else held (slice_set h o None) j)
+    hold j (inl e) =
+        subst (λ i. (if due_anew due old new h i then mode_of (rights_on new i) else held h i)
+        ≡ (if due_anew (and_also o due) old new (slice_set h o None) i then mode_of (rights_on new i) else held (slice_set h o None) i)) (sym e)
+        (ap (λ b. if b then mode_of (rights_on new o) else held h o) was ∙ ap (λ b. if b then mode_of (rights_on new o) else held (slice_set h o None) o) (sym is))
+    hold j (inr ne) = ap₂ (λ b x. if b then mode_of (rights_on new j) else x) (apart j ne) (sym (held_else h o j ne))
+
+pub shifts_now : (due : Due) (new : Specification) (on : Course) (old : Specification) (h : Holds) (n : ℕ) → Shifts due new on old h n
+shifts_now due new on old h n none vs =
+    ap (λ es. es ++ shifts old new ++ left_to_tell (due_anew due old new h) on new h n vs) (gives_none (given_back new h) (length new) none)
+
+pub gives_at_end : (b : Option Blame) (spec : Specification) (h : Holds) (n o : ℕ) → GivesAtEnd b spec h n o
+gives_at_end b spec h n o least vs =
+    ap (λ es. es ++ end_leaves spec ++ Resign b n ∷ []) (gives_least h o (λ x j. is_some x) (length spec) (λ j. refl) least)
+
+pub resigns : (b : Option Blame) (spec : Specification) (h : Holds) (n : ℕ) → Resigns b spec h n
+resigns b spec h n none vs = ap (λ es. es ++ end_leaves spec ++ Resign b n ∷ []) (gives_none (is_held h) (length spec) none)

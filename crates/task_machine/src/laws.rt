@@ -1,0 +1,100 @@
+//! What is proved of executions, for whoever stands on them.
+
+ghost use Rattle.std.specs.Prelude.{ℕ, ℤ, List, Option};
+ghost use Rattle.jade_base.specs.declared.report.Blame.{Blame};
+ghost use Rattle.jade_base.specs.declared.rights.Mode.{Mode};
+ghost use Rattle.jade_meaning.specs.Specification.{Specification};
+ghost use Rattle.jade_meaning.specs.Course.{Course};
+ghost use Rattle.jade_meaning.specs.Talk.{Holds, Task};
+ghost use Rattle.jade_base.specs.declared.place.ObjectId.{ObjectId};
+ghost use Rattle.jade_base.specs.declared.rights.Rights.{Rights};
+ghost use Rattle.code_meaning.specs.Meaning.{Slots};
+ghost use Rattle.task_code.specs.Rules.{TaskCode};
+ghost use Rattle.task_machine.specs.Executions.{Execution, IsBegun};
+ghost use Rattle.task_machine.specs.Machines.{BeginsItsTalk, BeginsChild, BeginsCode};
+ghost use Rattle.task_machine.specs.Playing.{Contents};
+ghost use Rattle.task_machine.specs.Telling.{Agrees, TellsAsPlayed};
+ghost use Rattle.task_machine.specs.Left.{Due, BeginsDue, TakesLeast, TellsOn, TakesTouched, GivesForChild, Enters};
+ghost use Rattle.task_machine.specs.Machines.{Machine, NoDue, IsOrdered, PlaysOn, AdvancedGoesOn};
+ghost use Rattle.task_machine.specs.Machines.{DueIsTaken, WantedIsTaken, GivesAndCreates, GivesAndChanges, GivesAndEnds};
+ghost use Rattle.task_machine.specs.Left.{ChangesFirst, GivesForChange, Shifts, GivesAtEnd, Resigns};
+
+use code_meaning::laws::{children_are, root_is};
+
+/// What a task tells of its course is told by what it plays of it with what it holds.
+pub fn tells_as_played()
+    ensures { (c : Course) (spec : Specification) (h : Holds) (k : Contents) (n e : ℕ) → Agrees spec h k → TellsAsPlayed c spec h k n e }
+{}
+
+/// When a task begins, everything that it has a mode for is due.
+pub fn begins_due()
+    ensures { (due : Due) (t : Task) → BeginsDue due t }
+{}
+
+/// What is due is taken by ascending number; where nothing is left to take, the course is told;
+/// an object
+/// that is touched and not held is taken first.
+pub fn takes_in_order()
+    ensures least { (due : Due) (c : Course) (spec : Specification) (h : Holds) (n o : ℕ) (m : Mode) → TakesLeast due c spec h n o m }
+    ensures on { (due : Due) (c : Course) (spec : Specification) (h : Holds) (n : ℕ) → TellsOn due c spec h n }
+    ensures touched { (c : Course) (spec : Specification) (h : Holds) (n o : ℕ) (m : Mode) → TakesTouched c spec h n o m }
+{}
+
+/// What is given up for a child is given up by ascending number, and then the child enters.
+pub fn creates_in_order()
+    ensures gives { (made : Specification) (body on : Course) (spec : Specification) (h : Holds) (n o : ℕ)
+        → GivesForChild made body on spec h n o }
+    ensures enters { (made : Specification) (body on : Course) (spec : Specification) (h : Holds) (n : ℕ) → Enters made body on spec h n }
+{}
+
+/// What is given up for a change of rights is given up by ascending number, and then the entries
+/// follow the rights, and what is due is taken.
+pub fn changes_in_order()
+    ensures first { (new : Specification) (on : Course) (old : Specification) (h : Holds) (n : ℕ) → ChangesFirst new on old h n }
+    ensures gives { (due : Due) (new : Specification) (on : Course) (old : Specification) (h : Holds) (n o : ℕ)
+        → GivesForChange due new on old h n o }
+    ensures shifts { (due : Due) (new : Specification) (on : Course) (old : Specification) (h : Holds) (n : ℕ) → Shifts due new on old h n }
+{}
+
+/// What is held at the end is given up by ascending number, and then the task leaves.
+pub fn ends_in_order()
+    ensures gives { (b : Option Blame) (spec : Specification) (h : Holds) (n o : ℕ) → GivesAtEnd b spec h n o }
+    ensures leaves { (b : Option Blame) (spec : Specification) (h : Holds) (n : ℕ) → Resigns b spec h n }
+{}
+
+/// The least object that is due, or an object that is touched and not held, is taken next.
+pub fn takes_next()
+    ensures due { (m : Machine) → IsOrdered m → DueIsTaken m }
+    ensures wanted { (m : Machine) → IsOrdered m → NoDue m → WantedIsTaken m }
+{}
+
+/// At a creation, at a change of rights and at the end the least object that has to be given up is
+/// given up next, and where there is none, the creation, the change or the end comes next.
+pub fn gives_next()
+    ensures creation { (m : Machine) → IsOrdered m → NoDue m → GivesAndCreates m }
+    ensures change { (m : Machine) → IsOrdered m → GivesAndChanges m }
+    ensures end { (m : Machine) → IsOrdered m → NoDue m → GivesAndEnds m }
+{}
+
+/// Where nothing is due, what is left is told by what is played with what is held, and a task that
+/// goes on to a pause has the same left.
+pub fn plays_on()
+    ensures plays { (m : Machine) → IsOrdered m → NoDue m → PlaysOn m }
+    ensures pauses { (m : Machine) → IsOrdered m → NoDue m → AdvancedGoesOn m }
+{}
+
+/// What is left where an execution begins is its talk.
+pub fn begins_its_talk()
+    ensures { (c : TaskCode) (zs : List ℤ) (limit body : ℕ) (slots : Slots) (entries : List (ObjectId × Rights)) (e : Execution)
+        → IsBegun c zs limit body slots entries e → BeginsItsTalk e }
+{}
+
+/// The child of an execution does what the creator's course says, and the execution of the first
+/// body does what the whole code does.
+pub fn begins_its_course()
+    ensures child { (creator : Execution) (number : ℕ) (e : Execution) → BeginsChild creator number e }
+    ensures code { (c : TaskCode) (zs : List ℤ) (limit : ℕ) (entries : List (ObjectId × Rights)) (e : Execution) → BeginsCode c zs limit entries e }
+{
+    children_are();
+    root_is();
+}
