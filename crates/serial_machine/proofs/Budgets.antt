@@ -1,26 +1,43 @@
 -- A task that may begin more steps than are left of the whole run comes to the same as one that may begin just as many.
-use Rattle.std.proofs.Common.{◌≡◌, ℕ, zero, suc, ◌+◌, ◌-◌, ◌≤◌, ◌<◌, List, [], ◌∷◌, Option, Some, None, Bool, true, false, refl, sym, ap, ◌∙◌, arith}
+use Rattle.std.proofs.Common.{◌≡◌, ℕ, zero, suc, ◌+◌, ◌-◌, ◌≤◌, List, [], ◌∷◌, Option, Some, None, Bool, true, false, refl, ap, arith}
 use Rattle.std.specs.Prelude.{ℤ, pos, int_lt, replicate}
 use Rattle.jade_base.specs.declared.place.Pos.{Pos}
 use Rattle.jade_base.specs.declared.report.Blame.{Blame}
-use Rattle.jade_base.specs.declared.report.FaultKind.{FaultKind}
 use Rattle.jade_base.specs.declared.report.FaultKind.TheVariants.{Index, Object, Right as RightFault, Cover, Change}
 use Rattle.jade_base.specs.Rights.{is_immediate, no_rights}
 use Rattle.jade_meaning.specs.declared.values.Value.{Value}
 use Rattle.jade_meaning.specs.declared.values.Value.TheVariants.{IntOf}
 use Rattle.jade_meaning.specs.Values.{Given, Gives, Fails, operated, decides, signed, whole, holds, is_index, magnitude}
 use Rattle.jade_meaning.specs.Specification.{Specification, rights_on, covers, fitted}
-use Rattle.jade_meaning.specs.Changes.{declared, amended}
+use Rattle.jade_meaning.specs.Changes.{amended}
 use Rattle.jade_syntax.specs.declared.tree.DeclareWord.{DeclareWord}
 use Rattle.jade_base.specs.declared.rights.Rights.{Rights}
 use Rattle.jade_meaning.specs.Serial.{Path}
-use Rattle.jade_meaning.specs.Course.{Course, Reads, Writes, Steps, Creates, Changes, Ends, Draft, NoDraft, Building, Amending, drafted, working, Mine, On, choose, given}
+use Rattle.jade_meaning.specs.Course.{
+  Course,
+  Reads,
+  Writes,
+  Steps,
+  Creates,
+  Changes,
+  Ends,
+  Draft,
+  NoDraft,
+  Building,
+  Amending,
+  drafted,
+  working,
+  Mine,
+  On,
+  choose,
+  given,
+}
 use Rattle.jade_meaning.specs.Course.{fault, limit_blame, read_cell, write_cell, declare, amend}
 use Rattle.code_meaning.specs.declared.code.Instruction.{Instruction}
 use Rattle.code_meaning.specs.declared.code.Instruction.TheVariants as i
 use Rattle.code_meaning.specs.declared.code.Operand.{Operand}
-use Rattle.code_meaning.specs.Meaning.{Slots, Go, Children, worth, with_slot, nowhere, own, either, operator, logical, turned, turn, bumped, onward, member_at, cell_at, act}
-use Rattle.code_meaning.specs.Meaning.{goings, from_place, stepped, lowered}
+use Rattle.code_meaning.specs.Meaning.{Slots, Go, Children, worth, with_slot, own, either, operator, logical, turned, bumped, onward, member_at, cell_at, act}
+use Rattle.code_meaning.specs.Meaning.{goings, from_place}
 use Rattle.task_machine.specs.Playing.{Contents}
 use Rattle.serial_machine.specs.steps.Settles.{settles, Alike}
 use Rattle.serial_machine.specs.steps.Budget.{AlikeGo, AlikeLower}
@@ -32,14 +49,15 @@ then_slot next t ss spec d v = next (with_slot t (whole v) ss) spec d
 module _ {A : Type 0} (pause : A → A) where
   -- what follows a task is asked with no more steps than it had
   pub ok_alike : (c : Course) (k left : ℕ) (s : Contents) (bad : Path → Blame → A) (ok go : ℕ → Contents → A)
-        → ((less : ℕ) (t : Contents) → less ≤ left → ok less t ≡ go less t) → settles pause c k left s bad ok ≡ settles pause c k left s bad go
+      → ((less : ℕ) (t : Contents) → less ≤ left → ok less t ≡ go less t) → settles pause c k left s bad ok ≡ settles pause c k left s bad go
   ok_alike (Reads o c on) k left s bad ok go h = ok_alike (on _) k left s bad ok go h
   ok_alike (Writes o c v on) k left s bad ok go h = ok_alike on k left _ bad ok go h
   ok_alike (Steps on) k zero s bad ok go h = refl
   ok_alike (Steps on) k (suc left) s bad ok go h = ok_alike on k left s bad ok go (λ less t le. h less t (omega (arith, le)))
   ok_alike (Creates child body on) k left s bad ok go h =
-      ap pause (ok_alike body 0 left s (λ p b. bad (k ∷ p) b) (λ less t. settles pause on (suc k) less t bad ok) (λ less t. settles pause on (suc k) less t bad go)
-        (λ less t le. ok_alike on (suc k) less t bad ok go (λ l u lt. h l u (omega (arith, le, lt)))))
+      ap pause (ok_alike body 0 left s (λ p b. bad (k ∷ p) b) (λ less t. settles pause on (suc k) less t bad ok)
+      (λ less t. settles pause on (suc k) less t bad go)
+      (λ less t le. ok_alike on (suc k) less t bad ok go (λ l u lt. h l u (omega (arith, le, lt)))))
   ok_alike (Changes new on) k left s bad ok go h = ap pause (ok_alike on k left s bad ok go h)
   ok_alike (Ends None) k left s bad ok go h = ap pause (h left s (omega arith))
   ok_alike (Ends (Some b)) k left s bad ok go h = refl
@@ -59,9 +77,12 @@ module _ {A : Type 0} (pause : A → A) where
 
     creates_alike : (spec : Specification) (body f g : Course) → Same f g → Same (Creates spec body f) (Creates spec body g)
     creates_alike spec body f g h =
-        record { same = λ k left s bad ok le.
-          ap pause (ok_alike body 0 left s (λ p b. bad (k ∷ p) b) (λ less t. settles pause f (suc k) less t bad ok) (λ less t. settles pause g (suc k) less t bad ok)
-            (λ less t lt. h.same (suc k) less t bad ok (omega (arith, le, lt)))) }
+        record {
+          same = λ k left s bad ok le.
+              ap pause (ok_alike body 0 left s (λ p b. bad (k ∷ p) b) (λ less t. settles pause f (suc k) less t bad ok)
+              (λ less t. settles pause g (suc k) less t bad ok)
+              (λ less t lt. h.same (suc k) less t bad ok (omega (arith, le, lt))));
+        }
 
     changes_alike : (spec : Specification) (f g : Course) → Same f g → Same (Changes spec f) (Changes spec g)
     changes_alike spec f g h = record { same = λ k left s bad ok le. ap pause (h.same k left s bad ok le) }
@@ -78,11 +99,13 @@ module _ {A : Type 0} (pause : A → A) where
     either_alike true f g x y h e = h
     either_alike false f g x y h e = e
 
-    amend_alike : (a : Option Rights) (spec : Specification) (o : ℕ) (at : Pos) (f g : On) (m : Mine) → ((n : Mine) → Same (f n) (g n)) → Same (amend a spec o at f m) (amend a spec o at g m)
+    amend_alike : (a : Option Rights) (spec : Specification) (o : ℕ) (at : Pos) (f g : On) (m : Mine) → ((n : Mine) → Same (f n) (g n)) →
+        Same (amend a spec o at f m) (amend a spec o at g m)
     amend_alike None spec o at f g m h = same (fault Change at m)
     amend_alike (Some a) spec o at f g m h = h _
 
-    declare_alike : (d : Draft) (how : DeclareWord) (o : ℕ) (at : Pos) (f g : On) (m : Mine) → ((n : Mine) → Same (f n) (g n)) → Same (declare d how o at f m) (declare d how o at g m)
+    declare_alike : (d : Draft) (how : DeclareWord) (o : ℕ) (at : Pos) (f g : On) (m : Mine) → ((n : Mine) → Same (f n) (g n)) →
+        Same (declare d how o at f m) (declare d how o at g m)
     declare_alike NoDraft how o at f g m h = h m
     declare_alike (Building spec) how o at f g m h = h _
     declare_alike (Amending spec) how o at f g m h = amend_alike (amended how (rights_on spec o)) spec o at f g m h
@@ -98,18 +121,18 @@ module _ {A : Type 0} (pause : A → A) where
         (writes_alike o c z (f m) (g m) h)
 
     member_alike : (first count : ℕ) (k : Operand) (at : Pos) (f g : ℕ → Course) (ss : Slots) (m : Mine) → ((o : ℕ) → Same (f o) (g o))
-          → Same (member_at first count k at f ss m) (member_at first count k at g ss m)
+        → Same (member_at first count k at f ss m) (member_at first count k at g ss m)
     member_alike first count k at f g ss m h =
         choose_alike (is_index (worth k ss) count) (λ n. f (first + magnitude (worth k ss))) (λ n. g (first + magnitude (worth k ss))) (fault Object at) m (h _)
 
     cell_alike : (size : ℕ) (c : Operand) (at : Pos) (f g : ℕ → Mine → Course) (ss : Slots) (m : Mine) → ((o : ℕ) → Same (f o m) (g o m))
-          → Same (cell_at size c at f ss m) (cell_at size c at g ss m)
+        → Same (cell_at size c at f ss m) (cell_at size c at g ss m)
     cell_alike size c at f g ss m h =
         choose_alike (is_index (worth c ss) size) (f (magnitude (worth c ss))) (g (magnitude (worth c ss))) (fault Index at) m (h _)
 
     module _ (child : Children) (l r : Option (ℕ → Go)) (below : AlikeLower pause most l r) where
       act_alike : (x : Instruction) (pc : ℕ) (n m : Go) (a b : ℕ → Go) → AlikeGo pause most n m → ((j : ℕ) → AlikeGo pause most (a j) (b j))
-            → AlikeGo pause most (act child x l pc n a) (act child x r pc m b)
+          → AlikeGo pause most (act child x l pc n a) (act child x r pc m b)
       act_alike i.Step pc n m a b hn ha ss spec d = below (pc + 1) ss spec d
       act_alike (i.Set t o) pc n m a b hn ha ss spec d = hn (with_slot t (worth o ss) ss) spec d
       act_alike (i.Sign sign t k at) pc n m a b hn ha ss spec d =
@@ -127,17 +150,19 @@ module _ {A : Type 0} (pause : A → A) where
           either_alike (int_lt z (ss (base + 1))) _ _ n m (below (pc - back)) hn (turned base z ss) spec d
       act_alike (i.Member first count t k at) pc n m a b hn ha ss spec d =
           member_alike first count k at _ _ ss (own spec d) (λ o. hn (with_slot t (pos o) ss) spec d)
-      act_alike (i.Within size k at) pc n m a b hn ha ss spec d = cell_alike size k at (λ c q. n ss spec d) (λ c q. m ss spec d) ss (own spec d) (λ c. hn ss spec d)
+      act_alike (i.Within size k at) pc n m a b hn ha ss spec d = cell_alike size k at (λ c q. n ss spec d) (λ c q. m ss spec d) ss (own spec d)
+          (λ c. hn ss spec d)
       act_alike (i.Reach first count size t k c at) pc n m a b hn ha ss spec d =
-          member_alike first count k at _ _ ss (own spec d) (λ o. cell_alike size c at (λ j q. n (with_slot t (pos o) ss) spec d) (λ j q. m (with_slot t (pos o) ss) spec d) ss (own spec d)
-            (λ j. hn (with_slot t (pos o) ss) spec d))
+          member_alike first count k at _ _ ss (own spec d)
+          (λ o. cell_alike size c at (λ j q. n (with_slot t (pos o) ss) spec d) (λ j q. m (with_slot t (pos o) ss) spec d) ss (own spec d)
+          (λ j. hn (with_slot t (pos o) ss) spec d))
       act_alike (i.ReadOf o size t c at) pc n m a b hn ha ss spec d =
           cell_alike size c at (λ j q. read_cell o j at q (then_slot n t ss spec d)) (λ j q. read_cell o j at q (then_slot m t ss spec d)) ss (own spec d)
           (λ j. read_alike o j at (own spec d) (then_slot n t ss spec d) (then_slot m t ss spec d) (λ v. hn (with_slot t (whole v) ss) spec d))
       act_alike (i.ReadIn first count size t k c at) pc n m a b hn ha ss spec d =
           member_alike first count k at _ _ ss (own spec d)
           (λ o. cell_alike size c at (λ j q. read_cell o j at q (then_slot n t ss spec d)) (λ j q. read_cell o j at q (then_slot m t ss spec d)) ss (own spec d)
-            (λ j. read_alike o j at (own spec d) (then_slot n t ss spec d) (then_slot m t ss spec d) (λ v. hn (with_slot t (whole v) ss) spec d)))
+          (λ j. read_alike o j at (own spec d) (then_slot n t ss spec d) (then_slot m t ss spec d) (λ v. hn (with_slot t (whole v) ss) spec d)))
       act_alike (i.Read size t o c at) pc n m a b hn ha ss spec d =
           let p = magnitude (ss o) in
           cell_alike size c at (λ j q. read_cell p j at q (then_slot n t ss spec d)) (λ j q. read_cell p j at q (then_slot m t ss spec d)) ss (own spec d)
@@ -170,7 +195,7 @@ module _ {A : Type 0} (pause : A → A) where
   no_step l f = record { same = λ k left s bad ok le. none k left s bad ok le }
     where
       none : (k left : ℕ) (s : Contents) (bad : Path → Blame → A) (ok : ℕ → Contents → A) → left ≤ 0
-            → settles pause (Ends (Some limit_blame)) k left s bad ok ≡ settles pause (Steps f) k left s bad ok
+          → settles pause (Ends (Some limit_blame)) k left s bad ok ≡ settles pause (Steps f) k left s bad ok
       none k zero s bad ok le = refl
       none k (suc left) s bad ok le = absurd (omega (arith, le))
 
@@ -178,12 +203,12 @@ module _ {A : Type 0} (pause : A → A) where
   one_step most f g h = record { same = λ k left s bad ok le. one k left s bad ok le }
     where
       one : (k left : ℕ) (s : Contents) (bad : Path → Blame → A) (ok : ℕ → Contents → A) → left ≤ suc most
-            → settles pause (Steps f) k left s bad ok ≡ settles pause (Steps g) k left s bad ok
+          → settles pause (Steps f) k left s bad ok ≡ settles pause (Steps g) k left s bad ok
       one k zero s bad ok le = refl
       one k (suc left) s bad ok le = h.same k left s bad ok (omega (arith, le))
 
   pub from_alike : (child : Children) (code : List Instruction) (most more : ℕ) → most ≤ more → (pc : ℕ)
-        → AlikeGo pause most (from_place child code most pc) (from_place child code more pc)
+      → AlikeGo pause most (from_place child code most pc) (from_place child code more pc)
   from_alike child code zero zero le pc ss spec d = same 0 (from_place child code zero pc ss spec d)
   from_alike child code zero (suc more) le pc ss spec d =
       goings_alike 0 child None (Some (from_place child code more)) (λ p ss spec d. no_step more (from_place child code more p ss spec d)) code 0 pc

@@ -1,7 +1,7 @@
 -- The cells of objects that are held.
-use Rattle.std.proofs.Common.{◌≡◌, ℕ, zero, suc, ◌+◌, ◌<◌, ◌≤◌, List, [], ◌∷◌, ◌++◌, map, length, Option, Some, None, refl, sym, ap, ◌∙◌, subst, arith}
+use Rattle.std.proofs.Common.{◌≡◌, ℕ, zero, suc, ◌+◌, ◌<◌, ◌≤◌, List, [], ◌∷◌, ◌++◌, map, length, Some, None, refl, sym, ap, ◌∙◌, subst, arith}
 use Rattle.std.proofs.Common.{cond, length-set}
-use Rattle.std.specs.Prelude.{ℤ, pos, slice_get, slice_set, replicate}
+use Rattle.std.specs.Prelude.{ℤ, slice_get}
 use Rattle.std.proofs.lemmas.Option.{none-some, same_Some}
 use Rattle.jade_base.specs.declared.rights.Mode.{Mode}
 use Rattle.jade_base.specs.declared.rights.Mode.TheVariants.{Reading, Writing, Commuting}
@@ -12,6 +12,7 @@ use Rattle.task_machine.specs.Playing.{Contents}
 use Rattle.task_machine.specs.Whole.{held_of, all_held, without}
 use Rattle.std.proofs.lemmas.Bool.{ne_eqb}
 use Rattle.serial_machine.specs.steps.Pausing.{mode_in, AllHeld}
+use Rattle.serial_machine.proofs.Pausing.{is_reading}
 use Rattle.serial_machine.specs.steps.Cells.{cells_in, cells_held}
 
 tab_next : (f : ℕ → List ℤ) (i n : ℕ) → map f (numbers i (suc n)) ≡ map f (numbers i n) ++ f (i + n) ∷ []
@@ -39,11 +40,6 @@ one_taken i k old new e h o le =
 -- an object that is held for writing
 pub no_content : (n o : ℕ) (k : Contents) → AllHeld n k → o < n → k o ≡ None → ⊥
 no_content n o k h lt e = none-some Writing (sym (ap mode_in e) ∙ h.held o lt)
-
-abbrev is_reading : Mode → Type 0
-is_reading Reading = Unit {0}
-is_reading Writing = ⊥
-is_reading Commuting = ⊥
 
 pub for_writing : (n o : ℕ) (k : Contents) (x : Held) → AllHeld n k → o < n → k o ≡ Some x → x.mode ≡ Reading → ⊥
 for_writing n o k x h lt e r = reading (sym r ∙ same_Some x.mode Writing (sym (ap mode_in e) ∙ h.held o lt))

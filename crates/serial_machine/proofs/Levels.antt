@@ -1,16 +1,14 @@
 -- A run by its levels.
-use Rattle.std.proofs.Common.{◌≡◌, ℕ, zero, suc, ◌+◌, ◌<◌, ◌≤◌, List, [], ◌∷◌, ◌++◌, map, length, Option, Some, None, refl, sym, ap, ap₂, ◌∙◌, subst, arith}
-use Rattle.std.specs.Prelude.{ℤ, pos, slice_get, replicate}
+use Rattle.std.proofs.Common.{◌≡◌, ℕ, suc, ◌+◌, ◌<◌, ◌≤◌, List, [], ◌∷◌, ◌++◌, map, length, Some, None, refl, sym, ap, ◌∙◌, subst, arith}
+use Rattle.std.specs.Prelude.{ℤ, slice_get}
 use Rattle.std.proofs.lemmas.List.{map-append}
-use Rattle.jade_base.specs.declared.place.Pos.{Pos}
 use Rattle.jade_base.specs.declared.report.Blame.{Blame}
 use Rattle.jade_meaning.specs.Specification.{Specification}
 use Rattle.jade_meaning.specs.Spread.{spread}
 use Rattle.jade_meaning.specs.Course.{Course, Creates, Changes, Ends, NoDraft}
 use Rattle.jade_meaning.specs.Laws.{Every}
-use Rattle.code_meaning.specs.declared.code.Instruction.{Instruction}
 use Rattle.code_meaning.specs.declared.code.Instruction.TheVariants as i
-use Rattle.code_meaning.specs.Meaning.{Body, Children, Slots, passed, from_place, body_going}
+use Rattle.code_meaning.specs.Meaning.{Children, Slots, passed, from_place}
 use Rattle.task_code.specs.Rules.{TaskCode, Valid}
 use Rattle.task_machine.proofs.Executing.{creates}
 use Rattle.std.proofs.lemmas.Option.{slice_get-get_or, slice_get_within}
@@ -20,23 +18,20 @@ use Rattle.task_machine.specs.Playing.{Contents}
 use Rattle.task_machine.specs.Stages.{slots_of, copy_spread}
 use Rattle.task_machine.specs.Executions.{body_at}
 use Rattle.task_machine.specs.steps.Owning.{rights_of, draft_of}
-use Rattle.task_machine.specs.steps.Running.{going, going_from}
-use Rattle.task_machine.specs.steps.Executing.{IsReady}
 use Rattle.serial_machine.specs.declared.going.Stop.{Stop}
 use Rattle.serial_machine.specs.declared.going.Stop.TheVariants as stop
 use Rattle.serial_machine.specs.declared.level.Level.{Level}
 use Rattle.serial_machine.specs.declared.stack.Stack.{Stack}
 use Rattle.serial_machine.specs.declared.stack.Progress.{Progress}
 use Rattle.serial_machine.specs.declared.stack.Progress.TheVariants as progress
-use Rattle.serial_machine.specs.steps.Settles.{Ending, Fault, Whole, settles, Alike}
+use Rattle.serial_machine.specs.steps.Settles.{Fault, Whole, settles}
 use Rattle.code_meaning.specs.Children.{children_of}
 use Rattle.serial_machine.specs.steps.Stack.{Counted, once_more, Next, Waiting, after_child, following, at_end, comes_to}
-use Rattle.serial_machine.specs.steps.Pausing.{AllHeld, GoesOn, Stops, StopTells}
-use Rattle.serial_machine.specs.steps.Levels.{code_in, course_with, waits, total, Ready, Fits, Begins, BeginsChild, Passes, resumed, Pops, Pushes, Proceeds, ComesTo}
+use Rattle.serial_machine.specs.steps.Pausing.{AllHeld, Stops, StopTells}
+use Rattle.serial_machine.specs.steps.Levels.{code_in, course_with, waits, total, Ready, Fits, Passes, Pops, Pushes, ComesTo}
 use Rattle.serial_machine.proofs.Budgets.{ok_alike, from_alike}
 use Rattle.serial_machine.proofs.Stacking.{newest_waits, fault_is}
 use Rattle.code_meaning.proofs.Numbered.{children_are}
-use Rattle.serial_machine.proofs.Pausing.{all_held}
 
 every_end : {A : Type 0} (P : A → Type 0) (xs : List A) (x : A) → Every P (xs ++ x ∷ []) → Every P xs × P x
 every_end P [] x h = (tt, h.0)
@@ -80,15 +75,15 @@ module _ (c : TaskCode) (zs : List ℤ) where
     on_is n =
         let q = p.passes in
         let after : Level → Specification → Course = λ v spec. from_place (children_of zs limit c.bodies v.body) (code_in c v) n (old.frame.place + 1)
-            (slots_of old.frame.slots.items) spec NoDraft in
+        (slots_of old.frame.slots.items) spec NoDraft in
         ap (λ b. from_place (children_of zs limit c.bodies b) (body_at c b).code n (old.frame.place + 1) (slots_of old.frame.slots.items) (rights_of old.own)
-          NoDraft) (sym q.body_is)
+        NoDraft) (sym q.body_is)
         ∙ ap (λ (f : Frame). from_place (children_of zs limit c.bodies p.parent.body) (code_in c p.parent) n f.place (slots_of f.slots.items)
-          (rights_of old.own) NoDraft) (sym q.frame_is)
+        (rights_of old.own) NoDraft) (sym q.frame_is)
         ∙ ap (λ sp. from_place (children_of zs limit c.bodies p.parent.body) (code_in c p.parent) n p.parent.frame.place
-          (slots_of p.parent.frame.slots.items) sp NoDraft) (sym q.owns.rights_are)
+        (slots_of p.parent.frame.slots.items) sp NoDraft) (sym q.owns.rights_are)
         ∙ ap (λ d. from_place (children_of zs limit c.bodies p.parent.body) (code_in c p.parent) n p.parent.frame.place
-          (slots_of p.parent.frame.slots.items) (rights_of p.parent.own) d) (sym q.owns.draft_is)
+        (slots_of p.parent.frame.slots.items) (rights_of p.parent.own) d) (sym q.owns.draft_is)
 
     -- what the child does
     abbrev body : ℕ → Course
@@ -100,14 +95,14 @@ module _ (c : TaskCode) (zs : List ℤ) where
     body_is =
         let q = p.child in
         ap (λ n. from_place (children_of zs limit c.bodies n) (body_at c n).code left 0 (passed zs (body_at c number).call (slots_of old.frame.slots.items))
-          made NoDraft) (sym q.body_is)
+        made NoDraft) (sym q.body_is)
         ∙ ap (λ ss. from_place (children_of zs limit c.bodies new.level.body) (code_in c new.level) left 0 ss made NoDraft) (sym q.slots_are)
         ∙ ap (λ sp. from_place (children_of zs limit c.bodies new.level.body) (code_in c new.level) left 0 (slots_of new.level.frame.slots.items) sp NoDraft)
-          (sym q.owns.rights_are)
+        (sym q.owns.rights_are)
         ∙ ap (λ d. from_place (children_of zs limit c.bodies new.level.body) (code_in c new.level) left 0 (slots_of new.level.frame.slots.items)
-          (rights_of new.level.own) d) (sym q.owns.draft_is)
+        (rights_of new.level.own) d) (sym q.owns.draft_is)
         ∙ ap (λ pc. from_place (children_of zs limit c.bodies new.level.body) (code_in c new.level) left pc (slots_of new.level.frame.slots.items)
-          (rights_of new.level.own) (draft_of new.level.own)) (sym q.place_is)
+        (rights_of new.level.own) (draft_of new.level.own)) (sym q.place_is)
         ∙ ap (λ n. course_with c zs limit new.level n) (sym q.left_is)
 
     -- what follows the child
@@ -115,7 +110,7 @@ module _ (c : TaskCode) (zs : List ℤ) where
         ≡ comes_to (course_with c zs limit p.parent less) (suc p.parent.children) less t behind_old
     next_is less t h =
         sym ((from_alike once_more child (code_in c old) less left h (old.frame.place + 1) (slots_of old.frame.slots.items) (rights_of old.own) NoDraft).same
-          (suc old.children) less t behind_old.bad behind_old.ok (omega arith))
+        (suc old.children) less t behind_old.bad behind_old.ok (omega arith))
         ∙ ap (λ d. comes_to d (suc old.children) less t behind_old) (on_is less)
         ∙ ap (λ n. comes_to (course_with c zs limit p.parent less) (suc n) less t behind_old) (sym p.passes.children_are)
 
@@ -128,20 +123,21 @@ module _ (c : TaskCode) (zs : List ℤ) where
         let bad : List ℕ → Blame → Counted = λ q b. x.bad (old.children ∷ q) b in
         let ok : ℕ → Contents → Counted = λ less t. comes_to (on left) (suc old.children) less t x in
         let after = after_child (waits c zs limit p.parent) x in
-        let e : child number ss made ≡ body limit = ap (λ (f : Slots → Specification → Course). f ss made) (children_are zs limit c.bodies old.body number (body_at c number) lt there) in
+        let e : child number ss made ≡
+        body limit = ap (λ (f : Slots → Specification → Course). f ss made) (children_are zs limit c.bodies old.body number (body_at c number) lt there) in
         let z = p.child.left_is in
         ap (λ d. comes_to d old.children left k x) going_is
         ∙ ap once_more (
-          ap (λ d. settles once_more d 0 left k bad ok) e
-          ∙ sym ((from_alike once_more (children_of zs limit c.bodies number) (body_at c number).code left limit le 0 (passed zs (body_at c number).call ss) made
-            NoDraft).same 0 left k bad ok (omega arith))
-          ∙ ok_alike once_more (body left) 0 left k bad ok after.ok (λ less t h. next_is less t h)
-          ∙ ap (λ n. settles once_more (body left) 0 left k (λ q b. x.bad (n ∷ q) b) after.ok) (sym p.passes.children_are)
-          ∙ ap (λ d. comes_to d 0 left k after) body_is
-          ∙ ap (λ n. comes_to (course_with c zs limit new.level new.level.frame.left) n left k after) (sym p.child.children_are)
-          ∙ ap (λ n. comes_to (course_with c zs limit new.level new.level.frame.left) new.level.children n k after) (sym z)
-          ∙ ap (comes_to (course_with c zs limit new.level new.level.frame.left) new.level.children new.level.frame.left k)
-            (sym (behind limit s.waiting.items p.parent) ∙ ap (λ vs. following (map (waits c zs limit) vs) at_end) (sym p.waiting)))
+        ap (λ d. settles once_more d 0 left k bad ok) e
+        ∙ sym ((from_alike once_more (children_of zs limit c.bodies number) (body_at c number).code left limit le 0 (passed zs (body_at c number).call ss) made
+        NoDraft).same 0 left k bad ok (omega arith))
+        ∙ ok_alike once_more (body left) 0 left k bad ok after.ok (λ less t h. next_is less t h)
+        ∙ ap (λ n. settles once_more (body left) 0 left k (λ q b. x.bad (n ∷ q) b) after.ok) (sym p.passes.children_are)
+        ∙ ap (λ d. comes_to d 0 left k after) body_is
+        ∙ ap (λ n. comes_to (course_with c zs limit new.level new.level.frame.left) n left k after) (sym p.child.children_are)
+        ∙ ap (λ n. comes_to (course_with c zs limit new.level new.level.frame.left) new.level.children n k after) (sym z)
+        ∙ ap (comes_to (course_with c zs limit new.level new.level.frame.left) new.level.children new.level.frame.left k)
+        (sym (behind limit s.waiting.items p.parent) ∙ ap (λ vs. following (map (waits c zs limit) vs) at_end) (sym p.waiting)))
 
   -- ---- a task ends
 
@@ -183,9 +179,9 @@ module _ (c : TaskCode) (zs : List ℤ) where
 
   pub changed : (limit : ℕ) (s : Stack) (k : Contents) (new : Level) → Passes s.level new (copy_spread s.level.own.objects s.level.own.spec)
       → course_with c zs limit s.level s.level.frame.left
-        ≡ Changes (copy_spread s.level.own.objects s.level.own.spec)
-          (from_place (children_of zs limit c.bodies s.level.body) (code_in c s.level) s.level.frame.left (s.level.frame.place + 1)
-          (slots_of s.level.frame.slots.items) (copy_spread s.level.own.objects s.level.own.spec) NoDraft)
+      ≡ Changes (copy_spread s.level.own.objects s.level.own.spec)
+      (from_place (children_of zs limit c.bodies s.level.body) (code_in c s.level) s.level.frame.left (s.level.frame.place + 1)
+      (slots_of s.level.frame.slots.items) (copy_spread s.level.own.objects s.level.own.spec) NoDraft)
       → total c zs limit s k ≡ once_more (total c zs limit (record s { level = new }) k)
   changed limit s k new q going_is =
       let x = following (map (waits c zs limit) s.waiting.items) at_end in
@@ -193,13 +189,13 @@ module _ (c : TaskCode) (zs : List ℤ) where
       let old = s.level in
       ap (λ d. comes_to d old.children old.frame.left k x) going_is
       ∙ ap (λ b. once_more (comes_to (from_place (children_of zs limit c.bodies b) (body_at c b).code old.frame.left (old.frame.place + 1)
-        (slots_of old.frame.slots.items) rights NoDraft) old.children old.frame.left k x)) (sym q.body_is)
+      (slots_of old.frame.slots.items) rights NoDraft) old.children old.frame.left k x)) (sym q.body_is)
       ∙ ap (λ (f : Frame). once_more (comes_to (from_place (children_of zs limit c.bodies new.body) (code_in c new) f.left f.place
-        (slots_of f.slots.items) rights NoDraft) old.children f.left k x)) (sym q.frame_is)
+      (slots_of f.slots.items) rights NoDraft) old.children f.left k x)) (sym q.frame_is)
       ∙ ap (λ sp. once_more (comes_to (from_place (children_of zs limit c.bodies new.body) (code_in c new) new.frame.left new.frame.place
-        (slots_of new.frame.slots.items) sp NoDraft) old.children new.frame.left k x)) (sym q.owns.rights_are)
+      (slots_of new.frame.slots.items) sp NoDraft) old.children new.frame.left k x)) (sym q.owns.rights_are)
       ∙ ap (λ d. once_more (comes_to (from_place (children_of zs limit c.bodies new.body) (code_in c new) new.frame.left new.frame.place
-        (slots_of new.frame.slots.items) (rights_of new.own) d) old.children new.frame.left k x)) (sym q.owns.draft_is)
+      (slots_of new.frame.slots.items) (rights_of new.own) d) old.children new.frame.left k x)) (sym q.owns.draft_is)
       ∙ ap (λ n. once_more (comes_to (course_with c zs limit new new.frame.left) n new.frame.left k x)) (sym q.children_are)
 
 -- ---- from one stop to the next
@@ -215,7 +211,8 @@ module _ (c : TaskCode) (zs : List ℤ) (s : Stack) (k : Contents) (fits : Fits 
         stops.on.same (children_of zs limit c.bodies s.level.body) s.level.children (following (map (waits c zs limit) s.waiting.items) at_end)
 
     pub mid_ready : Ready c zs mid.level
-    mid_ready = record { there = fits.runs.there; slots = stops.on.slots ∙ fits.runs.slots; numbers = fits.runs.numbers; objects = stops.on.objects ∙ fits.runs.objects }
+    mid_ready = record
+        { there = fits.runs.there; slots = stops.on.slots ∙ fits.runs.slots; numbers = fits.runs.numbers; objects = stops.on.objects ∙ fits.runs.objects }
 
     mid_held : AllHeld (length c.sizes) l
     mid_held = record { held = λ o lt. stops.on.modes o ∙ fits.held.held o lt }

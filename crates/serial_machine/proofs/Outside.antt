@@ -1,11 +1,11 @@
 -- A child that is created, and a change that is made, outside of a section for it.
-use Rattle.std.proofs.Common.{◌≡◌, ℕ, ◌+◌, ◌<◌, List, length, Bool, true, false, Option, Some, refl, sym, ap, ap₂, ◌∙◌, subst}
+use Rattle.std.proofs.Common.{◌≡◌, ℕ, ◌+◌, ◌<◌, List, length, Bool, true, false, Some, refl, sym, ap, ◌∙◌, subst}
 use Rattle.std.specs.Prelude.{slice_get}
 use Rattle.jade_base.specs.declared.place.Pos.{Pos}
 use Rattle.jade_base.specs.declared.report.FaultKind.TheVariants.{Cover}
 use Rattle.jade_meaning.specs.Specification.{Specification, covers, fitted}
 use Rattle.jade_meaning.specs.Spread.{spread}
-use Rattle.jade_meaning.specs.Course.{Course, Creates, Changes, Ends, Draft, NoDraft, Building, Amending, drafted, working, Mine, On, choose, fault}
+use Rattle.jade_meaning.specs.Course.{Course, Creates, Changes, Ends, NoDraft, Building, Amending, drafted, working, Mine, On, choose, fault}
 use Rattle.code_meaning.specs.declared.code.Instruction.{Instruction}
 use Rattle.code_meaning.specs.declared.code.Instruction.TheVariants as i
 use Rattle.code_meaning.specs.Meaning.{Slots, Children, from_place, own}
@@ -47,7 +47,7 @@ module _ (code : List Instruction) (f : Frame) where
         let made = fitted (rights_of w) (drafted (draft_of w)) in
         comes_to child code f.left f.place ss (rights_of w) (draft_of w) (i.Create number at) here
         ∙ chosen (covers (rights_of w) made) (λ m. Creates made (child number ss made) (from_place child code f.left (f.place + 1) ss (rights_of w) NoDraft)) at
-          (own (rights_of w) (draft_of w))
+        (own (rights_of w) (draft_of w))
 
     module _ (w u : Own) (keeps : KeepsRights w u) (begun : draft_of u ≡ Building (fitted (rights_of w) (drafted (draft_of w)))) where
       abbrev made : Specification
@@ -75,7 +75,7 @@ module _ (code : List Instruction) (f : Frame) where
           (at, here),
           now_is child
               ∙ ap (λ b. one_of b (Creates (spread u.objects u.child.entries) (child number ss (spread u.objects u.child.entries))
-                (from_place child code f.left (f.place + 1) ss (rights_of u) NoDraft)) (Ends (Some (record { kind = Cover; pos = Some at })))) (sym e),
+              (from_place child code f.left (f.place + 1) ss (rights_of u) NoDraft)) (Ends (Some (record { kind = Cover; pos = Some at })))) (sym e),
         );
       }
 
@@ -87,7 +87,7 @@ module _ (code : List Instruction) (f : Frame) where
         tells = λ child.
             now_is child
             ∙ ap (λ b. one_of b (Creates (spread u.objects u.child.entries) (child number ss (spread u.objects u.child.entries))
-              (from_place child code f.left (f.place + 1) ss (rights_of u) NoDraft)) (Ends (Some (record { kind = Cover; pos = Some at })))) (sym e);
+            (from_place child code f.left (f.place + 1) ss (rights_of u) NoDraft)) (Ends (Some (record { kind = Cover; pos = Some at })))) (sym e);
       }
 
   -- an instruction that stands outside of its section, and creates no child
@@ -118,7 +118,7 @@ module _ (code : List Instruction) (f : Frame) where
 
   commit_is : (child : Children) (w : Own) → slice_get code f.place ≡ Some i.Commit
       → going child code w f ≡ Changes (fitted (rights_of w) (working (draft_of w) (rights_of w)))
-        (from_place child code f.left (f.place + 1) ss (fitted (rights_of w) (working (draft_of w) (rights_of w))) NoDraft)
+      (from_place child code f.left (f.place + 1) ss (fitted (rights_of w) (working (draft_of w) (rights_of w))) NoDraft)
   commit_is child w here = comes_to child code f.left f.place ss (rights_of w) (draft_of w) i.Commit here
 
   module _ (w u : Own) (keeps : KeepsRights w u) (begun : draft_of u ≡ Amending (rights_of w)) where
@@ -134,9 +134,9 @@ module _ (code : List Instruction) (f : Frame) where
         let far : w.section ≡ section.Amending → ⊥ = λ q. subst (λ y. InSection (Some y) w.section → ⊥) commit out q in
         let rights = rights_same w u keeps in
         let before : fitted (rights_of w) (working (draft_of w) (rights_of w)) ≡ fitted (rights_of w) (rights_of w) =
-            ap (fitted (rights_of w)) (not_amending w (rights_of w) far) in
+        ap (fitted (rights_of w)) (not_amending w (rights_of w) far) in
         let now : fitted (rights_of u) (working (draft_of u) (rights_of u)) ≡ fitted (rights_of w) (rights_of w) =
-            ap (λ d. fitted (rights_of u) (working d (rights_of u))) begun ∙ ap (λ s. fitted s (rights_of w)) rights in
+        ap (λ d. fitted (rights_of u) (working d (rights_of u))) begun ∙ ap (λ s. fitted s (rights_of w)) rights in
         let copy : copy_spread u.objects u.spec ≡ rights_of w = (amending_is u (rights_of w) begun).1 in
         let whole : fitted (rights_of w) (rights_of w) ≡ rights_of w = long_fits w (rights_of w) (rights_long w) in
         record {

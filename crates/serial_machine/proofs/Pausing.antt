@@ -1,6 +1,6 @@
 -- A task that goes on to the next stop.
-use Rattle.std.proofs.Common.{◌≡◌, ℕ, zero, suc, ◌+◌, ◌-◌, ◌<◌, ◌≤◌, ◌⊎◌, inl, inr, List, [], ◌∷◌, length, Bool, true, false, Option, Some, None, refl, sym, ap, ◌∙◌, subst, arith}
-use Rattle.std.specs.Prelude.{ℤ, nat_eq, slice_get, slice_set, if◌then◌else◌}
+use Rattle.std.proofs.Common.{◌≡◌, ℕ, suc, ◌+◌, ◌-◌, ◌<◌, List, length, Bool, true, false, Option, Some, None, refl, sym, ap, ◌∙◌, subst, arith}
+use Rattle.std.specs.Prelude.{ℤ, nat_eq, slice_set, if◌then◌else◌}
 use Rattle.std.proofs.lemmas.Option.{none-some, same_Some}
 use Rattle.jade_base.specs.declared.place.ObjectId.{ObjectId}
 use Rattle.jade_base.specs.declared.rights.Mode.{Mode}
@@ -25,7 +25,7 @@ use Rattle.task_machine.specs.steps.Owning.{rights_of, draft_of, drafted_as}
 use Rattle.task_machine.specs.steps.Running.{going, TellsAt, Advances, work_left}
 use Rattle.serial_machine.specs.steps.Pausing.{mode_in, AllHeld, GoesOn, Stops, Outside}
 use Rattle.serial_machine.specs.declared.going.Stop.{Stop}
-use Rattle.serial_machine.specs.steps.Stack.{Next, once_more, comes_to}
+use Rattle.serial_machine.specs.steps.Stack.{once_more, comes_to}
 use Rattle.serial_machine.proofs.Settling.{plays_same}
 
 -- ---- what is held stays held, in its mode
@@ -42,7 +42,7 @@ cell_mode o c v k j = by (nat_eq j o)
     by false = refl
 
 held_mode : (w : Option Held) (f : Held → Played) (t : Played) (j : ℕ) (m : Option Mode) → mode_in (t.contents j) ≡ m
-      → ((h : Held) → mode_in ((f h).contents j) ≡ m) → mode_in ((where_held w f t).contents j) ≡ m
+    → ((h : Held) → mode_in ((f h).contents j) ≡ m) → mode_in ((where_held w f t).contents j) ≡ m
 held_mode None f t j m h g = h
 held_mode (Some held) f t j m h g = g held
 
@@ -68,43 +68,43 @@ module _ {code : List Instruction} {w : Own} {f : Frame} {k : Contents} {u : Own
   pub goes_advanced : {v : Own} {h : Frame} {m : Contents} (p : Pause) → GoesOn code w f k u g l → Advances code u g l p v h m → GoesOn code w f k v h m
   goes_advanced {v} {h} {m} p a b = record {
     same = λ child count x.
-      let less = b.fewer in
-      let z : 0 + (g.left - h.left) ≡ g.left - h.left = omega arith in
-      let y : g.left - (g.left - h.left) ≡ h.left = omega (arith, less) in
-      a.same child count x
-      ∙ plays_same once_more (going child code u g) l g.events (going child code v h) m (g.left - h.left) h.events count g.left x.bad x.ok
+        let less = b.fewer in
+        let z : 0 + (g.left - h.left) ≡ g.left - h.left = omega arith in
+        let y : g.left - (g.left - h.left) ≡ h.left = omega (arith, less) in
+        a.same child count x
+        ∙ plays_same once_more (going child code u g) l g.events (going child code v h) m (g.left - h.left) h.events count g.left x.bad x.ok
         (b.plays child 0 ∙ ap (λ n. played (going child code v h) m n h.events) z) (omega arith)
-      ∙ ap (λ n. comes_to (going child code v h) count n m x) y;
+        ∙ ap (λ n. comes_to (going child code v h) count n m x) y;
     fewer = let one = a.fewer in let two = b.fewer in omega (arith, one, two);
     slots = b.sized.slots ∙ a.slots;
     objects = b.sized.kept.objects ∙ a.objects;
     modes = λ o.
-      sym (played_modes (going (λ n ss spec. Ends None) code v h) m (0 + (g.left - h.left)) h.events o)
-      ∙ ap (λ q. mode_in (q.contents o)) (sym (b.plays (λ n ss spec. Ends None) 0))
-      ∙ played_modes (going (λ n ss spec. Ends None) code u g) l 0 g.events o
-      ∙ a.modes o;
+        sym (played_modes (going (λ n ss spec. Ends None) code v h) m (0 + (g.left - h.left)) h.events o)
+        ∙ ap (λ q. mode_in (q.contents o)) (sym (b.plays (λ n ss spec. Ends None) 0))
+        ∙ played_modes (going (λ n ss spec. Ends None) code u g) l 0 g.events o
+        ∙ a.modes o;
   }
 
   pub goes_declared : (b : ObjectId) (a : Rights) (v : Own) (h : Frame) (x : Sparse) → GoesOn code w f k u g l
-        → ((child : Children) → TellsAt (pause.Declare b a) child code u g.left g.place g.slots.items l)
-        → v ≡ record u { child = x }
-        → spread v.objects v.child.entries ≡ slice_set (spread u.objects u.child.entries) b.0 (join (rights_on (spread u.objects u.child.entries) b.0) a)
-        → h ≡ record g { place = g.place + 1 } → GoesOn code w f k v h l
+      → ((child : Children) → TellsAt (pause.Declare b a) child code u g.left g.place g.slots.items l)
+      → v ≡ record u { child = x }
+      → spread v.objects v.child.entries ≡ slice_set (spread u.objects u.child.entries) b.0 (join (rights_on (spread u.objects u.child.entries) b.0) a)
+      → h ≡ record g { place = g.place + 1 } → GoesOn code w f k v h l
   goes_declared b a v h x on tells ev made e =
       let nothing : Children = λ n ss spec. Ends None in
       let new = slice_set (spread u.objects u.child.entries) b.0 (join (rights_on (spread u.objects u.child.entries) b.0) a) in
       let building : u.section ≡ section.Building = (tells nothing).0 in
       let rights : rights_of v ≡ rights_of u = ap rights_of ev in
       let draft : draft_of v ≡ Building new =
-          ap (λ q. drafted_as q v.objects v.child v.spec) (ap (λ (q : Own). q.section) ev ∙ building) ∙ ap Building made in
+      ap (λ q. drafted_as q v.objects v.child v.spec) (ap (λ (q : Own). q.section) ev ∙ building) ∙ ap Building made in
       record {
         same = λ child count x.
-          let next = from_place child code in
-          on.same child count x
-          ∙ ap (λ c. comes_to c count g.left l x) ((tells child).2
+            let next = from_place child code in
+            on.same child count x
+            ∙ ap (λ c. comes_to c count g.left l x) ((tells child).2
             ∙ ap (λ d. next g.left (g.place + 1) (slots_of g.slots.items) (rights_of u) d) (sym draft)
             ∙ ap (λ s. next g.left (g.place + 1) (slots_of g.slots.items) s (draft_of v)) (sym rights))
-          ∙ ap (λ r. comes_to (going child code v r) count r.left l x) (sym e);
+            ∙ ap (λ r. comes_to (going child code v r) count r.left l x) (sym e);
         fewer = let le = on.fewer in let s = ap (λ (r : Frame). r.left) e in omega (arith, le, s);
         slots = ap (λ (r : Frame). length r.slots.items) e ∙ on.slots;
         objects = ap (λ (q : Own). q.objects) ev ∙ on.objects;
@@ -114,7 +114,7 @@ module _ {code : List Instruction} {w : Own} {f : Frame} {k : Contents} {u : Own
   pub all_held : AllHeld w.objects k → GoesOn code w f k u g l → AllHeld u.objects l
   all_held h on = record { held = λ o lt. let e = on.objects in on.modes o ∙ h.held o (omega (arith, lt, e)) }
 
-abbrev is_reading : Mode → Type 0
+abbrev pub is_reading : Mode → Type 0
 is_reading Reading = Unit {0}
 is_reading Writing = ⊥
 is_reading Commuting = ⊥
@@ -138,7 +138,7 @@ wants_nothing o n (Ends b) k lt held w = w
 
 -- nothing is wanted where all is held
 pub takes_nothing : (o : ℕ) (child : Children) (code : List Instruction) (u : Own) (g : Frame) (k : Contents) → AllHeld u.objects k
-      → TellsAt (pause.Take o) child code u g.left g.place g.slots.items k → ⊥
+    → TellsAt (pause.Take o) child code u g.left g.place g.slots.items k → ⊥
 takes_nothing o child code u g k held h = wants_nothing o u.objects (going child code u g) k h.0 held h.1
 
 -- there is less to do at the next instruction

@@ -1,20 +1,18 @@
 -- What each task comes to.
-use Rattle.std.proofs.Common.{◌≡◌, ℕ, zero, suc, ◌+◌, ◌-◌, ◌<◌, ◌≤◌, ◌⊎◌, inl, inr, List, [], ◌∷◌, ◌++◌, map, Option, Some, None, refl, sym, ap, ◌∙◌, subst, arith}
-use Rattle.std.specs.Prelude.{ℤ, pos, slice_get, slice_index_or, slice_set, if◌then◌else◌}
+use Rattle.std.proofs.Common.{◌≡◌, ℕ, zero, suc, ◌+◌, ◌-◌, ◌<◌, ◌≤◌, ◌⊎◌, inl, inr, List, [], ◌∷◌, ◌++◌, map, Option, Some, None, refl, sym, ap, ◌∙◌, arith}
+use Rattle.std.specs.Prelude.{ℤ, slice_get, slice_index_or, slice_set, if◌then◌else◌}
 use Rattle.std.proofs.lemmas.Bool.{cases_eq, eq-eqb, ne_eqb}
 use Rattle.std.proofs.Math.Path.{fun_ext}
 use Rattle.jade_base.specs.declared.report.Blame.{Blame}
-use Rattle.jade_base.specs.declared.rights.Mode.{Mode}
-use Rattle.jade_base.specs.declared.rights.Mode.TheVariants.{Reading, Writing, Commuting}
 use Rattle.jade_base.specs.Held.{Held}
 use Rattle.jade_syntax.specs.Abstract.{AbstractProgram}
 use Rattle.jade_syntax.specs.Objects.{sizes}
 use Rattle.jade_meaning.specs.Course.{Course, Reads, Writes, Steps, Creates, Changes, Ends, root_course, limit_blame}
 use Rattle.jade_meaning.specs.Serial as serial
 use Rattle.jade_meaning.specs.Serial.{Path, Store, Mark, DidRead, DidWrite, own, under, done_to, after, cell, zeros}
-use Rattle.jade_meaning.specs.Answer.{Run, Stopped, Through, noted, noted_all, then_on, stopping, stopping_run}
+use Rattle.jade_meaning.specs.Answer.{Run, Stopped, Through, noted, noted_all, then_on, stopping}
 use Rattle.task_machine.specs.Playing.{Contents, Played, put_in, with_cell, cell_of, where_held, writable, counted, played}
-use Rattle.serial_machine.specs.steps.Settles.{number_in, settles, resolved, SettlesAs, Ending, Fault, Whole, ending, at_once, AnswersAs, PlaysOn, RunsOut}
+use Rattle.serial_machine.specs.steps.Settles.{number_in, settles, resolved, SettlesAs, Ending, Fault, Whole, at_once, AnswersAs, PlaysOn, RunsOut}
 use Rattle.task_machine.specs.Whole.{held_of, all_held}
 
 -- ---- stores
@@ -24,7 +22,8 @@ cell_is [] o c = refl
 cell_is (x ∷ store) zero c = refl
 cell_is (x ∷ store) (suc o) c = cell_is store o c
 
-set_same : (store : Store) (o c : ℕ) (v : ℤ) → held_of (slice_get (slice_set store o (slice_set (slice_index_or store o []) c v)) o) ≡ put_in c v (held_of (slice_get store o))
+set_same : (store : Store) (o c : ℕ) (v : ℤ) → held_of (slice_get (slice_set store o (slice_set (slice_index_or store o []) c v)) o) ≡ put_in
+    c v (held_of (slice_get store o))
 set_same [] o c v = refl
 set_same (x ∷ store) zero c v = refl
 set_same (x ∷ store) (suc o) c v = set_same store o c v
@@ -66,8 +65,8 @@ module _ (bad : Path → Blame → Ending) (ok : ℕ → Contents → Ending) wh
   noted_all_is ns (Through left ms) store = ap (λ t. ok left (all_held t)) (after_both ns ms store)
 
   then_is : (k : ℕ) (r : Run) (store : Store) (on : ℕ → List Mark → Run) (next : ℕ → Contents → Ending)
-        → ((less : ℕ) (ms : List Mark) → next less (all_held (after ms store)) ≡ resolved (on less ms) (after ms store) bad ok)
-        → resolved r store (λ p b. bad (k ∷ p) b) next ≡ resolved (then_on k r on) store bad ok
+      → ((less : ℕ) (ms : List Mark) → next less (all_held (after ms store)) ≡ resolved (on less ms) (after ms store) bad ok)
+      → resolved r store (λ p b. bad (k ∷ p) b) next ≡ resolved (then_on k r on) store bad ok
   then_is k (Stopped p b ms) store on next h = refl
   then_is k (Through less ms) store on next h =
       h less ms
@@ -128,13 +127,13 @@ module _ {A : Type 0} (pause : A → A) where
     stays c s n d left e = let z : left ≡ left - d = omega (arith, e) in ap (λ l. settles pause c k l s bad ok) z
 
     held_on : (w : Option Held) (x : A) (f : Held → Played) (t : Played) (n d left : ℕ) → (t.steps ≡ n + d → x ≡ left_at t (left - d))
-          → ((h : Held) → w ≡ Some h → (f h).steps ≡ n + d → x ≡ left_at (f h) (left - d)) → (where_held w f t).steps ≡ n + d
-          → x ≡ left_at (where_held w f t) (left - d)
+        → ((h : Held) → w ≡ Some h → (f h).steps ≡ n + d → x ≡ left_at (f h) (left - d)) → (where_held w f t).steps ≡ n + d
+        → x ≡ left_at (where_held w f t) (left - d)
     held_on None x f t n d left h g e = h e
     held_on (Some held) x f t n d left h g e = g held refl e
 
     held_out : (w : Option Held) (x y : A) (f : Held → Played) (t : Played) (n d : ℕ) → (t.steps ≡ n + d → x ≡ y)
-          → ((h : Held) → (f h).steps ≡ n + d → w ≡ Some h → x ≡ y) → (where_held w f t).steps ≡ n + d → x ≡ y
+        → ((h : Held) → (f h).steps ≡ n + d → w ≡ Some h → x ≡ y) → (where_held w f t).steps ≡ n + d → x ≡ y
     held_out None x y f t n d h g e = h e
     held_out (Some held) x y f t n d h g e = g held e refl
 
@@ -144,7 +143,7 @@ module _ {A : Type 0} (pause : A → A) where
       (record { course = Reads o c on; contents = s; steps = n; events = e }) n d left
       (λ f. stays k bad ok (Reads o c on) s n d left f)
       (λ h some f.
-        ap (λ w. settles pause (on (number_in w c)) k left s bad ok) some ∙ plays_on (on (cell_of h c)) s k n (counted e) d left bad ok f le)
+      ap (λ w. settles pause (on (number_in w c)) k left s bad ok) some ∙ plays_on (on (cell_of h c)) s k n (counted e) d left bad ok f le)
       q
   plays_on (Writes o c v on) s k n e d left bad ok q le =
       held_on k bad ok (writable (s o)) (settles pause (Writes o c v on) k left s bad ok) (λ h. played on (with_cell o c v s) n (counted e))
@@ -169,7 +168,7 @@ module _ {A : Type 0} (pause : A → A) where
       (record { course = Reads o c on; contents = s; steps = n; events = e }) n d
       (λ f. absurd (omega (arith, f, lt)))
       (λ h f some.
-        ap (λ w. settles pause (on (number_in w c)) k left s bad ok) some ∙ runs_out (on (cell_of h c)) s k n (counted e) d left bad ok f lt)
+      ap (λ w. settles pause (on (number_in w c)) k left s bad ok) some ∙ runs_out (on (cell_of h c)) s k n (counted e) d left bad ok f lt)
       q
   runs_out (Writes o c v on) s k n e d left bad ok q lt =
       held_out k bad ok (writable (s o)) (settles pause (Writes o c v on) k left s bad ok) (bad [] limit_blame)
@@ -188,7 +187,7 @@ module _ {A : Type 0} (pause : A → A) where
 
   -- where as much is still to be played, and as many steps more were begun as there are less, two tasks come to the same
   pub plays_same : (c : Course) (s : Contents) (e : ℕ) (b : Course) (t : Contents) (d f k left : ℕ) (bad : Path → Blame → A) (ok : ℕ → Contents → A)
-        → played c s 0 e ≡ played b t d f → d ≤ left → settles pause c k left s bad ok ≡ settles pause b k (left - d) t bad ok
+      → played c s 0 e ≡ played b t d f → d ≤ left → settles pause c k left s bad ok ≡ settles pause b k (left - d) t bad ok
   plays_same c s e b t d f k left bad ok same le = by (le_or_lt (played c s 0 e).steps left)
     where
       le_or_lt : (i m : ℕ) → (i ≤ m) ⊎ (m < i)
@@ -199,12 +198,16 @@ module _ {A : Type 0} (pause : A → A) where
           next : (i ≤ m) ⊎ (m < i) → (suc i ≤ suc m) ⊎ (suc m < suc i)
           next (inl h) = inl (omega (arith, h))
           next (inr h) = inr (omega (arith, h))
+
       least : d ≤ (played b t d f).steps
       least = steps_least b t d f
+
       all : ℕ
       all = (played c s 0 e).steps
+
       steps : (played b t d f).steps ≡ all
       steps = ap (λ p. p.steps) (sym same)
+
       by : (all ≤ left) ⊎ (left < all) → settles pause c k left s bad ok ≡ settles pause b k (left - d) t bad ok
       by (inl h) =
           let z : all ≡ 0 + all = omega arith in

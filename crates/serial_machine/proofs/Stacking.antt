@@ -1,11 +1,11 @@
 -- Tasks that wait, and bodies by their numbers.
-use Rattle.std.proofs.Common.{◌≡◌, ℕ, zero, suc, ◌+◌, ◌-◌, ◌<◌, ◌≤◌, List, [], ◌∷◌, ◌++◌, length, Some, None, refl, sym, ap, ◌∙◌, arith}
+use Rattle.std.proofs.Common.{◌≡◌, ℕ, zero, suc, List, [], ◌∷◌, Some, None, refl, ◌∙◌}
 use Rattle.jade_base.specs.declared.report.Blame.{Blame}
-use Rattle.jade_meaning.specs.Course.{Course, Reads, Writes, Steps, Creates, Changes, Ends, limit_blame}
+use Rattle.jade_meaning.specs.Course.{Course, Reads, Writes, Steps, Creates, Changes, Ends}
 use Rattle.jade_meaning.specs.Serial.{Path}
 use Rattle.task_machine.specs.Playing.{Contents, with_cell}
-use Rattle.serial_machine.specs.steps.Settles.{Ending, settles, at_once, number_in}
-use Rattle.serial_machine.specs.steps.Stack.{Counted, once_more, Next, Waiting, after_child, following, NewestWaits, FaultIs, comes_to}
+use Rattle.serial_machine.specs.steps.Settles.{settles, at_once, number_in}
+use Rattle.serial_machine.specs.steps.Stack.{Counted, once_more, Next, Waiting, after_child, NewestWaits, FaultIs}
 use Rattle.serial_machine.proofs.Budgets.{ok_alike}
 
 pub newest_waits : (vs : List Waiting) (v : Waiting) (x : Next) → NewestWaits vs v x
@@ -18,7 +18,7 @@ fault_is (v ∷ vs) x p b = fault_is vs (after_child v x) p b
 
 -- what it comes to does not depend on the count of the pauses
 pub comes_alone : (c : Course) (k left : ℕ) (s : Contents) (bad : Path → Blame → Counted) (ok : ℕ → Contents → Counted)
-      → (settles once_more c k left s bad ok).comes ≡ settles at_once c k left s (λ p b. (bad p b).comes) (λ less t. (ok less t).comes)
+    → (settles once_more c k left s bad ok).comes ≡ settles at_once c k left s (λ p b. (bad p b).comes) (λ less t. (ok less t).comes)
 comes_alone (Reads o c on) k left s bad ok = comes_alone (on (number_in (s o) c)) k left s bad ok
 comes_alone (Writes o c v on) k left s bad ok = comes_alone on k left (with_cell o c v s) bad ok
 comes_alone (Steps on) k zero s bad ok = refl

@@ -63,10 +63,7 @@ pub fn run_serial(
         level: root(alloc, code, numbers, objects, limit)?,
     };
     match run(alloc, code, numbers, limit, &mut stack, &mut held)? {
-        Some(blame) => Ok(RunAnswer::Fault(
-            path_of(alloc, stack.waiting.as_slice())?,
-            blame,
-        )),
+        Some(blame) => Ok(RunAnswer::Fault(path_of(alloc, stack.waiting.as_slice())?, blame)),
         None => Ok(RunAnswer::Objects(cells_of(alloc, objects, held)?)),
     }
 }

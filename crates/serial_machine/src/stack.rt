@@ -102,7 +102,8 @@ pub(crate) fn run(
 ) -> Result<Option<Blame>, Memory>
     requires fits { Fits code.now numbers.now stack.old (contents_of held.old) }
     requires limit { stack.old.level.frame.left ≤ limit }
-    ensures { IfOk result (λ fault. (total code.now numbers.now limit stack.old (contents_of held.old)).comes ≡ ended fault stack.new (contents_of held.new)) }
+    ensures { IfOk result (λ fault.
+        (total code.now numbers.now limit stack.old (contents_of held.old)).comes ≡ ended fault stack.new (contents_of held.new)) }
 {
     'run: loop {
         match proceed(alloc, code, numbers, stack, held)? {

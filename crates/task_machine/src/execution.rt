@@ -104,7 +104,12 @@ fn body_room(code: &Code, body: u32)
 }
 
 /// The slots of a body with the inputs in the first of them. The error is want of memory.
-pub fn input_slots(alloc: Global, code: &Code, numbers: &[i64], body: u32) -> Result<Vec<i64>, Memory>
+pub fn input_slots(
+    alloc: Global,
+    code: &Code,
+    numbers: &[i64],
+    body: u32,
+) -> Result<Vec<i64>, Memory>
     requires there { body < length code.now.bodies }
     requires numbers { length numbers.now ≡ code.now.inputs }
     ensures slots { IfOk result (λ slots. slots_of slots.items ≡ given_slots numbers.now) }

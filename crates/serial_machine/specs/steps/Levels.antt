@@ -1,5 +1,5 @@
 -- A run by its levels: the tasks that wait for their children, and the one that runs.
-use Rattle.std.specs.Prelude.{◌≡◌, ℕ, zero, ◌+◌, ◌<◌, ◌≤◌, List, [], ◌∷◌, ◌++◌, map, length, Option, Some, None, ℤ}
+use Rattle.std.specs.Prelude.{◌≡◌, ℕ, ◌+◌, ◌≤◌, List, [], ◌∷◌, ◌++◌, map, length, Option, Some, None, ℤ}
 use Rattle.jade_base.specs.declared.report.Blame.{Blame}
 use Rattle.jade_meaning.specs.Specification.{Specification}
 use Rattle.jade_meaning.specs.Spread.{spread}
@@ -8,11 +8,10 @@ use Rattle.jade_meaning.specs.Laws.{Every}
 use Rattle.code_meaning.specs.declared.code.Instruction.{Instruction}
 use Rattle.code_meaning.specs.Meaning.{Slots, passed}
 use Rattle.task_code.specs.Rules.{TaskCode}
-use Rattle.task_machine.specs.declared.section.Own.{Own}
 use Rattle.task_machine.specs.Playing.{Contents}
 use Rattle.task_machine.specs.Stages.{slots_of}
 use Rattle.task_machine.specs.Executions.{body_at}
-use Rattle.task_machine.specs.steps.Owning.{rights_of, draft_of}
+use Rattle.task_machine.specs.steps.Owning.{rights_of}
 use Rattle.task_machine.specs.steps.Running.{going_from}
 use Rattle.task_machine.specs.steps.Executing.{IsReady}
 use Rattle.serial_machine.specs.declared.level.Level.{Level}

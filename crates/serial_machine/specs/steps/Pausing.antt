@@ -6,7 +6,7 @@ use Rattle.jade_base.specs.declared.rights.Mode.TheVariants.{Writing}
 use Rattle.jade_base.specs.Held.{Held}
 use Rattle.jade_meaning.specs.Specification.{Specification}
 use Rattle.jade_meaning.specs.Spread.{spread}
-use Rattle.jade_meaning.specs.Course.{Course, Creates, Changes, Ends, Draft, NoDraft}
+use Rattle.jade_meaning.specs.Course.{Creates, Changes, Ends, Draft, NoDraft}
 use Rattle.code_meaning.specs.declared.code.Instruction.{Instruction}
 use Rattle.code_meaning.specs.declared.code.Instruction.TheVariants as i
 use Rattle.code_meaning.specs.Meaning.{Children, from_place}
@@ -43,8 +43,8 @@ StopTells (stop.Create number) child code u g =
     let made = spread u.objects u.child.entries in
     ((at : Pos) × (slice_get code g.place ≡ Some (i.Create number at)))
     × (going child code u g
-      ≡ Creates made (child number (slots_of g.slots.items) made)
-        (from_place child code g.left (g.place + 1) (slots_of g.slots.items) (rights_of u) NoDraft))
+    ≡ Creates made (child number (slots_of g.slots.items) made)
+    (from_place child code g.left (g.place + 1) (slots_of g.slots.items) (rights_of u) NoDraft))
 StopTells stop.Change child code u g =
     let new = copy_spread u.objects u.spec in
     (g.place < length code)

@@ -1,4 +1,4 @@
-use Rattle.std.proofs.Common.{◌≡◌, ◌+◌, ◌≤◌, sym, ap, ◌∙◌, ◌++◌, [], ◌∷◌, arith}
+use Rattle.std.proofs.Common.{sym, ap, ◌∙◌, ◌++◌, [], ◌∷◌, arith}
 use Rattle.task_machine.specs.steps.Holding.{contents_of}
 use Rattle.serial_machine.proofs.Cells.{cells_pushed, one_taken}
 use Rattle.serial_machine.proofs.answer.cells_of.Goals as goal

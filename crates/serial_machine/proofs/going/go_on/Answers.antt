@@ -1,6 +1,4 @@
-use Rattle.std.proofs.Common.{◌≡◌, None, subst}
-use Rattle.jade_meaning.specs.Course.{Ends}
-use Rattle.code_meaning.specs.Meaning.{Children}
+use Rattle.std.proofs.Common.{subst}
 use Rattle.task_machine.specs.steps.Holding.{contents_of}
 use Rattle.task_machine.specs.steps.Running.{TellsAt}
 use Rattle.serial_machine.proofs.Pausing.{nothing, goes_advanced, goes_declared, all_held, takes_nothing, stops_outside, change_is_no_end}
@@ -10,7 +8,7 @@ pub declare_for_child-requires : goal.declare_for_child-requires
 declare_for_child-requires c =
     let g = c.advance.new.frame in
     (subst (λ p. TellsAt p nothing c.args.code.now c.advance.new.own g.left g.place g.slots.items (contents_of c.advance.new.held)) c.in-Declare.is
-      (c.advance.ensures.tells nothing)).1
+    (c.advance.ensures.tells nothing)).1
 
 pub run-preserved : goal.run-preserved
 run-preserved c =
@@ -18,7 +16,7 @@ run-preserved c =
     goes_declared c.in-Declare.object c.in-Declare.rights c.declare_for_child.new.own c.go_past.new.frame _
     (goes_advanced c.advance.result c.run.invariant c.advance.ensures)
     (λ child. subst (λ p. TellsAt p child c.args.code.now c.advance.new.own g.left g.place g.slots.items (contents_of c.advance.new.held)) c.in-Declare.is
-      (c.advance.ensures.tells child))
+    (c.advance.ensures.tells child))
     c.in_ok-declare_for_child-in-Declare.ensures.declared c.in_ok-declare_for_child-in-Declare.ensures.spread c.go_past.ensures
 
 pub returns-in-End : goal.returns-in-End
@@ -48,7 +46,7 @@ returns-in-Create c =
       on = goes_advanced c.advance.result c.run.invariant c.advance.ensures;
       tells = λ child.
           let t = subst (λ p. TellsAt p child c.args.code.now c.advance.new.own g.left g.place g.slots.items (contents_of c.advance.new.held)) c.in-Create.is
-              (c.advance.ensures.tells child) in
+          (c.advance.ensures.tells child) in
           (t.0, t.2);
     }
 
@@ -59,7 +57,7 @@ returns-in-Change c =
       on = goes_advanced c.advance.result c.run.invariant c.advance.ensures;
       tells = λ child.
           let t = subst (λ p. TellsAt p child c.args.code.now c.advance.new.own g.left g.place g.slots.items (contents_of c.advance.new.held)) c.in-Change.is
-              (c.advance.ensures.tells child) in
+          (c.advance.ensures.tells child) in
           (c.advance.ensures.there (change_is_no_end c.advance.result c.in-Change.is), t.1);
     }
 
@@ -69,7 +67,7 @@ unreachable-requires c =
     takes_nothing c.in-Take.field-0 nothing c.args.code.now c.advance.new.own g (contents_of c.advance.new.held)
     (all_held c.requires.held (goes_advanced c.advance.result c.run.invariant c.advance.ensures))
     (subst (λ p. TellsAt p nothing c.args.code.now c.advance.new.own g.left g.place g.slots.items (contents_of c.advance.new.held)) c.in-Take.is
-      (c.advance.ensures.tells nothing))
+    (c.advance.ensures.tells nothing))
 
 pub outside-requires-clause-section : goal.outside-requires-clause-section
 outside-requires-clause-section c =

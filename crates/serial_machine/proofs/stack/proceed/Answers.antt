@@ -16,15 +16,15 @@ pub push-requires-clause-there : goal.push-requires-clause-there
 push-requires-clause-there c =
     let s = c.args.stack.now in
     let stops = subst (λ is. Stops is s.level.own s.level.frame (contents_of c.args.held.now) c.in_ok-go_on.field-0 c.go_on.new.own c.go_on.new.frame
-        (contents_of c.go_on.new.held)) c.instructions-body.ensures.code c.in_ok-go_on.ensures in
+    (contents_of c.go_on.new.held)) c.instructions-body.ensures.code c.in_ok-go_on.ensures in
     (created_there c.args.code.now c.args.numbers.now s (contents_of c.args.held.now) c.requires c.go_on.new.own c.go_on.new.frame
-      (contents_of c.go_on.new.held) c.in_ok-go_on.field-0 stops c.in-Create.number c.instructions-body.ensures.valid c.in-Create.is).1
+    (contents_of c.go_on.new.held) c.in_ok-go_on.field-0 stops c.in-Create.number c.instructions-body.ensures.valid c.in-Create.is).1
 
 pub push-requires-clause-place : goal.push-requires-clause-place
 push-requires-clause-place c =
     let s = c.args.stack.now in
     let stops = subst (λ is. Stops is s.level.own s.level.frame (contents_of c.args.held.now) c.in_ok-go_on.field-0 c.go_on.new.own c.go_on.new.frame
-        (contents_of c.go_on.new.held)) c.instructions-body.ensures.code c.in_ok-go_on.ensures in
+    (contents_of c.go_on.new.held)) c.instructions-body.ensures.code c.in_ok-go_on.ensures in
     create_there c.args.code.now c.args.numbers.now s (contents_of c.args.held.now) c.requires c.go_on.new.own c.go_on.new.frame
     (contents_of c.go_on.new.held) c.in_ok-go_on.field-0 stops c.in-Create.number c.in-Create.is
 
@@ -32,7 +32,7 @@ pub push-requires-clause-ready : goal.push-requires-clause-ready
 push-requires-clause-ready c =
     let s = c.args.stack.now in
     let stops = subst (λ is. Stops is s.level.own s.level.frame (contents_of c.args.held.now) c.in_ok-go_on.field-0 c.go_on.new.own c.go_on.new.frame
-        (contents_of c.go_on.new.held)) c.instructions-body.ensures.code c.in_ok-go_on.ensures in
+    (contents_of c.go_on.new.held)) c.instructions-body.ensures.code c.in_ok-go_on.ensures in
     mid_ready c.args.code.now c.args.numbers.now s (contents_of c.args.held.now) c.requires c.go_on.new.own c.go_on.new.frame
     (contents_of c.go_on.new.held) c.in_ok-go_on.field-0 stops
 
@@ -40,7 +40,7 @@ pub change-requires-clause-place : goal.change-requires-clause-place
 change-requires-clause-place c =
     let s = c.args.stack.now in
     let stops = subst (λ is. Stops is s.level.own s.level.frame (contents_of c.args.held.now) c.in_ok-go_on.field-0 c.go_on.new.own c.go_on.new.frame
-        (contents_of c.go_on.new.held)) c.instructions-body.ensures.code c.in_ok-go_on.ensures in
+    (contents_of c.go_on.new.held)) c.instructions-body.ensures.code c.in_ok-go_on.ensures in
     change_there c.args.code.now c.args.numbers.now s (contents_of c.args.held.now) c.requires c.go_on.new.own c.go_on.new.frame
     (contents_of c.go_on.new.held) c.in_ok-go_on.field-0 stops c.in-Change.is
 
@@ -48,7 +48,7 @@ pub returns-in_ok-progress-in-End : goal.returns-in_ok-progress-in-End
 returns-in_ok-progress-in-End c =
     let s = c.args.stack.now in
     let stops = subst (λ is. Stops is s.level.own s.level.frame (contents_of c.args.held.now) c.in_ok-go_on.field-0 c.go_on.new.own c.go_on.new.frame
-        (contents_of c.go_on.new.held)) c.instructions-body.ensures.code c.in_ok-go_on.ensures in
+    (contents_of c.go_on.new.held)) c.instructions-body.ensures.code c.in_ok-go_on.ensures in
     to_end c.args.code.now c.args.numbers.now s (contents_of c.args.held.now) c.requires c.go_on.new.own c.go_on.new.frame
     (contents_of c.go_on.new.held) c.in_ok-go_on.field-0 stops c.in-End.is c.in_ok-progress-in-End.progress c.pop.new.stack
     c.in_ok-progress-in-End.ensures
@@ -57,7 +57,7 @@ pub returns-in-Fault : goal.returns-in-Fault
 returns-in-Fault c =
     let s = c.args.stack.now in
     let stops = subst (λ is. Stops is s.level.own s.level.frame (contents_of c.args.held.now) c.in_ok-go_on.field-0 c.go_on.new.own c.go_on.new.frame
-        (contents_of c.go_on.new.held)) c.instructions-body.ensures.code c.in_ok-go_on.ensures in
+    (contents_of c.go_on.new.held)) c.instructions-body.ensures.code c.in_ok-go_on.ensures in
     to_fault c.args.code.now c.args.numbers.now s (contents_of c.args.held.now) c.requires c.go_on.new.own c.go_on.new.frame
     (contents_of c.go_on.new.held) c.in_ok-go_on.field-0 stops c.in-Fault.blame c.in-Fault.is
 
@@ -65,7 +65,7 @@ pub returns-in_ok-push-in-Create : goal.returns-in_ok-push-in-Create
 returns-in_ok-push-in-Create c =
     let s = c.args.stack.now in
     let stops = subst (λ is. Stops is s.level.own s.level.frame (contents_of c.args.held.now) c.in_ok-go_on.field-0 c.go_on.new.own c.go_on.new.frame
-        (contents_of c.go_on.new.held)) c.instructions-body.ensures.code c.in_ok-go_on.ensures in
+    (contents_of c.go_on.new.held)) c.instructions-body.ensures.code c.in_ok-go_on.ensures in
     to_create c.args.code.now c.args.numbers.now s (contents_of c.args.held.now) c.requires c.go_on.new.own c.go_on.new.frame
     (contents_of c.go_on.new.held) c.in_ok-go_on.field-0 stops c.in-Create.number c.instructions-body.ensures.valid c.in-Create.is c.push.new.stack
     c.in_ok-push-in-Create.ensures
@@ -74,6 +74,6 @@ pub returns-in-Change : goal.returns-in-Change
 returns-in-Change c =
     let s = c.args.stack.now in
     let stops = subst (λ is. Stops is s.level.own s.level.frame (contents_of c.args.held.now) c.in_ok-go_on.field-0 c.go_on.new.own c.go_on.new.frame
-        (contents_of c.go_on.new.held)) c.instructions-body.ensures.code c.in_ok-go_on.ensures in
+    (contents_of c.go_on.new.held)) c.instructions-body.ensures.code c.in_ok-go_on.ensures in
     to_change c.args.code.now c.args.numbers.now s (contents_of c.args.held.now) c.requires c.go_on.new.own c.go_on.new.frame
     (contents_of c.go_on.new.held) c.in_ok-go_on.field-0 stops c.in-Change.is c.change.new.level c.change.ensures

@@ -1,6 +1,5 @@
-use Rattle.std.proofs.Common.{refl, ap, sym, subst, ◌∙◌}
+use Rattle.std.proofs.Common.{sym, subst}
 use Rattle.task_machine.specs.steps.Owning.{rights_of}
-use Rattle.serial_machine.specs.declared.level.Level.{Level}
 use Rattle.serial_machine.specs.steps.Levels.{BeginsChild, Passes}
 use Rattle.serial_machine.proofs.stack.push.Goals as goal
 
