@@ -1,2 +1,2 @@
 pub mod Stepping
-mod Numbered
+pub mod Numbered

@@ -6,5 +6,5 @@ mod Chaining
 mod Params
 mod Blocks
 mod Cells
-mod Sizing
+pub mod Sizing
 mod Whole

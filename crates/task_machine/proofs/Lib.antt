@@ -1,12 +1,12 @@
 mod Rows
-mod Sparse
+pub mod Sparse
 mod Sections
-mod Meanings
+pub mod Meanings
 mod Fitting
 mod Naming
-mod Acting
+pub mod Acting
 mod Running
-mod Executing
+pub mod Executing
 mod Filling
 mod Telling
 mod Left

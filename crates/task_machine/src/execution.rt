@@ -55,8 +55,8 @@ impl<'c> Model for Execution<'c> {
     ghost invariant = { λ e. IsReady e.code.now e.numbers.now e.body e.own e.frame };
 }
 
-// The instructions of a body.
-fn instructions(code: &Code, body: u32) -> &[Instruction]
+/// The instructions of a body.
+pub fn instructions(code: &Code, body: u32) -> &[Instruction]
     requires { body < length code.now.bodies }
     ensures code { result.now ≡ (body_at code.now body).code }
     ensures valid { Valid code.now }
@@ -84,8 +84,8 @@ fn call_of(code: &Code, body: u32) -> &[Operand]
     body.call.as_slice()
 }
 
-// There is a first body.
-fn first_body(code: &Code)
+/// That there is a first body. It does nothing.
+pub fn first_body(code: &Code)
     ensures { 0 < length code.now.bodies }
 {
     code.keeps_rules();
@@ -109,8 +109,13 @@ fn body_room(code: &Code, body: u32)
     code.keeps_rules();
 }
 
-// The slots of a body with the inputs in the first of them. The error is want of memory.
-fn input_slots(alloc: Global, code: &Code, numbers: &[i64], body: u32) -> Result<Vec<i64>, Memory>
+/// The slots of a body with the inputs in the first of them. The error is want of memory.
+pub fn input_slots(
+    alloc: Global,
+    code: &Code,
+    numbers: &[i64],
+    body: u32,
+) -> Result<Vec<i64>, Memory>
     requires there { body < length code.now.bodies }
     requires numbers { length numbers.now ≡ code.now.inputs }
     ensures slots { IfOk result (λ slots. slots_of slots.items ≡ given_slots numbers.now) }
@@ -122,8 +127,8 @@ fn input_slots(alloc: Global, code: &Code, numbers: &[i64], body: u32) -> Result
     Ok(slots)
 }
 
-// The slots of a body that is created. The error is want of memory.
-fn child_slots(
+/// The slots of a body that is created. The error is want of memory.
+pub fn child_slots(
     alloc: Global,
     code: &Code,
     numbers: &[i64],

@@ -1,7 +1,7 @@
 //! Runs the code of a task, up to the next thing that the task asks for.
 #![tactic(auto)]
 
-mod execution;
+pub mod execution;
 pub mod frame;
 pub mod holdings;
 pub mod laws;

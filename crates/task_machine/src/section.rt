@@ -204,7 +204,7 @@ pub fn covers_child(own: &Own) -> bool
 
 /// Declares rights on an object for a child, in its section. The error is want of memory, and
 /// changes nothing.
-pub(crate) fn declare_for_child(
+pub fn declare_for_child(
     own: &mut Own,
     alloc: Global,
     object: ObjectId,
@@ -221,7 +221,7 @@ pub(crate) fn declare_for_child(
 }
 
 /// The copy that a section of the task itself has changed is its specification from here on.
-pub(crate) fn commit(own: &mut Own)
+pub fn commit(own: &mut Own)
     ensures changed { own.new ≡ record own.old { spec = settled (kept own.old.spec.entries own.old.spec.draft); section = Section.Absent } }
     ensures rights { rights_of own.new ≡ copy_spread own.old.objects own.old.spec }
 {
@@ -244,7 +244,7 @@ fn both_rights() -> Rights
 }
 
 /// Immediate reading and writing of so many objects. The error is want of memory.
-pub(crate) fn all_rights(alloc: Global, objects: u32) -> Result<Spec, Memory>
+pub fn all_rights(alloc: Global, objects: u32) -> Result<Spec, Memory>
     ensures { IfOk result (λ spec. spread objects spec.entries ≡ replicate objects both_rights) }
 {
     let mut spec = Spec::empty(alloc);
@@ -255,7 +255,7 @@ pub(crate) fn all_rights(alloc: Global, objects: u32) -> Result<Spec, Memory>
 }
 
 /// What a task has that begins with a specification, in no section.
-pub(crate) fn outside_section(alloc: Global, objects: u32, spec: Spec) -> Own
+pub fn outside_section(alloc: Global, objects: u32, spec: Spec) -> Own
     ensures { result ≡ record {
       objects = objects;
       spec = settled spec.entries;
@@ -274,7 +274,7 @@ pub(crate) fn outside_section(alloc: Global, objects: u32, spec: Spec) -> Own
 }
 
 /// The section of a child ends; the result is the specification that it has made.
-pub(crate) fn end_section(own: &mut Own) -> Spec
+pub fn end_section(own: &mut Own) -> Spec
     ensures made { result ≡ own.old.child }
     ensures ended { own.new ≡ record own.old { child = settled []; section = Section.Absent } }
 {

@@ -1,0 +1,9 @@
+mod Settling
+mod Budgets
+mod Stacking
+mod Owned
+mod Outside
+mod Pausing
+mod Levels
+mod Cells
+mod Answering

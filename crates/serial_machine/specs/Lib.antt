@@ -1,0 +1,3 @@
+pub mod Answers
+-- What only serves the contracts of private functions.
+pub mod steps
