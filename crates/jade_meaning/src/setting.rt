@@ -11,12 +11,12 @@ ghost use Rattle.jade_meaning.specs.steps.Evaluation.{evaluated, source, evaluat
 
 use crate::dense_spec::DenseSpec;
 use crate::draft::Draft;
+use crate::numbers::index_below;
 use crate::resolve::{DeclaredItems, Range, ResolvedObject};
 use crate::run_state::Store;
 use crate::scope::Scope;
 use crate::source::{Cells, Pause};
 use crate::tally::Tally;
-use crate::numbers::index_below;
 use crate::values::Value;
 use jade_base::{Blame, FaultKind, Pos, Right};
 use jade_syntax::Name;
