@@ -5,9 +5,10 @@ ghost use Rattle.std.specs.Option.{option_copied};
 ghost use Rattle.jade_syntax.specs.Image.{program};
 ghost use Rattle.jade_syntax.specs.Objects.{input_names};
 ghost use Rattle.jade_meaning.specs.Answer.{answer, Faulted, Cells};
-ghost use Rattle.jade_meaning.specs.Report.{report, Ascends};
+ghost use Rattle.jade_meaning.specs.Report.{Ascends};
 ghost use Rattle.jade_meaning.specs.ReportAnswer.{report_answer, first_note, step_over};
 ghost use Rattle.jade_run.specs.Outcome.{fault_key};
+ghost use Rattle.serial_machine.specs.Answers.{told};
 ghost use Rattle.jade_lexer.specs.Reading.{reading, Whole};
 ghost use Rattle.jade_reading.specs.Reading.{ReadsAs};
 ghost use Rattle.jade_run.specs.Outcome.{IsAnswered, IsGood, IsNotRead, IsShown, IsTested, OnRefused, RefusedAs, RefusedFor, Shows};
@@ -21,13 +22,13 @@ use jade_base::{
 };
 use jade_layout::print_program;
 use jade_lexer::{LexError, Tokens, tokens};
-use jade_meaning::laws::{report_ascends, report_tells};
-use jade_meaning::serial_run;
 use jade_parser::{ParseError, parse};
 use jade_syntax::Checked;
 use jade_syntax::tree::Program;
 use jade_types::{TypeError, check};
+use serial_machine::{RunAnswer, run_serial};
 use std::alloc::Global;
+use task_codegen::compile;
 
 /// The blame of a task whose part passes the limit.
 const LIMIT: Blame = Blame {
@@ -102,22 +103,37 @@ pub(crate) fn answer_of(
     }
 }
 
-/// What a program comes to with these numbers.
+/// What an answer is written as.
+fn shown(alloc: Global, checked: &Checked, answer: &RunAnswer) -> Result<Answer, Memory>
+    ensures { IfOk result (λ a. Shows (program checked.now.program) (told answer.now) a.text.items a.status) }
+{
+    match answer {
+        RunAnswer::Fault(path, blame) => {
+            let status = Status::Fault;
+            let text = texts::fault(alloc, path, *blame)?;
+            Ok(Answer { text, status })
+        }
+        RunAnswer::Objects(cells) => Ok(Answer {
+            text: texts::objects(alloc, checked, cells)?,
+            status: Status::Good,
+        }),
+    }
+}
+
+/// What a program comes to with these numbers: its code is run, up to where the answer is known.
 fn run_checked(
     alloc: Global,
-    checked: &Checked,
+    checked: Checked,
     numbers: &[i64],
     limit: u32,
 ) -> Result<Answer, Memory>
-    requires given { length numbers.now ≡ length (input_names checked.now.program.items) }
-    requires some { 1 ≤ limit }
-    ensures { IfOk result (λ a. Shows (program checked.now.program) (answer (program checked.now.program) numbers.now limit) a.text.items a.status) }
+    requires { length numbers.now ≡ length (input_names checked.program.items) }
+    ensures { IfOk result (λ a. Shows (program checked.program) (answer (program checked.program) numbers.now limit) a.text.items a.status) }
 {
-    report_ascends();
-    report_tells();
-    let report = serial_run(alloc, checked, numbers, limit)?;
-    let answer = answer_of(alloc, checked, &report, limit)?;
-    Ok(answer)
+    let compiled = compile(alloc, checked)?;
+    let answer = run_serial(alloc, &compiled, numbers, limit)?;
+    let text = shown(alloc, compiled.checked(), &answer)?;
+    Ok(text)
 }
 
 /// Why a text is no good program: its place and the word for it, or want of memory, which says nothing
@@ -234,7 +250,7 @@ pub fn run_text(alloc: Global, text: &[u8], numbers: &[i64], limit: u32) -> Resu
     if got != wanted {
         return miscounted(alloc, wanted, got);
     }
-    run_checked(alloc, &checked, numbers, limit)
+    run_checked(alloc, checked, numbers, limit)
 }
 
 /// What a text of at most 1,048,576 bytes comes to where it is checked.
