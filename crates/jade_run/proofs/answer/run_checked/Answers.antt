@@ -9,7 +9,8 @@ use Rattle.jade_run.proofs.answer.run_checked.Goals as goal
 
 -- what shows the answer of the program that was compiled shows that of the program
 shown : (p q r : CheckedProgram) (a : Answer) (ns : List ℤ) (limit : ℕ) (text : List ℕ) (status : Status) → q ≡ p → r ≡ q
-    → a ≡ answer (program q.program) ns limit → Shows (program r.program) a text status → Shows (program p.program) (answer (program p.program) ns limit) text status
+    → a ≡ answer (program q.program) ns limit → Shows (program r.program) a text status
+    → Shows (program p.program) (answer (program p.program) ns limit) text status
 shown p q r a ns limit text status e d t h =
     subst (λ (x : CheckedProgram). Shows (program x.program) (answer (program x.program) ns limit) text status) e
     (subst (λ b. Shows (program q.program) b text status) t (subst (λ (x : CheckedProgram). Shows (program x.program) a text status) d h))
