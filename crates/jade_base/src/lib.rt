@@ -2,8 +2,6 @@
 //! bytes that come in and go out.
 #![tactic(auto)]
 
-#[cfg(test)]
-mod bytes_tests;
 mod calls;
 pub mod content;
 pub mod failure;

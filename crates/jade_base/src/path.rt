@@ -87,24 +87,3 @@ fn compare_lists(left: &[u32], right: &[u32]) -> Ordering
     }
     left.len().cmp(&right.len())
 }
-
-#[cfg(test)]
-mod tests {
-    use super::*;
-    use std::test::Fail;
-
-    #[test]
-    fn orders_paths(rt: HostRuntime) -> Result<(), Fail> {
-        let root = Path::root(rt.alloc())?;
-        let first = root.child(rt.alloc(), 0)?;
-        let second = root.child(rt.alloc(), 1)?;
-        let deep = first.copy(rt.alloc())?.child(rt.alloc(), 7)?;
-        assert_eq!(rt; deep.numbers(), [0, 0, 7].as_slice());
-        assert_eq!(rt; root.compare(&first), Ordering::Less);
-        assert_eq!(rt; second.compare(&deep), Ordering::Greater);
-        assert_eq!(rt; first.compare(&deep), Ordering::Less);
-        assert_eq!(rt; deep.compare(&deep), Ordering::Equal);
-        assert!(rt; deep.is_same(&deep) && !deep.is_same(&first));
-        Ok(())
-    }
-}

@@ -34,16 +34,3 @@ impl Word {
         self.letters.as_slice()
     }
 }
-
-#[cfg(test)]
-mod tests {
-    use super::*;
-    use std::test::Fail;
-
-    #[test]
-    fn keeps_bytes(rt: HostRuntime) -> Result<(), Fail> {
-        let word = Word::of(rt.alloc(), b"cells")?;
-        assert_eq!(rt; word.bytes(), b"cells".as_slice());
-        Ok(())
-    }
-}

@@ -128,22 +128,3 @@ pub fn is_name(bytes: &[u8]) -> bool
 {
     bytes.len() <= WORD_LIMIT && is_word(bytes) && !is_reserved(bytes)
 }
-
-#[cfg(test)]
-mod tests {
-    use super::*;
-
-    #[test]
-    fn takes_names_alone(rt: HostRuntime) {
-        for bytes in [b"wr".as_slice(), b"1a".as_slice(), b"".as_slice()] {
-            match Name::of(rt.alloc(), bytes) {
-                Ok(_) => panic!(rt; "took no name"),
-                Err(error) => assert!(rt; error == NameError::Shape),
-            }
-        }
-        match Name::of(rt.alloc(), b"wr_1") {
-            Ok(name) => assert!(rt; name.bytes() == b"wr_1".as_slice()),
-            Err(_) => panic!(rt; "refused a name"),
-        }
-    }
-}

@@ -6,8 +6,6 @@ ghost use Rattle.jade_syntax.specs.Shapes.{is_shaped};
 pub mod extent;
 pub(crate) mod measure;
 pub mod place;
-#[cfg(test)]
-mod shape_tests;
 
 use crate::shapes::measure::program_extent;
 use crate::shapes::place::{BlockKind, are_placed};
