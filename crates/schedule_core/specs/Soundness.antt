@@ -14,6 +14,7 @@ use Rattle.schedule_core.specs.Tells.{CoreTells, EntriesAreThere}
 use Rattle.schedule_core.specs.Serially.{ContentsAreSerial, TasksAreSerial}
 use Rattle.schedule_core.specs.EntryRights.{EntriesHaveRights}
 use Rattle.schedule_core.specs.Remains.{WritesGoFirst}
+use Rattle.schedule_core.specs.Holders.{HoldersAreLive}
 use Rattle.schedule_core.specs.Queued.{EntriesAreOwned, InSerialOrder, HeldAlone, StaysEnabled}
 use Rattle.schedule_core.specs.Parts.{NotesAreSerial}
 
@@ -28,6 +29,8 @@ pub record CoreIsSound (p : Program) (ns : List ℤ) (limit : ℕ) : Type 0 wher
   pub order : InSerialOrder p ns limit
   -- one task alone has a content out, and a reader beside it is seen and stands before it
   pub held : HeldAlone p ns limit
+  -- and an entry with a hold is that of a live task
+  pub holders : HoldersAreLive p ns limit
   -- what is handed out, held or kept is the serial run's content at its task's place
   pub contents : ContentsAreSerial p ns limit
   -- the writes on an object that are gone come first among the serial run's

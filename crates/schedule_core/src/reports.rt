@@ -2,6 +2,7 @@
 
 ghost use Rattle.std.specs.Prelude.{◌≡◌, length, IfOk, OnOk};
 ghost use Rattle.schedule_core.specs.Reports.{told_of};
+ghost use Rattle.schedule_core.specs.steps.Ascending.{IsAscending};
 ghost use Rattle.task_roll.specs.Rolls.{by_key, filed};
 
 use crate::notes::{faults_of, filing_place, no_turns, steps_of};
@@ -54,6 +55,7 @@ fn copied(alloc: Global, note: &PartNote) -> Result<PartNote, Memory>
 // Files a note among others.
 #[tactic(auto, using(crate::proofs::Filing::filed_is))]
 fn file(notes: &mut Vec<PartNote>, note: PartNote) -> Result<(), Memory>
+    requires { IsAscending notes.old.items }
     ensures { OnOk result (notes.new.items ≡ filed note notes.old.items) }
 {
     let place = filing_place(notes.as_slice(), &note);

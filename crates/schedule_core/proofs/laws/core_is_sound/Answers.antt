@@ -7,6 +7,7 @@ returns c = λ p ns limit. record {
   rights = c.entries_have_rights.ensures p ns limit;
   order = c.in_serial_order.ensures p ns limit;
   held = c.held_alone.ensures p ns limit;
+  holders = c.holders_are_live.ensures p ns limit;
   contents = c.contents_are_serial.ensures p ns limit;
   writes = c.writes_go_first.ensures p ns limit;
   notes = c.notes_are_serial.ensures p ns limit;
