@@ -26,11 +26,16 @@ use Rattle.object_table.specs.steps.Leaving.{Begun, Ending, held_after, EndsWith
 use Rattle.object_table.specs.declared.task.Task.{Task}
 use Rattle.object_table.specs.declared.slot.Slot.{Slot}
 use Rattle.object_table.specs.declared.slot.Slot.TheVariants as slot
-use Rattle.object_table.proofs.Calls.{on_try, object_there, path_is, children_is, tries_same, told_sized, tried_rests, busy_is, busy_shown, off_is, off_shown, off_before}
+use Rattle.object_table.proofs.Calls.{on_try, object_there, path_is, children_is, tries_same, told_sized, tried_rests, busy_is, busy_shown}
+use Rattle.object_table.proofs.Calls.{off_is, off_shown, off_before}
 use Rattle.object_table.proofs.Calls.{may_finish, may_desist, finished, done_rests, done_shown, did_shown}
 use Rattle.object_table.proofs.Touching.{passed_same}
 use Rattle.object_table.proofs.RollCalls.{roll_there, may_enroll, enrolled_is, enrolled_rests, enrolled_shown}
 use Rattle.object_table.proofs.RollCalls.{may_resign, resigned_is, resigned_rests, resigned_shown}
+
+-- one event more is done, and no touch since
+abbrev pub OneMore : (before after : Task) → Type 0
+OneMore t t3 = (t3.touched ≡ 0) × (t3.events ≡ (t.events + 1) % 2 ^ 64)
 
 -- no touch makes anything of a slot's value
 public : (o : ℕ) (e : Event) (v : View) (new : Slot) → Made o e v new → is_touch e ≡ false
@@ -108,71 +113,78 @@ module _ (slots o : ℕ) (y : Slot) (t now : Task) (b : Begun slots o y t now) w
 pub path_now : {slots o : ℕ} {y : Slot} {t now : Task} → Begun slots o y t now → now.path ≡ (shown t).seat.path
 path_now {slots} {o} {y} {t} {now} b = ap (λ (x : Task). x.path) b.same ∙ path_is t b.rests
 
-module _ {key : RunPlan} {slots o : ℕ} {y : Slot} {t now : Task} {z new : ShelfView} (b : Begun slots o y t now) (lt : o < count_of key) (is : y ≡ slot.Object z)
-  where
-    abbrev pub take_ends : {m : Mode} → Next (Take o m) (shown t) → keeper_in now.path m z.queue ≡ None → new ≡ handed now.path m z
-        → Ending key slots o now (slot.Object new)
-    take_ends {m} next free is_new = record {
-      before = t;
-      value = y;
-      event = Take o m;
-      begun = b;
-      object = lt;
-      next = next;
-      made = (refl, z, is, subst (λ p. keeper_in p m z.queue ≡ None) (path_now b) free, ap (λ q. slot.Object q) is_new ∙ ap (λ p. slot.Object (handed p m z)) (path_now b));
-    }
+module _ {key : RunPlan} {slots o : ℕ} {y : Slot} {t now : Task} {z new : ShelfView} (b : Begun slots o y t now) (lt : o < count_of key)
+    (is : y ≡ slot.Object z) where
+  abbrev pub take_ends : {m : Mode} → Next (Take o m) (shown t) → keeper_in now.path m z.queue ≡ None → new ≡ handed now.path m z
+      → Ending key slots o now (slot.Object new)
+  take_ends {m} next free is_new = record {
+    before = t;
+    value = y;
+    event = Take o m;
+    begun = b;
+    object = lt;
+    next = next;
+    made = (
+      refl,
+      z,
+      is,
+      subst (λ p. keeper_in p m z.queue ≡ None) (path_now b) free,
+      ap (λ q. slot.Object q) is_new ∙ ap (λ p. slot.Object (handed p m z)) (path_now b),
+    );
+  }
 
-    abbrev pub give_ends : {c : Held} → Next (Give o) (shown t) → held_at o (shown t).held ≡ Some c → new ≡ returned now.path c z
-        → Ending key slots o now (slot.Object new)
-    give_ends {c} next has is_new = record {
-      before = t;
-      value = y;
-      event = Give o;
-      begun = b;
-      object = lt;
-      next = next;
-      made = (refl, z, c, is, has, ap (λ q. slot.Object q) is_new ∙ ap (λ p. slot.Object (returned p c z)) (path_now b));
-    }
+  abbrev pub give_ends : {c : Held} → Next (Give o) (shown t) → held_at o (shown t).held ≡ Some c → new ≡ returned now.path c z
+      → Ending key slots o now (slot.Object new)
+  give_ends {c} next has is_new = record {
+    before = t;
+    value = y;
+    event = Give o;
+    begun = b;
+    object = lt;
+    next = next;
+    made = (refl, z, c, is, has, ap (λ q. slot.Object q) is_new ∙ ap (λ p. slot.Object (returned p c z)) (path_now b));
+  }
 
-    abbrev pub shift_ends : {a : Rights} → Next (Shift o a) (shown t) → new ≡ on_queue (at now.path (with_rights a)) z → Ending key slots o now (slot.Object new)
-    shift_ends {a} next is_new = record {
-      before = t;
-      value = y;
-      event = Shift o a;
-      begun = b;
-      object = lt;
-      next = next;
-      made = (refl, z, is, ap (λ q. slot.Object q) is_new ∙ ap (λ p. slot.Object (on_queue (at p (with_rights a)) z)) (path_now b));
-    }
+  abbrev pub shift_ends : {a : Rights} → Next (Shift o a) (shown t) → new ≡ on_queue (at now.path (with_rights a)) z
+      → Ending key slots o now (slot.Object new)
+  shift_ends {a} next is_new = record {
+    before = t;
+    value = y;
+    event = Shift o a;
+    begun = b;
+    object = lt;
+    next = next;
+    made = (refl, z, is, ap (λ q. slot.Object q) is_new ∙ ap (λ p. slot.Object (on_queue (at p (with_rights a)) z)) (path_now b));
+  }
 
-    abbrev pub leave_ends : Next (Leave o) (shown t) → new ≡ on_queue (without now.path) z → Ending key slots o now (slot.Object new)
-    leave_ends next is_new = record {
-      before = t;
-      value = y;
-      event = Leave o;
-      begun = b;
-      object = lt;
-      next = next;
-      made = (refl, z, is, ap (λ q. slot.Object q) is_new ∙ ap (λ p. slot.Object (on_queue (without p) z)) (path_now b));
-    }
+  abbrev pub leave_ends : Next (Leave o) (shown t) → new ≡ on_queue (without now.path) z → Ending key slots o now (slot.Object new)
+  leave_ends next is_new = record {
+    before = t;
+    value = y;
+    event = Leave o;
+    begun = b;
+    object = lt;
+    next = next;
+    made = (refl, z, is, ap (λ q. slot.Object q) is_new ∙ ap (λ p. slot.Object (on_queue (without p) z)) (path_now b));
+  }
 
-    abbrev pub enter_ends : {a : Rights} {kid : List ℕ} → Next (Enter o a) (shown t) → kid ≡ t.path ++ t.children ∷ []
-        → new ≡ on_queue (entered_in now.path kid a) z → Ending key slots o now (slot.Object new)
-    enter_ends {a} {kid} next is_kid is_new = record {
-      before = t;
-      value = y;
-      event = Enter o a;
-      begun = b;
-      object = lt;
-      next = next;
-      made = (
-        refl,
-        z,
-        is,
-        ap (λ q. slot.Object q) is_new ∙ ap (λ q. slot.Object (on_queue (entered_in now.path q a) z)) is_kid
-            ∙ λ i. slot.Object (on_queue (entered_in (path_now b i) (path_is t b.rests i ++ children_is t b.rests i ∷ []) a) z),
-      );
-    }
+  abbrev pub enter_ends : {a : Rights} {kid : List ℕ} → Next (Enter o a) (shown t) → kid ≡ t.path ++ t.children ∷ []
+      → new ≡ on_queue (entered_in now.path kid a) z → Ending key slots o now (slot.Object new)
+  enter_ends {a} {kid} next is_kid is_new = record {
+    before = t;
+    value = y;
+    event = Enter o a;
+    begun = b;
+    object = lt;
+    next = next;
+    made = (
+      refl,
+      z,
+      is,
+      ap (λ q. slot.Object q) is_new ∙ ap (λ q. slot.Object (on_queue (entered_in now.path q a) z)) is_kid
+          ∙ λ i. slot.Object (on_queue (entered_in (path_now b i) (path_is t b.rests i ++ children_is t b.rests i ∷ []) a) z),
+    );
+  }
 
 -- what a Take answers
 module _ {slots o : ℕ} {y : Slot} {t now : Task} {z : ShelfView} (b : Begun slots o y t now) (is : y ≡ slot.Object z) where
@@ -227,7 +239,7 @@ module _ (key : RunPlan) (laws : Laws key) (slots o : ℕ) (now : Task) (new : S
 
   module _ (t3 : Task) (seat : Seat Slot View) (sits : t3.seat ≡ seat) (left : left_done (step slots o 0 0 none) (with_slot o new now.seat.me) 0 seat.me)
       (fields : (t3.path ≡ now.path) × (t3.children ≡ now.children) × (t3.over ≡ now.over))
-      (counts : (t3.touched ≡ 0) × (t3.events ≡ (now.events + 1) % 2 ^ 64)) where
+      (counts : OneMore now t3) where
     abbrev held : List (Option Held)
     held = held_after d.event d.value (shown t).seat.path (shown t).held
 
@@ -263,13 +275,13 @@ module _ (key : RunPlan) (laws : Laws key) (slots o : ℕ) (now : Task) (new : S
       (b.made ∙ λ i. slot.Roll (enrolled (s.0 i) (s.1 i) b.steps b.roll))
 
   module _ (t3 : Task) (seat : Seat Slot View) (sits : t3.seat ≡ seat)
-      (left : left_enrolled (step slots o 0 0 none) (with_slot o new now.seat.me) 0 seat.me) (counts : (t3.touched ≡ 0) × (t3.events ≡ (now.events + 1) % 2 ^ 64)) where
+      (left : left_enrolled (step slots o 0 0 none) (with_slot o new now.seat.me) 0 seat.me) (counts : OneMore now t3) where
     is : (kid : Place) × Born (shown mother).seat kid t3.seat.me.0.seat
         × (t3.seat.me ≡ (bore kid (on_try true (suc mother.seat.me.0.tries) o 0 b.value (shown mother)), []))
     is = enrolled_is mother rest key laws slots now.seat o b.place b.value new b.begun.turn b.roll b.found b.child b.steps b.next t3.seat.me
         (subst (λ (s : Seat Slot View). left_enrolled (step slots o 0 0 none) (with_slot o new now.seat.me) 0 s.me) (sym sits) left)
 
-    counted : (t3.touched ≡ 0) × (t3.events ≡ (mother.events + 1) % 2 ^ 64)
+    counted : OneMore mother t3
     counted = (counts.0, counts.1 ∙ ap (λ n. (n + 1) % 2 ^ 64) (same_fields slots o b.value mother now b.begun).3)
 
     pub born_rests : t3.path ≡ now.path → t3.children ≡ now.children + 1 → t3.over ≡ now.over → Rests t3
@@ -290,31 +302,32 @@ module _ (key : RunPlan) (laws : Laws key) (slots o : ℕ) (now : Task) (new : S
   abbrev rests : Rests last
   rests = p.begun.rests
 
-  made_of : new ≡ slot.Roll (resigned last.path last.children p.blame p.steps p.roll)
-  made_of =
+  made_roll : new ≡ slot.Roll (resigned last.path last.children p.blame p.steps p.roll)
+  made_roll =
       let s = same_fields slots o p.value last now p.begun in
       p.made ∙ λ i. slot.Roll (resigned (s.0 i) (s.1 i) p.blame p.steps p.roll)
 
   pub may_depart : Leaves left_resigned key slots now.seat.id (with_slot o new now.seat.me) o
-  may_depart = may_resign last rests key laws slots now.seat o p.place p.value new p.begun.turn p.roll p.found p.blame p.steps p.next made_of
+  may_depart = may_resign last rests key laws slots now.seat o p.place p.value new p.begun.turn p.roll p.found p.blame p.steps p.next made_roll
 
   module _ (t3 : Task) (seat : Seat Slot View) (sits : t3.seat ≡ seat)
-      (left : left_resigned (step slots o 0 0 none) (with_slot o new now.seat.me) 0 seat.me) (counts : (t3.touched ≡ 0) × (t3.events ≡ (now.events + 1) % 2 ^ 64)) (over : t3.over ≡ is_deserted new) where
-    me3 : t3.seat.me ≡ (gone t3.over (on_try true (suc last.seat.me.0.tries) o 0 p.value (shown last)), [])
-    me3 = resigned_is last rests key laws slots now.seat o p.place p.value new p.begun.turn p.roll p.found p.blame p.steps p.next t3.seat.me
+      (left : left_resigned (step slots o 0 0 none) (with_slot o new now.seat.me) 0 seat.me) (counts : OneMore now t3)
+      (over : t3.over ≡ is_deserted new) where
+    left_is : t3.seat.me ≡ (gone t3.over (on_try true (suc last.seat.me.0.tries) o 0 p.value (shown last)), [])
+    left_is = resigned_is last rests key laws slots now.seat o p.place p.value new p.begun.turn p.roll p.found p.blame p.steps p.next t3.seat.me
         (subst (λ (s : Seat Slot View). left_resigned (step slots o 0 0 none) (with_slot o new now.seat.me) 0 s.me) (sym sits) left)
         ∙ ap (λ l. (gone l (on_try true (suc last.seat.me.0.tries) o 0 p.value (shown last)), [])) (sym over)
 
-    counts3 : (t3.touched ≡ 0) × (t3.events ≡ (last.events + 1) % 2 ^ 64)
-    counts3 = (counts.0, counts.1 ∙ ap (λ n. (n + 1) % 2 ^ 64) (same_fields slots o p.value last now p.begun).3)
+    counted_last : OneMore last t3
+    counted_last = (counts.0, counts.1 ∙ ap (λ n. (n + 1) % 2 ^ 64) (same_fields slots o p.value last now p.begun).3)
 
     pub departed_rests : t3.path ≡ now.path → t3.children ≡ now.children → Rests t3
     departed_rests path children =
         let s = same_fields slots o p.value last now p.begun in
-        resigned_rests last rests key laws slots now.seat o p.place p.value new p.begun.turn p.roll p.found p.blame p.steps p.next t3 t3.over me3 counts3
+        resigned_rests last rests key laws slots now.seat o p.place p.value new p.begun.turn p.roll p.found p.blame p.steps p.next t3 t3.over left_is counted_last
         (path ∙ s.0) (children ∙ s.1) refl
 
     pub departed : Ended o p.blame p.steps (shown last) (shown t3)
     departed =
-        resigned_shown last rests key laws slots now.seat o p.place p.value new p.begun.turn p.roll p.found p.blame p.steps p.next t3 t3.over me3 counts3
-        (over ∙ ap is_deserted made_of)
+        resigned_shown last rests key laws slots now.seat o p.place p.value new p.begun.turn p.roll p.found p.blame p.steps p.next t3 t3.over left_is counted_last
+        (over ∙ ap is_deserted made_roll)

@@ -91,7 +91,8 @@ fn settle(task: &mut Task)
 
 // One try at a turn, with which the slot's value is taken out; without it the try is over.
 fn begin(words: &Words, task: &mut Task, place: usize) -> Result<Slot, u64>
-    requires table { (task.old.seat.table_id ≡ words.now.table_id) × (place < words.now.table_id.slots) × (words.now.table_id.words ≡ words.now.table_id.slots) }
+    requires table { (task.old.seat.table_id ≡ words.now.table_id) × (place < words.now.table_id.slots) }
+    requires wide { words.now.table_id.words ≡ words.now.table_id.slots }
     requires rests { Rests task.old }
     requires live { (shown task.old).live ≡ true }
     ensures mark { task.new.seat.table_id ≡ task.old.seat.table_id }

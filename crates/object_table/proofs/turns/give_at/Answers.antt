@@ -8,4 +8,5 @@ pub returns-clause-done : goal.returns-clause-done
 returns-clause-done c =
     let z = c.shelf_in-shelf.result in
     let is = c.shelf_in-shelf.ensures in
-    record { object = z; after = c.complete.ensures.done (give_ends c.in-Ok.ensures.got c.requires.fits.object is c.requires.next c.requires.held c.give.ensures) z is }
+    let b = c.in-Ok.ensures.got in
+    record { object = z; after = c.complete.ensures.done (give_ends b c.requires.fits.object is c.requires.next c.requires.held c.give.ensures) z is }
