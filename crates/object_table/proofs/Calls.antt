@@ -205,8 +205,18 @@ module _ (t : Task) (r : Rests t) where
     public = public;
   }
 
+  pub alive_is : v.live ≡ true → v0.live ≡ true
+  alive_is live = sym same.live ∙ live
+
   pub alive : (e : Event) → Next e v → v0.live ≡ true
-  alive e next = sym same.live ∙ next.live
+  alive e next = alive_is next.live
+
+  -- a turn may be left with nothing done
+  pub may_desist : (slots : ℕ) (seat1 : Seat Slot View) (o : ℕ) (y new : Slot) → InTurn slots o y t.seat.me seat1.me → (key : RunPlan) → new ≡ y
+      → Leaves left_as_it_was key slots seat1.id (with_slot o new seat1.me) o
+  may_desist slots seat1 o y new turn key same =
+      subst (λ (m : Me Slot View). Leaves left_as_it_was key slots seat1.id m o) (sym (ap (with_slot o new) turn.me))
+      (desisting key slots seat1.id o (in_turn o y v0, (o, new) ∷ []) new refl refl refl same)
 
   module _ (key : RunPlan) (laws : Laws key) (slots : ℕ) (seat1 : Seat Slot View) (o : ℕ) (y new : Slot) (turn : InTurn slots o y t.seat.me seat1.me)
       (e : Event) (public : is_touch e ≡ false) (next : Next e v) where
@@ -232,11 +242,6 @@ module _ (t : Task) (r : Rests t) where
         let now : after.0 ≡ did e (on_try true (suc v0.tries) o 0 y v) = d.0 t.touched e (ahead_is e public next (suc v0.tries) o 0 y)
         ∙ ap (did e) (passed_try true (suc v0.tries) o 0 y t.touched v0) in
         λ i. (now i, d.1 i)
-
-    -- the turn may be left with nothing done
-    pub may_desist : new ≡ y → Leaves left_as_it_was key slots seat1.id (with_slot o new seat1.me) o
-    may_desist same = subst (λ (m : Me Slot View). Leaves left_as_it_was key slots seat1.id m o) (sym turned_is)
-        (desisting key slots seat1.id o in_it new refl refl refl same)
 
   -- an event done: the fields follow
   pub left_rests : (t3 : Task) (w : View) → t3.seat.me ≡ (w, []) → t3.path ≡ w.seat.path → t3.children ≡ w.seat.children → t3.over ≡ w.over

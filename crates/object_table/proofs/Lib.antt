@@ -18,3 +18,4 @@ pub mod Joining
 pub mod RollCalls
 pub mod Endings
 pub mod Sizes
+pub mod Leaving

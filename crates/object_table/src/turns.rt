@@ -7,13 +7,15 @@ ghost use Rattle.jade_meaning.specs.Talk.{Task as TaskOf, Take, Give, Enter, Enr
 ghost use Rattle.object_shelf.specs.Views.{ShelfView};
 ghost use Rattle.object_shelf.specs.Shelves.{keeper_in, at, without, entered_in, with_rights};
 ghost use Rattle.object_shelf.specs.Homes.{hand_in, handed, returned, on_queue};
-ghost use Rattle.object_table.specs.Plays.{tried_at, nobody, without_kid, joined};
+ghost use Rattle.object_table.specs.Plays.{tried_at, nobody, is_deserted, without_kid, joined};
 ghost use Rattle.object_table.specs.Touches.{held_at, put_held};
-ghost use Rattle.object_table.specs.Calls.{Next, TakenAs, TriedAs, EnrolledAs, ResignedAs, AsBefore, Did, IsBusy, IsGone};
+ghost use Rattle.object_table.specs.Calls.{Next, TakenAs, TriedAs, EnrolledAs, ResignedAs, AsBefore, Did, Bore, Ended, IsBusy, IsGone};
 ghost use Rattle.schedule_core.specs.declared.steps.Seat.{Seat as SeatOf};
 ghost use Rattle.object_table.specs.steps.Kept.{Rests, Fits, FitsRoll, Laid, InTurn, Leaves, Laws};
 ghost use Rattle.object_table.specs.steps.Kept.{with_slot, shown, IsObject, IsRoll, IsKidOf, HandedAs, EnteredAs};
+ghost use Rattle.object_table.specs.steps.Leaving.{Begun, Ending, EndsWith, Desisted, Birth, Departure};
 ghost use Rattle.object_table.specs.declared.slot.Slot.{Slot as SlotOf};
+ghost use Rattle.object_table.specs.declared.task.Task.{Task as TaskState};
 ghost use Rattle.jade_meaning.specs.Plan.{RunPlan};
 
 use crate::answers::{Taken, Tried};
@@ -87,6 +89,76 @@ fn settle(task: &mut Task)
     task.touched = 0;
 }
 
+// One try at a turn, with which the slot's value is taken out; without it the try is over.
+fn begin(words: &Words, task: &mut Task, place: usize) -> Result<Slot, u64>
+    requires table { (task.old.seat.table_id ≡ words.now.table_id) × (place < words.now.table_id.slots) }
+    requires wide { words.now.table_id.words ≡ words.now.table_id.slots }
+    requires rests { Rests task.old }
+    requires live { (shown task.old).live ≡ true }
+    ensures mark { task.new.seat.table_id ≡ task.old.seat.table_id }
+    ensures got { IfOk result (λ y. Begun words.now.table_id.slots place y task.old task.new) }
+    ensures over { IfErr result (λ _. Rests task.new) }
+    ensures busy { IfErr result (λ n. IsBusy n place (shown task.old) (shown task.new)) }
+{
+    take_turn(words, &mut task.seat, place)
+}
+
+// The turn at an object is left with the task's next event done, which made this of the object.
+fn complete(words: &Words, task: &mut Task, object: usize, slot: Slot)
+    requires table { (task.old.seat.table_id ≡ words.now.table_id) × (object < words.now.table_id.words) }
+    requires ending { Ending words.now.key words.now.table_id.slots object task.old slot }
+    ensures mark { task.new.seat.table_id ≡ task.old.seat.table_id }
+    ensures rests { Rests task.new }
+    ensures done { (d : Ending words.now.key words.now.table_id.slots object task.old slot)
+        → EndsWith object d.event d.value (shown d.before) (shown task.new) }
+{
+    core_laws();
+    leave_turn::<Finish>(words, &mut task.seat, object, slot);
+    settle(task);
+}
+
+// The turn is left with nothing done; the slot's value is the one that was found.
+fn desist(words: &Words, task: &mut Task, place: usize, slot: Slot)
+    requires table { (task.old.seat.table_id ≡ words.now.table_id) × (place < words.now.table_id.words) }
+    requires begun { (before : TaskState) × Begun words.now.table_id.slots place slot before task.old }
+    ensures mark { task.new.seat.table_id ≡ task.old.seat.table_id }
+    ensures rests { Rests task.new }
+    ensures after { (before : TaskState) → Begun words.now.table_id.slots place slot before task.old → Desisted place slot before task.new }
+{
+    leave_turn::<Desist>(words, &mut task.seat, place, slot);
+}
+
+// The turn at the roll is left with the next child made, with which the task has made so many.
+fn bear(words: &Words, task: &mut Task, place: usize, slot: Slot, children: u32)
+    requires table { (task.old.seat.table_id ≡ words.now.table_id) × (place < words.now.table_id.words) }
+    requires birth { Birth words.now.key words.now.table_id.slots place task.old slot }
+    requires count { children ≡ task.old.children + 1 }
+    ensures mark { task.new.seat.table_id ≡ task.old.seat.table_id }
+    ensures rests { Rests task.new }
+    ensures done { (b : Birth words.now.key words.now.table_id.slots place task.old slot) → Bore place (shown b.before) (shown task.new) }
+{
+    core_laws();
+    leave_turn::<Enrolling>(words, &mut task.seat, place, slot);
+    settle(task);
+    task.children = children;
+}
+
+// The turn at the roll is left with the task's end done, after which the roll is empty or not.
+fn depart(words: &Words, task: &mut Task, place: usize, slot: Slot, over: bool)
+    requires table { (task.old.seat.table_id ≡ words.now.table_id) × (place < words.now.table_id.words) }
+    requires departure { Departure words.now.key words.now.table_id.slots place task.old slot }
+    requires last { over ≡ is_deserted slot }
+    ensures mark { task.new.seat.table_id ≡ task.old.seat.table_id }
+    ensures rests { Rests task.new }
+    ensures done { (p : Departure words.now.key words.now.table_id.slots place task.old slot)
+        → Ended place p.blame p.steps (shown p.before) (shown task.new) }
+{
+    core_laws();
+    leave_turn::<Resigning>(words, &mut task.seat, place, slot);
+    settle(task);
+    task.over = over;
+}
+
 // The shelf of an object's slot.
 fn shelf_in(slot: Slot) -> Shelf
     requires { IsObject slot }
@@ -134,8 +206,7 @@ pub(crate) fn take_at(
     ensures rests { Rests task.new }
     ensures answer { TakenAs object mode (shown task.old) result (shown task.new) }
 {
-    core_laws();
-    let slot = match take_turn(words, &mut task.seat, object) {
+    let slot = match begin(words, task, object) {
         Ok(slot) => slot,
         Err(word) => return Ok(Taken::Busy(word)),
     };
@@ -144,16 +215,15 @@ pub(crate) fn take_at(
     let slot = Slot::Object(shelf);
     match handed {
         Ok(Handed::Content(content)) => {
-            leave_turn::<Finish>(words, &mut task.seat, object, slot);
-            settle(task);
+            complete(words, task, object, slot);
             Ok(Taken::Got(content))
         }
         Ok(Handed::Kept(path)) => {
-            leave_turn::<Desist>(words, &mut task.seat, object, slot);
+            desist(words, task, object, slot);
             Ok(Taken::NotYet(path))
         }
         Err(_) => {
-            leave_turn::<Desist>(words, &mut task.seat, object, slot);
+            desist(words, task, object, slot);
             Err(Memory)
         }
     }
@@ -175,15 +245,13 @@ pub(crate) fn give_at(
     ensures done { OnOk result (Did object (put_held object None (shown task.old).held) (shown task.old) (shown task.new)) }
     ensures busy { IfErr result (λ r. (r.0 ≡ content) × IsBusy r.1 object (shown task.old) (shown task.new)) }
 {
-    core_laws();
-    let slot = match take_turn(words, &mut task.seat, object) {
+    let slot = match begin(words, task, object) {
         Ok(slot) => slot,
         Err(word) => return Err((content, word)),
     };
     let mut shelf = shelf_in(slot);
     shelf.give(&task.path, content);
-    leave_turn::<Finish>(words, &mut task.seat, object, Slot::Object(shelf));
-    settle(task);
+    complete(words, task, object, Slot::Object(shelf));
     Ok(())
 }
 
@@ -196,15 +264,13 @@ pub(crate) fn shift_at(words: &Words, task: &mut Task, object: usize, rights: Ri
     ensures rests { Rests task.new }
     ensures answer { TriedAs object (shown task.old) result (shown task.new) }
 {
-    core_laws();
-    let slot = match take_turn(words, &mut task.seat, object) {
+    let slot = match begin(words, task, object) {
         Ok(slot) => slot,
         Err(word) => return Tried::Busy(word),
     };
     let mut shelf = shelf_in(slot);
     shelf.shift(&task.path, rights);
-    leave_turn::<Finish>(words, &mut task.seat, object, Slot::Object(shelf));
-    settle(task);
+    complete(words, task, object, Slot::Object(shelf));
     Tried::Done
 }
 
@@ -217,15 +283,13 @@ pub(crate) fn leave_at(words: &Words, task: &mut Task, object: usize) -> Tried
     ensures rests { Rests task.new }
     ensures answer { TriedAs object (shown task.old) result (shown task.new) }
 {
-    core_laws();
-    let slot = match take_turn(words, &mut task.seat, object) {
+    let slot = match begin(words, task, object) {
         Ok(slot) => slot,
         Err(word) => return Tried::Busy(word),
     };
     let mut shelf = shelf_in(slot);
     shelf.leave(&task.path);
-    leave_turn::<Finish>(words, &mut task.seat, object, Slot::Object(shelf));
-    settle(task);
+    complete(words, task, object, Slot::Object(shelf));
     Tried::Done
 }
 
@@ -263,9 +327,8 @@ pub(crate) fn enter_at(
     ensures answer { IfOk result (λ r. TriedAs object (shown task.old) r (shown task.new)) }
     ensures unchanged { OnErr result (AsBefore (shown task.old) (shown task.new)) }
 {
-    core_laws();
     let child = task.path.child(alloc, task.children)?;
-    let slot = match take_turn(words, &mut task.seat, object) {
+    let slot = match begin(words, task, object) {
         Ok(slot) => slot,
         Err(word) => return Ok(Tried::Busy(word)),
     };
@@ -274,12 +337,11 @@ pub(crate) fn enter_at(
     let slot = Slot::Object(shelf);
     match entered {
         Ok(()) => {
-            leave_turn::<Finish>(words, &mut task.seat, object, slot);
-            settle(task);
+            complete(words, task, object, slot);
             Ok(Tried::Done)
         }
         Err(_) => {
-            leave_turn::<Desist>(words, &mut task.seat, object, slot);
+            desist(words, task, object, slot);
             Err(Memory)
         }
     }
@@ -313,12 +375,11 @@ pub(crate) fn enroll_at(
     ensures answer { IfOk result (λ r. EnrolledAs place (shown task.old) r (shown task.new)) }
     ensures unchanged { OnErr result (AsBefore (shown task.old) (shown task.new)) }
 {
-    core_laws();
     let children = match task.children.checked_add(1) {
         Some(children) => children,
         None => return Err(Memory),
     };
-    let slot = match take_turn(words, &mut task.seat, place) {
+    let slot = match begin(words, task, place) {
         Ok(slot) => slot,
         Err(word) => return Ok(Tried::Busy(word)),
     };
@@ -327,13 +388,11 @@ pub(crate) fn enroll_at(
     let slot = Slot::Roll(roll);
     match done {
         Ok(()) => {
-            leave_turn::<Enrolling>(words, &mut task.seat, place, slot);
-            settle(task);
-            task.children = children;
+            bear(words, task, place, slot, children);
             Ok(Tried::Done)
         }
         Err(_) => {
-            leave_turn::<Desist>(words, &mut task.seat, place, slot);
+            desist(words, task, place, slot);
             Err(Memory)
         }
     }
@@ -354,17 +413,14 @@ pub(crate) fn resign_at(
     ensures rests { Rests task.new }
     ensures answer { ResignedAs place blame steps (shown task.old) result (shown task.new) }
 {
-    core_laws();
-    let slot = match take_turn(words, &mut task.seat, place) {
+    let slot = match begin(words, task, place) {
         Ok(slot) => slot,
         Err(word) => return Tried::Busy(word),
     };
     let mut roll = roll_in(slot);
     roll.resign(&task.path, task.children, blame, steps);
     let over = is_over(&roll);
-    leave_turn::<Resigning>(words, &mut task.seat, place, Slot::Roll(roll));
-    settle(task);
-    task.over = over;
+    depart(words, task, place, Slot::Roll(roll), over);
     Tried::Done
 }
 

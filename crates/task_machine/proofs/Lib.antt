@@ -15,3 +15,4 @@ mod Marks
 mod Asking
 mod Beginning
 mod Searching
+mod Few

@@ -1,6 +1,6 @@
 //! What is proved of executions, for whoever stands on them.
 
-ghost use Rattle.std.specs.Prelude.{ℕ, ℤ, List, Option};
+ghost use Rattle.std.specs.Prelude.{ℕ, ◌+◌, ◌*◌, ◌-◌, ◌^◌, ◌<◌, ◌≤◌, ℤ, List, length, Option};
 ghost use Rattle.jade_base.specs.declared.report.Blame.{Blame};
 ghost use Rattle.jade_base.specs.declared.rights.Mode.{Mode};
 ghost use Rattle.jade_meaning.specs.Specification.{Specification};
@@ -8,11 +8,12 @@ ghost use Rattle.jade_meaning.specs.Course.{Course};
 ghost use Rattle.jade_meaning.specs.Talk.{Holds, Task};
 ghost use Rattle.jade_base.specs.declared.place.ObjectId.{ObjectId};
 ghost use Rattle.jade_base.specs.declared.rights.Rights.{Rights};
-ghost use Rattle.code_meaning.specs.Meaning.{Slots};
+ghost use Rattle.code_meaning.specs.Meaning.{Slots, Children};
 ghost use Rattle.task_code.specs.Rules.{TaskCode};
 ghost use Rattle.task_machine.specs.Executions.{Execution, IsBegun};
 ghost use Rattle.task_machine.specs.Machines.{BeginsItsTalk, BeginsChild, BeginsCode};
-ghost use Rattle.task_machine.specs.Playing.{Contents};
+ghost use Rattle.task_machine.specs.Playing.{Contents, touches};
+ghost use Rattle.task_machine.specs.Stages.{Stage, ahead};
 ghost use Rattle.task_machine.specs.Telling.{Agrees, TellsAsPlayed};
 ghost use Rattle.task_machine.specs.Left.{Due, BeginsDue, TakesLeast, TellsOn, TakesTouched, GivesForChild, Enters};
 ghost use Rattle.task_machine.specs.Machines.{Machine, NoDue, IsOrdered, PlaysOn, AdvancedGoesOn};
@@ -81,6 +82,16 @@ pub fn gives_next()
 pub fn plays_on()
     ensures plays { (m : Machine) → IsOrdered m → NoDue m → PlaysOn m }
     ensures pauses { (m : Machine) → IsOrdered m → NoDue m → AdvancedGoesOn m }
+{}
+
+/// How many cells a task touches before its next event is bounded by its code and its steps: each
+/// step goes over the code once at most, and each instruction touches one cell at most. So it is
+/// below 2^64.
+pub fn touches_few()
+    ensures bound { (child : Children) (s : Stage) (k : Contents)
+        → length (touches (ahead child s) k) ≤ s.left * (length s.code + 1) + (length s.code - s.place) }
+    ensures below { (child : Children) (s : Stage) (k : Contents) → s.left < 2 ^ 32 → length s.code < 2 ^ 32
+        → length (touches (ahead child s) k) < 2 ^ 64 }
 {}
 
 /// What is left where an execution begins is its talk.

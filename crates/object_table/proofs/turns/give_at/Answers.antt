@@ -1,93 +1,12 @@
-use Rattle.std.proofs.Common.{rules, ◌≡◌, suc, [], true, refl, ap, ◌∙◌, None}
-use Rattle.jade_meaning.specs.Talk.{Give}
-use Rattle.object_shelf.specs.Homes.{returned}
-use Rattle.object_table.specs.Touches.{put_held}
-use Rattle.object_table.specs.Plays.{did}
-use Rattle.object_table.specs.steps.Kept.{InTurn, shown}
-use Rattle.object_table.specs.declared.slot.Slot.TheVariants as slot
-use Rattle.object_table.proofs.Calls.{on_try, alive, path_is, busy_is, busy_shown, tried_rests}
-use Rattle.object_table.proofs.Calls.{may_finish, finished, done_rests, done_shown, did_shown}
+use Rattle.object_table.proofs.Leaving.{give_ends}
 use Rattle.object_table.proofs.turns.give_at.Goals as goal
 
-pub take_turn-requires-clause-rests :
-    goal.take_turn-requires-clause-rests
-take_turn-requires-clause-rests c =
-    let t = c.args.task.now in
-    let r = c.requires.rests in
-    let o = c.args.object in
-    (r.holds, r.idle, alive t r (Give o) c.requires.next)
+pub complete-requires-clause-ending : goal.complete-requires-clause-ending
+complete-requires-clause-ending c = give_ends c.in-Ok.ensures.got c.requires.fits.object c.shelf_in-shelf.ensures c.requires.next c.requires.held c.give.ensures
 
-pub returns-in-Err-clause-rests :
-    goal.returns-in-Err-clause-rests
-returns-in-Err-clause-rests c =
-    let t = c.args.task.now in
-    let r = c.requires.rests in
-    let o = c.args.object in
-    tried_rests t r c.take_turn.new.seat (suc t.seat.me.0.tries) o 1 t.seat.me.0.note (busy_is t r c.take_turn.new.seat o c.in-Err.ensures.busy.1)
-
-pub returns-in-Err-clause-busy :
-    goal.returns-in-Err-clause-busy
-returns-in-Err-clause-busy c =
-    let t = c.args.task.now in
-    let r = c.requires.rests in
-    let o = c.args.object in
-    (refl, record { word = c.in-Err.ensures.busy.0; after = busy_shown t r c.take_turn.new.seat o c.in-Err.ensures.busy.1 })
-
-pub leave_turn-requires-clause-allowed :
-    goal.leave_turn-requires-clause-allowed
-leave_turn-requires-clause-allowed c =
-    let t = c.args.task.now in
-    let r = c.requires.rests in
-    let o = c.args.object in
-    let key = c.args.words.now.key in
-    let slots = c.args.words.now.table_id.slots in
-    let seat1 = c.take_turn.new.seat in
-    let y = c.in-Ok.slot in
-    let turn : InTurn slots o y t.seat.me seat1.me = search rules in
-    let z = c.shelf_in-shelf.result in
-    let is : y ≡ slot.Object z = search rules in
-    let new = slot.Object c.give.new.self in
-    may_finish t r key (c.core_laws.ensures key) slots seat1 o y new turn (Give o) refl c.requires.next c.requires.fits.object
-    (refl, z, c.args.content, is, c.requires.held, ap (λ q. slot.Object q) c.give.ensures ∙ ap (λ q. slot.Object (returned q c.args.content z)) (path_is t r))
-
-pub returns-clause-rests :
-    goal.returns-clause-rests
-returns-clause-rests c =
-    let t = c.args.task.now in
-    let r = c.requires.rests in
-    let o = c.args.object in
-    let key = c.args.words.now.key in
-    let slots = c.args.words.now.table_id.slots in
-    let seat1 = c.take_turn.new.seat in
-    let y = c.in-Ok.slot in
-    let turn : InTurn slots o y t.seat.me seat1.me = search rules in
-    let z = c.shelf_in-shelf.result in
-    let is : y ≡ slot.Object z = search rules in
-    let new = slot.Object c.give.new.self in
-    let t3 = c.settle.new.task in
-    let w = did (Give o) (on_try true (suc t.seat.me.0.tries) o 0 y (shown t)) in
-    let me : t3.seat.me ≡ (w, []) = ap (λ s. s.me) c.settle.ensures.seat
-    ∙ finished t r key (c.core_laws.ensures key) slots seat1 o y new turn (Give o) refl c.requires.next c.leave_turn.new.seat.me
-    c.leave_turn.ensures.done in
-    done_rests t r t3 w me c.settle.ensures.path c.settle.ensures.events refl refl refl refl refl c.requires.next.born
-
-pub returns-clause-done :
-    goal.returns-clause-done
+pub returns-clause-done : goal.returns-clause-done
 returns-clause-done c =
-    let t = c.args.task.now in
-    let r = c.requires.rests in
-    let o = c.args.object in
-    let key = c.args.words.now.key in
-    let slots = c.args.words.now.table_id.slots in
-    let seat1 = c.take_turn.new.seat in
-    let y = c.in-Ok.slot in
-    let turn : InTurn slots o y t.seat.me seat1.me = search rules in
     let z = c.shelf_in-shelf.result in
-    let is : y ≡ slot.Object z = search rules in
-    let new = slot.Object c.give.new.self in
-    let t3 = c.settle.new.task in
-    let w = did (Give o) (on_try true (suc t.seat.me.0.tries) o 0 y (shown t)) in
-    let me : t3.seat.me ≡ (w, []) = ap (λ s. s.me) c.settle.ensures.seat
-    ∙ finished t r key (c.core_laws.ensures key) slots seat1 o y new turn (Give o) refl c.requires.next c.leave_turn.new.seat.me
-    c.leave_turn.ensures.done in
-    record { object = z; after = done_shown t r t3 w me c.settle.ensures.events.0 ∙ did_shown t r o z y (put_held o None (shown t).held) is }
+    let is = c.shelf_in-shelf.ensures in
+    let b = c.in-Ok.ensures.got in
+    record { object = z; after = c.complete.ensures.done (give_ends b c.requires.fits.object is c.requires.next c.requires.held c.give.ensures) z is }

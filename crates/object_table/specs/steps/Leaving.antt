@@ -1,0 +1,83 @@
+-- How a task's turn begins, and how it is left.
+use Rattle.std.specs.Prelude.{◌≡◌, ℕ, ◌<◌, List, Option, None}
+use Rattle.jade_base.specs.Held.{Held}
+use Rattle.jade_base.specs.declared.report.Blame.{Blame}
+use Rattle.jade_meaning.specs.Talk.{Task as TaskOf, Event, Enter, Enroll, Take, TouchRead, TouchWrite, Wants, Give, Leave, Shift, Resign}
+use Rattle.jade_meaning.specs.Plan.{RunPlan}
+use Rattle.object_shelf.specs.Views.{ShelfView}
+use Rattle.task_roll.specs.Rolls.{RollView, enrolled, resigned}
+use Rattle.schedule_core.specs.Plain.{seat_after}
+use Rattle.object_table.specs.Views.{count_of, View}
+use Rattle.object_table.specs.Touches.{put_held}
+use Rattle.object_table.specs.Plays.{in_turn, held_in, handed_by}
+use Rattle.object_table.specs.Calls.{Next, saw, AsBefore}
+use Rattle.object_table.specs.steps.Kept.{Rests, InTurn, Made, shown}
+use Rattle.object_table.specs.declared.task.Task.{Task}
+use Rattle.object_table.specs.declared.slot.Slot.{Slot}
+use Rattle.object_table.specs.declared.slot.Slot.TheVariants as slot
+
+-- a task that rested before has the turn at a place now, whose slot showed this, and is else as it was
+pub record Begun (slots o : ℕ) (y : Slot) (before now : Task) : Type 0 where
+  pub rests : Rests before
+  pub turn : InTurn slots o y before.seat.me now.seat.me
+  pub same : now ≡ record before { seat = now.seat }
+
+-- the task's next event makes this of the slot's value, so that the turn may be left with it done
+pub record Ending (key : RunPlan) (slots o : ℕ) (now : Task) (new : Slot) : Type 0 where
+  pub before : Task
+  pub value : Slot
+  pub event : Event
+  pub begun : Begun slots o value before now
+  pub object : o < count_of key
+  pub next : Next event (shown before)
+  pub made : Made o event (in_turn o value (shown before)) new
+
+-- what the task of a path that held this holds once an event is done on an object whose slot showed this
+abbrev pub held_after : Event → Slot → List ℕ → List (Option Held) → List (Option Held)
+held_after (Take o m) y p h = put_held o (held_in m (handed_by p m y)) h
+held_after (Give o) y p h = put_held o None h
+held_after (Enter o a) y p h = h
+held_after (Shift o a) y p h = h
+held_after (Leave o) y p h = h
+held_after (Enroll t n) y p h = h
+held_after (TouchRead o c x) y p h = h
+held_after (TouchWrite o c x) y p h = h
+held_after (Wants o c) y p h = h
+held_after (Resign b n) y p h = h
+
+-- the task shows that it saw the object and did the event
+abbrev pub EndsWith : (o : ℕ) → Event → Slot → (before after : View) → Type 0
+EndsWith o e y v w =
+    (z : ShelfView) → y ≡ slot.Object z
+    → w ≡ record (saw o z v) { seat = seat_after None v.seat; held = held_after e y v.seat.path v.held }
+
+-- nothing was done in the turn, in which the slot showed this
+pub record Desisted (o : ℕ) (y : Slot) (before after : Task) : Type 0 where
+  pub unchanged : AsBefore (shown before) (shown after)
+  pub seen : (z : ShelfView) → y ≡ slot.Object z → shown after ≡ saw o z (shown before)
+
+-- the task's next event is a creation, which makes this of the roll
+pub record Birth (key : RunPlan) (slots o : ℕ) (now : Task) (new : Slot) : Type 0 where
+  pub before : Task
+  pub value : Slot
+  pub roll : RollView
+  pub child : TaskOf
+  pub steps : ℕ
+  pub begun : Begun slots o value before now
+  pub place : o ≡ count_of key
+  pub found : value ≡ slot.Roll roll
+  pub next : Next (Enroll child steps) (shown before)
+  pub made : new ≡ slot.Roll (enrolled now.path now.children steps roll)
+
+-- the task's next event is its end, which makes this of the roll
+pub record Departure (key : RunPlan) (slots o : ℕ) (now : Task) (new : Slot) : Type 0 where
+  pub before : Task
+  pub value : Slot
+  pub roll : RollView
+  pub blame : Option Blame
+  pub steps : ℕ
+  pub begun : Begun slots o value before now
+  pub place : o ≡ count_of key
+  pub found : value ≡ slot.Roll roll
+  pub next : Next (Resign blame steps) (shown before)
+  pub made : new ≡ slot.Roll (resigned now.path now.children blame steps roll)
