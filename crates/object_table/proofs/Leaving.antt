@@ -324,10 +324,10 @@ module _ (key : RunPlan) (laws : Laws key) (slots o : ℕ) (now : Task) (new : S
     pub departed_rests : t3.path ≡ now.path → t3.children ≡ now.children → Rests t3
     departed_rests path children =
         let s = same_fields slots o p.value last now p.begun in
-        resigned_rests last rests key laws slots now.seat o p.place p.value new p.begun.turn p.roll p.found p.blame p.steps p.next t3 t3.over left_is counted_last
-        (path ∙ s.0) (children ∙ s.1) refl
+        resigned_rests last rests key laws slots now.seat o p.place p.value new p.begun.turn p.roll p.found p.blame p.steps p.next t3 t3.over left_is
+        counted_last (path ∙ s.0) (children ∙ s.1) refl
 
     pub departed : Ended o p.blame p.steps (shown last) (shown t3)
     departed =
-        resigned_shown last rests key laws slots now.seat o p.place p.value new p.begun.turn p.roll p.found p.blame p.steps p.next t3 t3.over left_is counted_last
-        (over ∙ ap is_deserted made_roll)
+        resigned_shown last rests key laws slots now.seat o p.place p.value new p.begun.turn p.roll p.found p.blame p.steps p.next t3 t3.over left_is
+        counted_last (over ∙ ap is_deserted made_roll)
