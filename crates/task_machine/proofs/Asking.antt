@@ -62,13 +62,13 @@ long_of_same (r ∷ rs) [] e = absurd (no_objects r.object (objects_in rs) e)
 long_of_same (r ∷ rs) (q ∷ qs) e = ap suc (long_of_same rs qs (ap rest_in e))
 
 module _ (m : Machine) (good : IsOrdered m) where
-  abbrev e : Execution
+  abbrev pub e : Execution
   e = m.execution
 
-  abbrev n : ℕ
+  abbrev pub n : ℕ
   n = e.stage.objects
 
-  abbrev spec : Specification
+  abbrev pub spec : Specification
   spec = rights_at e.stage
 
   pub spec_long : length spec ≡ n
@@ -83,7 +83,7 @@ module _ (m : Machine) (good : IsOrdered m) where
   pub full : length (holds_at e) ≡ length spec
   full = holds_long n (held_by e) ∙ sym spec_long
 
-  lt_or_le : (i k : ℕ) → (i < k) ⊎ (k ≤ i)
+  pub lt_or_le : (i k : ℕ) → (i < k) ⊎ (k ≤ i)
   lt_or_le i zero = inr (omega arith)
   lt_or_le zero (suc k) = inl (omega arith)
   lt_or_le (suc i) (suc k) = ⊎_elim (λ lt. inl (omega (arith, lt))) (λ le. inr (omega (arith, le))) (lt_or_le i k)
@@ -100,14 +100,14 @@ module _ (m : Machine) (good : IsOrdered m) where
   told none c vs = tells_on (due_at m) spec c (holds_at e) (steps_at m) full (untaken none) no_hold vs
 
   -- what is held has a row
-  has_its_row : (o : ℕ) → is_some (held_by e o) ≡ true → has_row o e.rows ≡ true
+  pub has_its_row : (o : ℕ) → is_some (held_by e o) ≡ true → has_row o e.rows ≡ true
   has_its_row o h = at (has_row o e.rows) refl
     where
       at : (b : Bool) → has_row o e.rows ≡ b → b ≡ true
       at true q = refl
       at false q = absurd (true≢false (sym h ∙ ap is_some (no_content e.rows o q)))
 
-  held_inside : (o : ℕ) → is_some (held (holds_at e) o) ≡ true → is_some (held_by e o) ≡ true
+  pub held_inside : (o : ℕ) → is_some (held (holds_at e) o) ≡ true → is_some (held_by e o) ≡ true
   held_inside o h = ⊎_elim (λ lt. mode_there (held_by e o) (sym (ap is_some (hold_at n (held_by e) o lt)) ∙ h))
       (λ le. absurd (true≢false (sym h ∙ ap is_some (hold_past n (held_by e) o le)))) (lt_or_le o n)
     where
@@ -126,7 +126,7 @@ module _ (m : Machine) (good : IsOrdered m) where
       → slice_set (holds_at e) o (Some mode) ≡ holds_at (supplied o x m).execution
   set_holds o mode x row same = ap (λ y. slice_set (holds_at e) o (Some y)) (sym same) ∙ sym (holds_set e.rows o row (Some x) n)
 
-  due_has_row : (o : ℕ) → to_take (due_at m) spec o ≡ true → has_row o e.rows ≡ true
+  pub due_has_row : (o : ℕ) → to_take (due_at m) spec o ≡ true → has_row o e.rows ≡ true
   due_has_row o h = at (has_row o e.rows) refl
     where
       at : (b : Bool) → has_row o e.rows ≡ b → b ≡ true
@@ -165,11 +165,11 @@ module _ (m : Machine) (good : IsOrdered m) where
   given_up : (o : ℕ) → is_some (held (holds_at e) o) ≡ true → slice_set (holds_at e) o None ≡ holds_of n (contents_of (with_content o None e.rows))
   given_up o h = sym (holds_set e.rows o (has_its_row o (held_inside o h)) None n)
 
-  yields_held : (x : Option Mode) (a : Rights) → yields x a ≡ true → is_some x ≡ true
+  pub yields_held : (x : Option Mode) (a : Rights) → yields x a ≡ true → is_some x ≡ true
   yields_held None a h = h
   yields_held (Some y) a h = refl
 
-  first_of : (a b : Bool) → (a && b) ≡ true → a ≡ true
+  pub first_of : (a b : Bool) → (a && b) ≡ true → a ≡ true
   first_of true b h = refl
   first_of false b h = h
 
@@ -237,7 +237,7 @@ module _ (m : Machine) (good : IsOrdered m) where
 
   -- ---- what is played
 
-  agreed : Agrees spec (holds_at e) (held_by e)
+  pub agreed : Agrees spec (holds_at e) (held_by e)
   agreed = record {
     holds = λ o x h. ⊎_elim (λ lt. hold_at n (held_by e) o lt ∙ ap mode_held h)
         (λ le. absurd (none-some x.mode (sym (ap mode_of (past o le)) ∙ good.agrees o x h))) (lt_or_le o n);
@@ -254,8 +254,8 @@ module _ (m : Machine) (good : IsOrdered m) where
 
   -- ---- going on
 
-  module _ (none : NoDue m) (p : Pause) (f : Execution) (a : Advanced e p f) (real : p ≡ pause.Other → ⊥) where
-    abbrev there : Machine
+  module _ (none : NoDue m) (p : Pause) (f : Execution) (a : Advanced e p f) where
+    abbrev pub there : Machine
     there = at_pause m f
 
     same_children : child_of f ≡ child_of e
@@ -263,13 +263,13 @@ module _ (m : Machine) (good : IsOrdered m) where
         ap₂ (λ zs l. children_of zs l f.program.bodies f.body) a.task.numbers a.task.limit
         ∙ ap₂ (λ c b. children_of e.numbers e.limit c.bodies b) a.task.program a.task.body
 
-    same_rights : rights_at f.stage ≡ spec
+    pub same_rights : rights_at f.stage ≡ spec
     same_rights = ap₂ spread a.task.objects a.task.rights
 
-    same_steps : steps_at m + (e.stage.left - f.stage.left) ≡ steps_at there
+    pub same_steps : steps_at m + (e.stage.left - f.stage.left) ≡ steps_at there
     same_steps = let le = a.fewer in let room = good.steps in omega (arith, le, room)
 
-    same_play : played (course_at e) (held_by e) (steps_at m) e.events ≡ played (course_at f) (held_by f) (steps_at there) f.events
+    pub same_play : played (course_at e) (held_by e) (steps_at m) e.events ≡ played (course_at f) (held_by f) (steps_at there) f.events
     same_play =
         a.plays (child_of e) (steps_at m)
         ∙ ap₂ (λ c n. played (ahead c f.stage) (held_by f) n f.events) (sym same_children) same_steps
@@ -280,12 +280,12 @@ module _ (m : Machine) (good : IsOrdered m) where
         ∙ ap (λ (q : Played). mode_held (q.contents o)) (sym same_play)
         ∙ modes_kept (course_at e) (held_by e) (steps_at m) e.events o
 
-    same_holds : holds_at f ≡ holds_at e
+    pub same_holds : holds_at f ≡ holds_at e
     same_holds =
         ap (λ k. holds_of k (held_by f)) a.task.objects
         ∙ table_same (λ o. mode_held (held_by f o)) (λ o. mode_held (held_by e o)) 0 n (λ j le lt. same_modes j)
 
-    rests : (vs : List ℤ) → rest_of m vs ≡ rest_of there vs
+    pub rests : (vs : List ℤ) → rest_of m vs ≡ rest_of there vs
     rests vs =
         ap (λ (q : Played). events q.course spec (holds_at e) q.steps vs) same_play
         ∙ ap₂ (λ s h. events (played (course_at f) (held_by f) (steps_at there) f.events).course s h
@@ -308,7 +308,7 @@ module _ (m : Machine) (good : IsOrdered m) where
     }
 
     -- a course that can't go on
-    abbrev Stuck : Course → Type 0
+    abbrev pub Stuck : Course → Type 0
     Stuck c = (k : ℕ) (ev : ℕ) → played c (held_by f) k ev ≡ record { course = c; contents = held_by f; steps = k; events = ev }
 
     wanted_stuck : (o : ℕ) (c : Course) → Wants o c (held_by f) → Stuck c
@@ -321,7 +321,7 @@ module _ (m : Machine) (good : IsOrdered m) where
     wanted_stuck o (Changes s on) h k ev = absurd h
     wanted_stuck o (Ends b) h k ev = absurd h
 
-    stuck : (q : Pause) → is_event q ≡ true → (q ≡ pause.Other → ⊥) → Tells q (child_of f) f.stage (held_by f) → Stuck (course_at f)
+    pub stuck : (q : Pause) → is_event q ≡ true → (q ≡ pause.Other → ⊥) → Tells q (child_of f) f.stage (held_by f) → Stuck (course_at f)
     stuck pause.End t r h = subst Stuck (sym h) (λ k ev. refl)
     stuck (pause.Fault b) t r h = subst Stuck (sym h) (λ k ev. refl)
     stuck (pause.Take o) t r h = wanted_stuck o (course_at f) h.1
@@ -333,13 +333,13 @@ module _ (m : Machine) (good : IsOrdered m) where
     full_there : length (holds_at f) ≡ length (rights_at f.stage)
     full_there = holds_long f.stage.objects (held_by f) ∙ sym (table_long (λ o. rights_in f.stage.spec.entries (id o)) 0 f.stage.objects)
 
-    left_there : is_event p ≡ true → (vs : List ℤ) → rest_of there vs ≡ left_in phase.Going there vs
-    left_there t vs =
+    left_there : (p ≡ pause.Other → ⊥) → is_event p ≡ true → (vs : List ℤ) → rest_of there vs ≡ left_in phase.Going there vs
+    left_there real t vs =
         let still = stuck p t real (a.tells (child_of f)) (steps_at there) f.events in
         ap (λ (q : Played). events q.course (rights_at f.stage) (holds_at f) q.steps vs) still
         ∙ sym (tells_on (due_at there) (rights_at f.stage) (course_at f) (holds_at f) (steps_at there) full_there
         (λ j lt. ap (λ b. if b then is_some (mode_of (rights_on (rights_at f.stage) j)) else false) (none_there j))
         (λ j d. absurd (true≢false (sym d ∙ none_there j))) vs)
 
-    pub goes_on : GoesOn m p f
-    goes_on = record { rest = rests; left = left_there }
+    pub goes_on : (p ≡ pause.Other → ⊥) → GoesOn m p f
+    goes_on real = record { rest = rests; left = left_there real }

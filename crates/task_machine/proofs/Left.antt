@@ -37,7 +37,7 @@ use Rattle.task_machine.specs.Left.{GivesForChange, Shifts, is_held, GivesAtEnd,
 
 -- ---- lists over the numbers from one on
 
-same_from : (f g : ℕ → List Event) (i n : ℕ) → ((j : ℕ) → i ≤ j → j < i + n → f j ≡ g j) → flat_map f (numbers i n) ≡ flat_map g (numbers i n)
+pub same_from : (f g : ℕ → List Event) (i n : ℕ) → ((j : ℕ) → i ≤ j → j < i + n → f j ≡ g j) → flat_map f (numbers i n) ≡ flat_map g (numbers i n)
 same_from f g i zero h = refl
 same_from f g i (suc n) h =
     ap₂ (λ a b. a ++ b) (h i (omega arith) (omega arith)) (same_from f g (suc i) n (λ j le lt. h j (omega (arith, le)) (omega (arith, lt))))
@@ -65,10 +65,10 @@ least_from f g i (suc n) o x le lt before here after other =
         ∙ ap (λ a. x ∷ (a ++ flat_map g (numbers (suc i) n))) (sym (other i ne ∙ before i (omega arith) far))
 
 -- below a number, counted from 0
-below : (j n : ℕ) → j < 0 + n → j < n
+pub below : (j n : ℕ) → j < 0 + n → j < n
 below j n lt = omega (arith, lt)
 
-holds_from : (f g : ℕ → Option Mode) (i n : ℕ) → ((j : ℕ) → i ≤ j → j < i + n → f j ≡ g j) → map f (numbers i n) ≡ map g (numbers i n)
+pub holds_from : (f g : ℕ → Option Mode) (i n : ℕ) → ((j : ℕ) → i ≤ j → j < i + n → f j ≡ g j) → map f (numbers i n) ≡ map g (numbers i n)
 holds_from f g i zero h = refl
 holds_from f g i (suc n) h =
     ap₂ (λ a b. a ∷ b) (h i (omega arith) (omega arith)) (holds_from f g (suc i) n (λ j le lt. h j (omega (arith, le)) (omega (arith, lt))))

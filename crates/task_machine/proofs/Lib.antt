@@ -16,3 +16,9 @@ mod Asking
 mod Beginning
 mod Searching
 mod Few
+mod Standing
+mod Answering
+mod Changing
+mod Coming
+mod Entering
+mod Finding

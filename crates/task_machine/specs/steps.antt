@@ -5,3 +5,6 @@ pub mod Acting
 pub mod Running
 pub mod Executing
 pub mod Searching
+pub mod Standing
+pub mod Surrendering
+pub mod Finding

@@ -24,6 +24,7 @@ use crate::section::{
     rights_for,
 };
 use crate::slots::{empty_slots, give_call, give_inputs};
+use access_spec::WorkingCopy;
 use code_meaning::code::{Instruction, Operand};
 use jade_base::{Content, Memory, Mode, ObjectId, Rights, Spec};
 use std::alloc::Global;
@@ -95,6 +96,7 @@ pub fn first_body(code: &Code)
 fn created_body(code: &Code, body: u32, place: usize, number: u32)
     requires there { body < length code.now.bodies }
     requires created { created_by (slice_get (body_at code.now body).code place) ≡ Some number }
+    ensures later { body < number }
     ensures there { number < length code.now.bodies }
     ensures place { place < length (body_at code.now body).code }
 {
@@ -338,6 +340,58 @@ impl<'c> Execution<'c> {
         ensures { result.now ≡ self.now.stage.child }
     {
         &self.own.child
+    }
+
+    /// The specification of the task, with the copy that a section changes. It takes no memory.
+    pub(crate) fn spec(&self) -> &WorkingCopy
+        ensures { result.now ≡ self.now.stage.spec }
+    {
+        &self.own.spec
+    }
+
+    /// The number of objects.
+    pub(crate) fn objects(&self) -> u32
+        ensures { result ≡ self.now.stage.objects }
+    {
+        self.own.objects
+    }
+
+    /// The steps that it may still begin.
+    pub(crate) fn steps_left(&self) -> u32
+        ensures { result ≡ self.now.stage.left }
+    {
+        self.frame.left
+    }
+
+    /// How many instructions its body has.
+    pub(crate) fn length(&self) -> usize
+        ensures { result ≡ length self.now.stage.code }
+    {
+        instructions(self.code, self.body).len()
+    }
+
+    /// The events that it has done, modulo 2^64.
+    pub(crate) fn events(&self) -> u64
+        ensures { result ≡ self.now.events }
+    {
+        self.frame.events
+    }
+
+    /// That the copy which a section has changed is what its rights become. It does nothing.
+    pub(crate) fn settles(&self)
+        ensures { spread self.now.stage.objects (kept self.now.stage.spec.entries self.now.stage.spec.draft) ≡ amended_at self.now }
+    {
+        let _count = self.own.spec.spec().len();
+    }
+
+    /// That a body that is created is there, and a later one. It does nothing.
+    pub(crate) fn creates(&self, number: u32)
+        requires { created_by (slice_get self.now.stage.code self.now.stage.place) ≡ Some number }
+        ensures later { self.now.body < number }
+        ensures there { number < length self.now.program.bodies }
+        ensures place { self.now.stage.place < length self.now.stage.code }
+    {
+        created_body(self.code, self.body, self.frame.place, number);
     }
 
     /// The number of objects whose contents the task may hold.

@@ -1,10 +1,12 @@
 //! Runs the code of a task, up to the next thing that the task asks for.
 #![tactic(auto)]
 
+mod entries;
 pub mod execution;
 pub mod frame;
 pub mod holdings;
 pub mod laws;
+pub mod machine;
 pub mod next;
 mod numbers;
 pub mod play;
@@ -13,4 +15,5 @@ mod slots;
 
 pub use execution::Execution;
 pub use frame::Pause;
+pub use machine::{Ask, Machine};
 pub use next::{Phase, next_object};

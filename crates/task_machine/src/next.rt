@@ -80,7 +80,7 @@ fn is_given(hold: Option<Mode>, rights: Rights) -> bool
 }
 
 // Whether a hold is given up where this mode is to follow it.
-fn is_given_back(hold: Option<Mode>, mode: Option<Mode>) -> bool
+pub(crate) fn is_given_back(hold: Option<Mode>, mode: Option<Mode>) -> bool
     ensures { result ≡ (is_some hold && not (same_hold hold mode)) }
 {
     match (hold, mode) {

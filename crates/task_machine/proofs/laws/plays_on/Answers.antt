@@ -7,6 +7,6 @@ returns-clause-plays c = λ m good none. plays_on m good none
 pub returns-clause-pauses : goal.returns-clause-pauses
 returns-clause-pauses c = λ m good none p e a real. (
   goes_on m good none p e a real,
-  order_there m good none p e a real,
-  none_there m good none p e a real,
+  order_there m good none p e a,
+  none_there m good none p e a,
 )

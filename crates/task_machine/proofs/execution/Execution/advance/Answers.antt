@@ -1,4 +1,4 @@
-use Rattle.std.proofs.Common.{◌+◌, ◌-◌, ◌<◌, length, refl, sym, ap, subst, ◌∙◌}
+use Rattle.std.proofs.Common.{◌+◌, ◌-◌, ◌*◌, ◌<◌, ◌≤◌, length, refl, sym, ap, subst, ◌∙◌}
 use Rattle.task_machine.specs.Playing.{contents_of, played}
 use Rattle.task_machine.specs.Stages.{ahead, Tells}
 use Rattle.task_machine.specs.Executions.{Advanced}
@@ -33,6 +33,8 @@ returns c =
           (ahead child (stage is c.go_to_pause.new.own c.go_to_pause.new.frame.left c.go_to_pause.new.frame.place c.go_to_pause.new.frame.slots.items))
           (contents_of c.go_to_pause.new.held) (n + (e.frame.left - c.go_to_pause.new.frame.left)) c.go_to_pause.new.frame.events) code;
       fewer = a.fewer;
+      work = subst (λ is. c.go_to_pause.new.frame.left * (length is + 1) + (length is - c.go_to_pause.new.frame.place)
+          ≤ e.frame.left * (length is + 1) + (length is - e.frame.place)) code a.work;
       tells = λ child. subst (λ is. Tells c.go_to_pause.result child
           (stage is c.go_to_pause.new.own c.go_to_pause.new.frame.left c.go_to_pause.new.frame.place c.go_to_pause.new.frame.slots.items)
           (contents_of c.go_to_pause.new.held))

@@ -1,0 +1,5 @@
+use Rattle.task_machine.proofs.Answering.{fresh_kept}
+use Rattle.task_machine.proofs.machine.begun.Goals as goal
+
+pub invariant_of-result : goal.invariant_of-result
+invariant_of-result c = fresh_kept _ _ _ c.requires.fresh c.requires.due c.steps_left-part.ensures

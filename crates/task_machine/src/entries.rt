@@ -1,0 +1,68 @@
+//! The entries of a specification, from an object on.
+
+ghost use Rattle.std.specs.Prelude.{◌≡◌, IfNone, IfSome};
+ghost use Rattle.jade_base.specs.Rights.{same_rights};
+ghost use Rattle.access_spec.specs.Copies.{IsSameBetween};
+ghost use Rattle.task_machine.specs.steps.Finding.{IsFreeBetween, IsNextChange, IsNextEntry, IsPlaceFrom};
+
+use jade_base::{ObjectId, Rights, Spec};
+
+// The place of the first entry whose object is not below this one, found by halves.
+fn place_from(spec: &Spec, from: ObjectId) -> usize
+    ensures { IsPlaceFrom from.0 result spec.now.entries }
+{
+    let mut low = 0;
+    let mut high = spec.len();
+    'halves: while low < high {
+        let middle = low + (high - low) / 2;
+        let (object, _) = spec.entry(middle);
+        if object.0 < from.0 {
+            low = middle + 1;
+        } else {
+            high = middle;
+        }
+    }
+    low
+}
+
+// Whether the two are the same rights.
+fn same(left: Rights, right: Rights) -> bool
+    ensures { result ≡ same_rights left right }
+{
+    left == right
+}
+
+/// The first entry from an object on, among so many objects. It takes no memory.
+pub(crate) fn next_entry(spec: &Spec, objects: u32, from: ObjectId) -> Option<(ObjectId, Rights)>
+    ensures found { IfSome result (λ next. IsNextEntry spec.now.entries from.0 objects next.0 next.1) }
+    ensures none { IfNone result (IsFreeBetween spec.now.entries from.0 objects) }
+{
+    let place = place_from(spec, from);
+    if place < spec.len() {
+        let (object, rights) = spec.entry(place);
+        if object.0 < objects {
+            return Some((object, rights));
+        }
+    }
+    None
+}
+
+/// The first object from one on, among so many, whose rights in the draft are not those it has,
+/// with those of the draft. It takes no memory.
+pub(crate) fn next_amended(spec: &Spec, objects: u32, from: ObjectId) -> Option<(ObjectId, Rights)>
+    ensures found { IfSome result (λ next. IsNextChange spec.now from.0 objects next.0 next.1) }
+    ensures none { IfNone result (IsSameBetween spec.now from.0 objects) }
+{
+    let first = place_from(spec, from);
+    'places: for place in first..spec.len() {
+        let (object, rights) = spec.entry(place);
+        let amended = spec.draft_at(place);
+        if !same(rights, amended) {
+            if object.0 < objects {
+                return Some((object, amended));
+            }
+            return None;
+        }
+    }
+    None
+}
