@@ -1,0 +1,5 @@
+pub mod Walking
+pub mod Touching
+pub mod Tying
+pub mod Beginning
+pub mod Trying

@@ -1,0 +1,255 @@
+-- A pass that goes past the touches on the way of a course comes to what the course is played up to.
+use Rattle.std.proofs.Common.{
+  ◌≡◌,
+  ◌⊎◌,
+  ℕ,
+  zero,
+  suc,
+  ◌+◌,
+  length,
+  arith,
+  List,
+  [],
+  ◌∷◌,
+  ◌++◌,
+  Bool,
+  true,
+  false,
+  ◌&&◌,
+  Option,
+  Some,
+  None,
+  refl,
+  sym,
+  ap,
+  ap₂,
+  ◌∙◌,
+  subst,
+  inl,
+  inr,
+}
+use Rattle.std.specs.Prelude.{ℤ, nat_eq, slice_index_or, slice_set, is_none, if◌then◌else◌}
+use Rattle.std.proofs.lemmas.Option.{none-some, same_Some}
+use Rattle.std.proofs.lemmas.Bool.{cases_eq, eq-eqb, ne_eqb}
+use Rattle.jade_base.specs.declared.rights.Mode.{Mode}
+use Rattle.jade_base.specs.declared.rights.Mode.TheVariants.{Reading, Writing, Commuting}
+use Rattle.jade_base.specs.Rights.{mode_of}
+use Rattle.jade_base.specs.Held.{Held}
+use Rattle.jade_meaning.specs.Specification.{Specification, rights_on}
+use Rattle.jade_meaning.specs.Course.{Course, Reads, Writes, Steps, Creates, Changes, Ends}
+use Rattle.jade_meaning.specs.Talk.{Event, Enter, Enroll, Take, TouchRead, TouchWrite, Wants, Give, Leave, Shift, Resign, Holds, held, take_in, first_take}
+use Rattle.jade_meaning.specs.Talk.{touched as touched_holds, events}
+use Rattle.jade_meaning.specs.Walks.{Walk}
+use Rattle.jade_meaning.specs.Walk.{upcoming, moved}
+use Rattle.object_shelf.specs.Whole.{with_cell as content_with}
+use Rattle.object_shelf.specs.Shelves.{value_in}
+use Rattle.schedule_core.specs.Plain.{seat_after}
+use Rattle.object_table.specs.Views.{View}
+use Rattle.object_table.specs.Touches.{held_at, put_held, cells_of, touches_first, touched_first, touched, touch_next, passed, all_touches}
+use Rattle.object_table.proofs.Lists.{held_here, held_else}
+use Rattle.task_machine.specs.Playing.{Contents, Played, with_cell, put_in, where_held, writable, for_writing, cell_of, counted, played, touches}
+use Rattle.task_machine.specs.Telling.{Agrees}
+use Rattle.task_suspend.specs.Ties.{to_go}
+use Rattle.task_suspend.proofs.Walking.{upcoming_is, moved_on, answered}
+
+both : (a b : Bool) → a ≡ true → b ≡ true → a && b ≡ true
+both a b e f = ap (λ x. x && b) e ∙ f
+
+and_left : (a b : Bool) → a && b ≡ true → a ≡ true
+and_left true b e = refl
+and_left false b e = e
+
+and_right : (a b : Bool) → a && b ≡ true → b ≡ true
+and_right true b e = e
+and_right false b e = absurd (cc)
+
+-- one touch at the front
+passed_first : (t : ℕ) (v : View) → passed (suc t) v ≡ passed t (touched v)
+passed_first zero v = refl
+passed_first (suc t) v = ap touched (passed_first t v)
+
+all_first : (t : ℕ) (v : View) → touch_next v ≡ true → all_touches t (touched v) ≡ true → all_touches (suc t) v ≡ true
+all_first zero v e h = e
+all_first (suc t) v e h =
+    both (all_touches (suc t) v) (touch_next (passed (suc t) v))
+    (all_first t v e (and_left (all_touches t (touched v)) (touch_next (passed t (touched v))) h))
+    (ap touch_next (passed_first t v) ∙ and_right (all_touches t (touched v)) (touch_next (passed t (touched v))) h)
+
+-- what touches leave as it is
+pub record Kept (v w : View) : Type 0 where
+  pub key : w.key ≡ v.key
+  pub live : w.live ≡ v.live
+  pub born : w.unborn ≡ v.unborn
+
+first_kept : (l : List Event) (v : View) → Kept v (touched_first l v)
+first_kept [] v = record { key = refl; live = refl; born = refl }
+first_kept (Wants o c ∷ es) v = record { key = refl; live = refl; born = refl }
+first_kept (TouchWrite o c x ∷ es) v = record { key = refl; live = refl; born = refl }
+first_kept (TouchRead o c x ∷ es) v = record { key = refl; live = refl; born = refl }
+first_kept (Enter o a ∷ es) v = record { key = refl; live = refl; born = refl }
+first_kept (Enroll t m ∷ es) v = record { key = refl; live = refl; born = refl }
+first_kept (Take o m ∷ es) v = record { key = refl; live = refl; born = refl }
+first_kept (Give o ∷ es) v = record { key = refl; live = refl; born = refl }
+first_kept (Leave o ∷ es) v = record { key = refl; live = refl; born = refl }
+first_kept (Shift o a ∷ es) v = record { key = refl; live = refl; born = refl }
+first_kept (Resign b m ∷ es) v = record { key = refl; live = refl; born = refl }
+
+pub passed_kept : (t : ℕ) (v : View) → Kept v (passed t v)
+passed_kept zero v = record { key = refl; live = refl; born = refl }
+passed_kept (suc t) v =
+    let a = passed_kept t v in
+    let b = first_kept (upcoming (passed t v).seat.walker) (passed t v) in
+    record { key = b.key ∙ a.key; live = b.live ∙ a.live; born = b.born ∙ a.born }
+
+touch_done : (l : List Event) (v : View) → touches_first l ≡ true → (touched_first l v).seat.walker.done ≡ suc v.seat.walker.done
+touch_done [] v e = absurd (cc)
+touch_done (Wants o c ∷ es) v e = refl
+touch_done (TouchWrite o c x ∷ es) v e = refl
+touch_done (TouchRead o c x ∷ es) v e = absurd (cc)
+touch_done (Enter o a ∷ es) v e = absurd (cc)
+touch_done (Enroll t m ∷ es) v e = absurd (cc)
+touch_done (Take o m ∷ es) v e = absurd (cc)
+touch_done (Give o ∷ es) v e = absurd (cc)
+touch_done (Leave o ∷ es) v e = absurd (cc)
+touch_done (Shift o a ∷ es) v e = absurd (cc)
+touch_done (Resign b m ∷ es) v e = absurd (cc)
+
+-- each touch is one event done
+pub passed_done : (t : ℕ) (v : View) → all_touches t v ≡ true → (passed t v).seat.walker.done ≡ v.seat.walker.done + t
+passed_done zero v a = plus_zero v.seat.walker.done
+  where
+    plus_zero : (x : ℕ) → x ≡ x + 0
+    plus_zero x = omega arith
+passed_done (suc t) v a =
+    touch_done (upcoming (passed t v).seat.walker) (passed t v) (and_right (all_touches t v) (touch_next (passed t v)) a)
+    ∙ ap suc (passed_done t v (and_left (all_touches t v) (touch_next (passed t v)) a)) ∙ plus_suc v.seat.walker.done t
+  where
+    plus_suc : (x y : ℕ) → suc (x + y) ≡ x + suc y
+    plus_suc x y = omega arith
+
+-- what is held agrees, and stays so
+set_same : (h : Holds) (o : ℕ) → slice_set h o (slice_index_or h o None) ≡ h
+set_same [] o = refl
+set_same (x ∷ h) zero = refl
+set_same (x ∷ h) (suc o) = ap (λ l. x ∷ l) (set_same h o)
+
+module _ (spec : Specification) (h : Holds) (k : Contents) (fit : Agrees spec h k) (o : ℕ) (x : Held) (e : k o ≡ Some x) where
+  no_take : first_take spec h o ≡ []
+  no_take = ap (λ m. if is_none m then take_in (mode_of (rights_on spec o)) o else []) (fit.holds o x e)
+
+  same_holds : touched_holds spec h o ≡ h
+  same_holds = ap (slice_set h o) (fit.rights o x e ∙ sym (fit.holds o x e)) ∙ set_same h o
+
+module _ (spec : Specification) (h : Holds) (k : Contents) (o c : ℕ) (v : ℤ) (fit : Agrees spec h k) where
+  abbrev Fits : ℕ → Option Held → Type 0
+  Fits j w = (x : Held) → w ≡ Some x → (held h j ≡ Some x.mode) × (mode_of (rights_on spec j) ≡ Some x.mode)
+
+  put_fits : (j : ℕ) (w : Option Held) → Fits j w → Fits j (put_in c v w)
+  put_fits j None f x e = absurd (none-some x e)
+  put_fits j (Some old) f x e =
+      let m = ap (λ (y : Held). Some y.mode) (same_Some _ x e) in let g = f old refl in (g.0 ∙ m, g.1 ∙ m)
+
+  either_fits : (t : Bool) (j : ℕ) → Fits j (if t then put_in c v (k j) else k j)
+  either_fits true j = put_fits j (k j) (λ x e. (fit.holds j x e, fit.rights j x e))
+  either_fits false j = λ x e. (fit.holds j x e, fit.rights j x e)
+
+  kept_fit : Agrees spec h (with_cell o c v k)
+  kept_fit = record {
+    holds = λ j x e. (either_fits (nat_eq j o) j x e).0;
+    rights = λ j x e. (either_fits (nat_eq j o) j x e).1;
+  }
+
+for_writing_is : (m : Mode) (h x : Held) → for_writing m h ≡ Some x → h ≡ x
+for_writing_is Reading h x e = absurd (none-some x e)
+for_writing_is Writing h x e = same_Some h x e
+for_writing_is Commuting h x e = same_Some h x e
+
+held_to_write : (w : Option Held) (x : Held) → writable w ≡ Some x → w ≡ Some x
+held_to_write None x e = e
+held_to_write (Some h) x e = ap Some (for_writing_is h.mode h x e)
+
+-- a write changes by the pass what it changes by the machine
+same_put : (c : ℕ) (v : ℤ) (w : Option Held) → content_with c v w ≡ put_in c v w
+same_put c v None = refl
+same_put c v (Some x) = refl
+
+written_same : (hs : List (Option Held)) (k : Contents) → ((j : ℕ) → held_at j hs ≡ k j) → (o c : ℕ) (v : ℤ) (j : ℕ)
+    → held_at j (put_held o (content_with c v (held_at o hs)) hs) ≡ with_cell o c v k j
+written_same hs k same o c v j = go (cases_eq j o)
+  where
+    go : (j ≡ o) ⊎ (j ≡ o → ⊥) → held_at j (put_held o (content_with c v (held_at o hs)) hs) ≡ (if nat_eq j o then put_in c v (k j) else k j)
+    go (inl e) =
+        ap (λ i. held_at i (put_held o (content_with c v (held_at o hs)) hs)) e ∙ held_here o (content_with c v (held_at o hs)) hs
+        ∙ ap (content_with c v) (same o) ∙ same_put c v (k o) ∙ ap (λ i. put_in c v (k i)) (sym e)
+        ∙ sym (ap (λ b. if b then put_in c v (k j) else k j) (eq-eqb j o e))
+    go (inr ne) =
+        held_else o j (content_with c v (held_at o hs)) hs ne ∙ same j ∙ sym (ap (λ b. if b then put_in c v (k j) else k j) (ne_eqb j o ne))
+
+-- so many touches come next, and after them the course is told from where it is played up to, with what is held then
+pub record Comes (t : ℕ) (x : Played) (spec : Specification) (h : Holds) (v : View) : Type 0 where
+  pub touches : all_touches t v ≡ true
+  pub tells : (vs : List ℤ) → to_go (passed t v).seat.walker vs ≡ events x.course spec h x.steps vs
+  pub held : (j : ℕ) → held_at j (passed t v).held ≡ x.contents j
+
+one_touch : (t : ℕ) (x : Played) (spec : Specification) (h : Holds) (v w : View) → touch_next v ≡ true → touched v ≡ w → Comes t x spec h w
+    → Comes (suc t) x spec h v
+one_touch t x spec h v w next is c =
+    let P : View → Type 0 = λ u. Comes t x spec h u in
+    let d : Comes t x spec h (touched v) = subst P (sym is) c in
+    record {
+      touches = all_first t v next d.touches;
+      tells = λ vs. ap (λ (u : View). to_go u.seat.walker vs) (passed_first t v) ∙ d.tells vs;
+      held = λ j. ap (λ (u : View). held_at j u.held) (passed_first t v) ∙ d.held j;
+    }
+
+-- where the course is told and this is held, it comes to that
+abbrev ComesOn : Course → Contents → Type 0
+ComesOn c k =
+    (n e : ℕ) (spec : Specification) (h : Holds) (v : View) → Agrees spec h k → ((vs : List ℤ) → to_go v.seat.walker vs ≡ events c spec h n vs)
+    → ((j : ℕ) → held_at j v.held ≡ k j) → Comes (length (touches c k)) (played c k n e) spec h v
+
+module _ (k : Contents) (n e : ℕ) (spec : Specification) (h : Holds) (v : View) (fit : Agrees spec h k)
+    (same : (j : ℕ) → held_at j v.held ≡ k j)
+  where
+    reads_on : (o c : ℕ) (on : ℤ → Course) (w : Option Held) → k o ≡ w → ((u : ℤ) → ComesOn (on u) k)
+        → ((vs : List ℤ) → to_go v.seat.walker vs ≡ events (Reads o c on) spec h n vs)
+        → Comes (length (where_held w (λ x. TouchRead o c (cell_of x c) ∷ touches (on (cell_of x c)) k) []))
+        (where_held w (λ x. played (on (cell_of x c)) k n (counted e)) (record { course = Reads o c on; contents = k; steps = n; events = e })) spec h v
+    reads_on o c on None q ih told = record { touches = refl; tells = told; held = same }
+    reads_on o c on (Some x) q ih told =
+        let u = cell_of x c in
+        let first = upcoming_is v.seat.walker ∙ told [] ∙ ap (λ es. es ++ Wants o c ∷ []) (no_take spec h k fit o x q) in
+        let after : View = record v { seat = seat_after (Some u) v.seat } in
+        let is : touched v ≡ after = ap (λ es. touched_first es v) first
+        ∙ ap (λ y. record v { seat = seat_after (Some (value_in (cells_of y) c)) v.seat }) (same o ∙ q) in
+        let next : (vs : List ℤ) → to_go after.seat.walker vs ≡ events (on u) spec h n vs =
+        λ vs. answered v.seat.walker u vs (TouchRead o c u) (events (on u) spec h n vs)
+        (told (u ∷ vs) ∙ ap₂ (λ es g. es ++ TouchRead o c u ∷ events (on u) spec g n vs) (no_take spec h k fit o x q) (same_holds spec h k fit o x q)) in
+        one_touch (length (touches (on u) k)) (played (on u) k n (counted e)) spec h v after (ap touches_first first) is
+        (ih u n (counted e) spec h after fit next same)
+
+    writes_on : (o c : ℕ) (a : ℤ) (on : Course) (w : Option Held) → writable (k o) ≡ w → ComesOn on (with_cell o c a k)
+        → ((vs : List ℤ) → to_go v.seat.walker vs ≡ events (Writes o c a on) spec h n vs)
+        → Comes (length (where_held w (λ x. TouchWrite o c a ∷ touches on (with_cell o c a k)) []))
+        (where_held w (λ x. played on (with_cell o c a k) n (counted e)) (record { course = Writes o c a on; contents = k; steps = n; events = e })) spec h v
+    writes_on o c a on None q ih told = record { touches = refl; tells = told; held = same }
+    writes_on o c a on (Some x) q ih told =
+        let there = held_to_write (k o) x q in
+        let tells : (vs : List ℤ) → to_go v.seat.walker vs ≡ TouchWrite o c a ∷ events on spec h n vs = λ vs. told vs
+        ∙ ap₂ (λ es g. es ++ TouchWrite o c a ∷ events on spec g n vs) (no_take spec h k fit o x there) (same_holds spec h k fit o x there) in
+        let first = upcoming_is v.seat.walker ∙ tells [] in
+        let after : View = record v { seat = seat_after None v.seat; held = put_held o (content_with c a (held_at o v.held)) v.held } in
+        let is : touched v ≡ after = ap (λ es. touched_first es v) first in
+        one_touch (length (touches on (with_cell o c a k))) (played on (with_cell o c a k) n (counted e)) spec h v after (ap touches_first first) is
+        (ih n (counted e) spec h after (kept_fit spec h k o c a fit) (λ vs. moved_on v.seat.walker vs (TouchWrite o c a) (events on spec h n vs) (tells vs))
+        (written_same v.held k same o c a))
+
+pub comes_on : (c : Course) (k : Contents) → ComesOn c k
+comes_on (Reads o c on) k n e spec h v fit told same = reads_on k n e spec h v fit same o c on (k o) refl (λ u. comes_on (on u) k) told
+comes_on (Writes o c a on) k n e spec h v fit told same =
+    writes_on k n e spec h v fit same o c a on (writable (k o)) refl (comes_on on (with_cell o c a k)) told
+comes_on (Steps on) k n e spec h v fit told same = let r = comes_on on k (suc n) e spec h v fit told same in record
+    { touches = r.touches; tells = r.tells; held = r.held }
+comes_on (Creates made body on) k n e spec h v fit told same = record { touches = refl; tells = told; held = same }
+comes_on (Changes new on) k n e spec h v fit told same = record { touches = refl; tells = told; held = same }
+comes_on (Ends b) k n e spec h v fit told same = record { touches = refl; tells = told; held = same }

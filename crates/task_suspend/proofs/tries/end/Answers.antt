@@ -1,0 +1,22 @@
+use Rattle.task_suspend.proofs.tries.end.Goals as goal
+
+pub leave-requires-clause-table : goal.leave-requires-clause-table
+leave-requires-clause-table g c = c.requires.table
+
+pub leave-requires-clause-asked : goal.leave-requires-clause-asked
+leave-requires-clause-asked g c = c.requires.asked
+
+pub leave-requires-clause-inside : goal.leave-requires-clause-inside
+leave-requires-clause-inside g c = c.in-Some.ensures.within
+
+pub leave-requires-clause-entry : goal.leave-requires-clause-entry
+leave-requires-clause-entry g c = c.in-Some.ensures.leaves
+
+pub resign-requires-clause-table : goal.resign-requires-clause-table
+resign-requires-clause-table g c = c.requires.table
+
+pub resign-requires-clause-asked : goal.resign-requires-clause-asked
+resign-requires-clause-asked g c = c.requires.asked
+
+pub resign-requires-clause-over : goal.resign-requires-clause-over
+resign-requires-clause-over g c = c.in-None.ensures.none

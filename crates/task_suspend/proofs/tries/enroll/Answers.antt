@@ -1,0 +1,76 @@
+use Rattle.std.proofs.Common.{◌+◌, ◌%◌, ◌^◌, refl, sym, ◌∙◌}
+use Rattle.object_table.specs.Views.{count_of}
+use Rattle.task_machine.specs.Machines.{child_task}
+use Rattle.task_machine.specs.Asks.{number_of}
+use Rattle.task_suspend.proofs.Tying.{enroll_next, parted, born_so, busy}
+use Rattle.task_suspend.proofs.Trying.{numbered, enrolled_done, enrolled_busy, bore_live, bore_kid}
+use Rattle.task_suspend.proofs.tries.enroll.Goals as goal
+
+pub enroll-requires-clause-mark : goal.enroll-requires-clause-mark
+enroll-requires-clause-mark g c = c.args.capsule.tied.table ∙ sym c.requires.table.0
+
+pub enroll-requires-clause-next : goal.enroll-requires-clause-next
+enroll-requires-clause-next g c =
+    let x = c.args.capsule in (
+      child_task (number_of x.machine.at.phase) x.machine.at.execution,
+      enroll_next g.N.RunName.mark g.N.RunName.plan x.pass x.machine x.from x.events x.tied c.requires.asked c.requires.entered c.steps.result c.steps.ensures,
+    )
+
+pub split-requires-clause-mark : goal.split-requires-clause-mark
+split-requires-clause-mark g c = c.in_ok-enroll.ensures.mark ∙ c.args.capsule.tied.table ∙ sym c.requires.table.0
+
+pub split-requires-clause-live : goal.split-requires-clause-live
+split-requires-clause-live g c =
+    let v = c.args.capsule.pass.shows in
+    let w = c.enroll.new.pass.shows in
+    let o = count_of c.args.table.now.plan in
+    bore_live o v w (enrolled_done o v w c.in_ok-enroll.field-0 c.in-Done.is c.in_ok-enroll.ensures.answer) c.args.capsule.tied.live
+
+pub split-requires-clause-kid : goal.split-requires-clause-kid
+split-requires-clause-kid g c =
+    let v = c.args.capsule.pass.shows in
+    let w = c.enroll.new.pass.shows in
+    let o = count_of c.args.table.now.plan in
+    bore_kid o v w (enrolled_done o v w c.in_ok-enroll.field-0 c.in-Done.is c.in_ok-enroll.ensures.answer)
+
+pub child-requires : goal.child-requires
+child-requires g c = c.requires.asked
+
+pub invariant_of-child : goal.invariant_of-child
+invariant_of-child g c =
+    let x = c.args.capsule in
+    let w = c.enroll.new.pass.shows in
+    let q = c.in_ok-young-in-Done.young in
+    let o = count_of c.args.table.now.plan in
+    record {
+      tied = born_so g.N.RunName.mark g.N.RunName.plan x.pass x.machine x.from x.events x.tied c.requires.asked c.requires.entered o w q
+          c.in_ok-theirs-in-Done.theirs (c.in_ok-young-in-Done.ensures.child.0 ∙ c.in_ok-enroll.ensures.mark)
+          (enrolled_done o x.pass.shows w c.in_ok-enroll.field-0 c.in-Done.is c.in_ok-enroll.ensures.answer) c.in_ok-young-in-Done.ensures.child.1
+          c.in_ok-theirs-in-Done.ensures.begins c.in_ok-theirs-in-Done.ensures.objects;
+    }
+
+pub invariant_of-parent : goal.invariant_of-parent
+invariant_of-parent g c =
+    let x = c.args.capsule in
+    let w = c.enroll.new.pass.shows in
+    let q = c.split.new.pass in
+    let b = c.child.new.self in
+    let o = count_of c.args.table.now.plan in
+    record {
+      tied = numbered g.N.RunName.mark g.N.RunName.plan q b x.from (x.events + 1) x.from c.in_ok-done.done
+          (parted g.N.RunName.mark g.N.RunName.plan x.pass x.machine x.from x.events x.tied c.requires.asked c.requires.entered o
+          ((x.machine.children + 1) % 2 ^ 32) w q b (c.in_ok-young-in-Done.ensures.mark ∙ c.in_ok-enroll.ensures.mark)
+          (enrolled_done o x.pass.shows w c.in_ok-enroll.field-0 c.in-Done.is c.in_ok-enroll.ensures.answer) c.in_ok-young-in-Done.ensures.parent
+          c.in_ok-theirs-in-Done.ensures.created) refl c.in_ok-done.ensures;
+    }
+
+pub invariant_of-result : goal.invariant_of-result
+invariant_of-result g c =
+    let x = c.args.capsule in
+    let q = c.enroll.new.pass in
+    let o = count_of c.args.table.now.plan in
+    let n = c.in-Busy.field-0 in
+    record {
+      tied = busy g.N.RunName.mark g.N.RunName.plan x.pass x.machine x.from x.events x.tied q n o c.in_ok-enroll.ensures.mark
+          (enrolled_busy o x.pass.shows q.shows c.in_ok-enroll.field-0 n c.in-Busy.is c.in_ok-enroll.ensures.answer);
+    }

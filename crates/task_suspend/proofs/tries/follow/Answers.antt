@@ -1,0 +1,54 @@
+use Rattle.std.proofs.Common.{◌+◌, ◌<◌, sym, ◌∙◌, subst}
+use Rattle.jade_meaning.specs.Plan.{RunPlan}
+use Rattle.object_table.specs.Views.{count_of}
+use Rattle.task_suspend.proofs.Tying.{inside, shift_next, leave_next, followed, busy}
+use Rattle.task_suspend.proofs.Trying.{numbered, tried_done, tried_busy}
+use Rattle.task_suspend.proofs.tries.follow.Goals as goal
+
+pub try_follow-requires-clause-mark : goal.try_follow-requires-clause-mark
+try_follow-requires-clause-mark g c = c.args.capsule.tied.table ∙ sym c.requires.table.0
+
+pub try_follow-requires-clause-declared : goal.try_follow-requires-clause-declared
+try_follow-requires-clause-declared g c =
+    let x = c.args.capsule in
+    let P : RunPlan → Type 0 = λ k. c.args.object.0 < count_of k in
+    subst P (sym c.requires.table.1)
+    (inside g.N.RunName.mark g.N.RunName.plan x.pass x.machine x.from x.events x.tied c.args.object.0 c.requires.inside)
+
+pub try_follow-requires-clause-shifts : goal.try_follow-requires-clause-shifts
+try_follow-requires-clause-shifts g c =
+    let x = c.args.capsule in
+    shift_next g.N.RunName.mark g.N.RunName.plan x.pass x.machine x.from x.events x.tied c.requires.asked c.args.object.0 c.args.rights c.requires.change
+
+pub try_follow-requires-clause-leaves : goal.try_follow-requires-clause-leaves
+try_follow-requires-clause-leaves g c =
+    let x = c.args.capsule in
+    leave_next g.N.RunName.mark g.N.RunName.plan x.pass x.machine x.from x.events x.tied c.requires.asked c.args.object.0 c.args.rights c.requires.change
+
+pub place-requires : goal.place-requires
+place-requires g c =
+    let x = c.args.capsule in
+    inside g.N.RunName.mark g.N.RunName.plan x.pass x.machine x.from x.events x.tied c.args.object.0 c.requires.inside
+
+pub invariant_of-result : goal.invariant_of-result
+invariant_of-result g c =
+    let x = c.args.capsule in
+    let o = c.args.object.0 in
+    let q = c.try_follow.new.pass in
+    let did = tried_done o x.pass.shows q.shows c.try_follow.result c.in-Done.is c.try_follow.ensures.answer in
+    record {
+      tied = numbered g.N.RunName.mark g.N.RunName.plan q x.machine (o + 1) (x.events + 1) c.in_ok-next.next c.in_ok-done.done
+          (followed g.N.RunName.mark g.N.RunName.plan x.pass x.machine x.from x.events x.tied c.requires.asked o c.args.rights c.requires.change q
+          c.try_follow.ensures.mark did) c.in_ok-next.ensures c.in_ok-done.ensures;
+    }
+
+pub invariant_of-result-in-Busy : goal.invariant_of-result-in-Busy
+invariant_of-result-in-Busy g c =
+    let x = c.args.capsule in
+    let o = c.args.object.0 in
+    let q = c.try_follow.new.pass in
+    let n = c.in-Busy.field-0 in
+    record {
+      tied = busy g.N.RunName.mark g.N.RunName.plan x.pass x.machine x.from x.events x.tied q n o c.try_follow.ensures.mark
+          (tried_busy o x.pass.shows q.shows c.try_follow.result n c.in-Busy.is c.try_follow.ensures.answer);
+    }

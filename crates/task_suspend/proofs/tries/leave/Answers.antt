@@ -1,0 +1,51 @@
+use Rattle.std.proofs.Common.{◌+◌, ◌<◌, Some, sym, ◌∙◌, subst}
+use Rattle.jade_meaning.specs.Plan.{RunPlan}
+use Rattle.object_table.specs.Views.{count_of}
+use Rattle.task_suspend.specs.steps.Ending.{ending}
+use Rattle.task_suspend.proofs.Tying.{inside, ends_so, last_next, left_last, busy}
+use Rattle.task_suspend.proofs.Trying.{numbered, tried_done, tried_busy}
+use Rattle.task_suspend.proofs.tries.leave.Goals as goal
+
+pub leave-requires-clause-mark : goal.leave-requires-clause-mark
+leave-requires-clause-mark g c = c.args.capsule.tied.table ∙ sym c.requires.table.0
+
+pub leave-requires-clause-declared : goal.leave-requires-clause-declared
+leave-requires-clause-declared g c =
+    let x = c.args.capsule in
+    let P : RunPlan → Type 0 = λ k. c.args.object.0 < count_of k in
+    subst P (sym c.requires.table.1)
+    (inside g.N.RunName.mark g.N.RunName.plan x.pass x.machine x.from x.events x.tied c.args.object.0 c.requires.inside)
+
+pub leave-requires-clause-next : goal.leave-requires-clause-next
+leave-requires-clause-next g c =
+    let x = c.args.capsule in
+    last_next g.N.RunName.mark g.N.RunName.plan x.pass x.machine x.from x.events x.tied c.args.blame (Some (ending c.args.blame)) c.requires.asked
+    (ends_so c.args.blame x.machine.at) c.args.object.0 c.requires.entry
+
+pub place-requires : goal.place-requires
+place-requires g c =
+    let x = c.args.capsule in
+    inside g.N.RunName.mark g.N.RunName.plan x.pass x.machine x.from x.events x.tied c.args.object.0 c.requires.inside
+
+pub invariant_of-result : goal.invariant_of-result
+invariant_of-result g c =
+    let x = c.args.capsule in
+    let o = c.args.object.0 in
+    let q = c.leave.new.pass in
+    let did = tried_done o x.pass.shows q.shows c.leave.result c.in-Done.is c.leave.ensures.answer in
+    record {
+      tied = numbered g.N.RunName.mark g.N.RunName.plan q x.machine (o + 1) (x.events + 1) c.in_ok-next.next c.in_ok-done.done
+          (left_last g.N.RunName.mark g.N.RunName.plan x.pass x.machine x.from x.events x.tied c.args.blame (Some (ending c.args.blame)) c.requires.asked
+          (ends_so c.args.blame x.machine.at) o c.requires.entry q c.leave.ensures.mark did) c.in_ok-next.ensures c.in_ok-done.ensures;
+    }
+
+pub invariant_of-result-in-Busy : goal.invariant_of-result-in-Busy
+invariant_of-result-in-Busy g c =
+    let x = c.args.capsule in
+    let o = c.args.object.0 in
+    let q = c.leave.new.pass in
+    let n = c.in-Busy.field-0 in
+    record {
+      tied = busy g.N.RunName.mark g.N.RunName.plan x.pass x.machine x.from x.events x.tied q n o c.leave.ensures.mark
+          (tried_busy o x.pass.shows q.shows c.leave.result n c.in-Busy.is c.leave.ensures.answer);
+    }

@@ -1,0 +1,36 @@
+use Rattle.std.proofs.Common.{Some, sym, ◌∙◌}
+use Rattle.object_table.specs.Views.{count_of}
+use Rattle.task_suspend.specs.steps.Ending.{ending}
+use Rattle.task_suspend.proofs.Tying.{resign_next, ends_so, gone, busy}
+use Rattle.task_suspend.proofs.Trying.{resigned_done, resigned_busy}
+use Rattle.task_suspend.proofs.tries.resign.Goals as goal
+
+pub resign-requires-clause-mark : goal.resign-requires-clause-mark
+resign-requires-clause-mark g c = c.args.capsule.tied.table ∙ sym c.requires.table.0
+
+pub resign-requires-clause-next : goal.resign-requires-clause-next
+resign-requires-clause-next g c =
+    let x = c.args.capsule in
+    resign_next g.N.RunName.mark g.N.RunName.plan x.pass x.machine x.from x.events x.tied c.args.blame (Some (ending c.args.blame)) c.requires.asked
+    (ends_so c.args.blame x.machine.at) c.steps.result c.steps.ensures c.requires.over
+
+pub invariant_of-result : goal.invariant_of-result
+invariant_of-result g c =
+    let x = c.args.capsule in
+    let q = c.resign.new.pass in
+    let o = count_of c.args.table.now.plan in
+    record {
+      of = gone g.N.RunName.mark g.N.RunName.plan x.pass x.machine x.from x.events x.tied o c.steps.result c.args.blame q c.resign.ensures.mark
+          (resigned_done o x.pass.shows q.shows c.resign.result c.args.blame c.steps.result c.in-Done.is c.resign.ensures.answer);
+    }
+
+pub invariant_of-result-in-Busy : goal.invariant_of-result-in-Busy
+invariant_of-result-in-Busy g c =
+    let x = c.args.capsule in
+    let q = c.resign.new.pass in
+    let o = count_of c.args.table.now.plan in
+    let n = c.in-Busy.field-0 in
+    record {
+      tied = busy g.N.RunName.mark g.N.RunName.plan x.pass x.machine x.from x.events x.tied q n o c.resign.ensures.mark
+          (resigned_busy o x.pass.shows q.shows c.resign.result c.args.blame c.steps.result n c.in-Busy.is c.resign.ensures.answer);
+    }

@@ -1,0 +1,74 @@
+use Rattle.std.proofs.Common.{ℕ, ◌<◌, Ok, ◌∙◌, sym, subst}
+use Rattle.jade_meaning.specs.Plan.{RunPlan}
+use Rattle.object_table.specs.Views.{count_of}
+use Rattle.object_table.specs.Calls.{TakenAs}
+use Rattle.object_table.specs.declared.answers.Taken.{Taken}
+use Rattle.task_machine.specs.declared.machine.Ask.TheVariants as ask
+use Rattle.task_suspend.specs.Ties.{Tied}
+use Rattle.task_suspend.proofs.Tying.{take_inside, take_next, supply_asks, took, kept_by, busy}
+use Rattle.task_suspend.proofs.tries.take.Goals as goal
+
+pub take-requires-clause-declared : goal.take-requires-clause-declared
+take-requires-clause-declared g c =
+    let x = c.args.capsule in
+    let P : RunPlan → Type 0 = λ k. c.args.object.0 < count_of k in
+    subst P (sym c.requires.table.1)
+    (take_inside g.N.RunName.mark g.N.RunName.plan x.pass x.machine x.from x.events x.tied c.args.object c.args.mode c.requires.asked
+    (c.stands.ensures (ask.Take c.args.object c.args.mode) c.requires.asked))
+
+pub take-requires-clause-next : goal.take-requires-clause-next
+take-requires-clause-next g c =
+    let x = c.args.capsule in
+    take_next g.N.RunName.mark g.N.RunName.plan x.pass x.machine x.from x.events x.tied c.args.object c.args.mode c.requires.asked
+    (c.stands.ensures (ask.Take c.args.object c.args.mode) c.requires.asked)
+
+pub place-requires : goal.place-requires
+place-requires g c =
+    let x = c.args.capsule in
+    take_inside g.N.RunName.mark g.N.RunName.plan x.pass x.machine x.from x.events x.tied c.args.object c.args.mode c.requires.asked
+    (c.stands.ensures (ask.Take c.args.object c.args.mode) c.requires.asked)
+
+pub take-requires-clause-mark : goal.take-requires-clause-mark
+take-requires-clause-mark g c = c.args.capsule.tied.table ∙ sym c.requires.table.0
+
+pub supply-requires : goal.supply-requires
+supply-requires g c =
+    let x = c.args.capsule in
+    let q = c.take.new.pass in
+    let P : Taken → Type 0 = λ r. TakenAs c.args.object.0 c.args.mode x.pass.shows (Ok r) q.shows in
+    supply_asks g.N.RunName.mark g.N.RunName.plan x.pass x.machine x.from x.events x.tied c.args.object c.args.mode c.requires.asked
+    (c.stands.ensures (ask.Take c.args.object c.args.mode) c.requires.asked) c.in-Got.content q.shows (subst P c.in-Got.is c.in_ok-content.ensures.answer)
+
+pub invariant_of-result : goal.invariant_of-result
+invariant_of-result g c =
+    let x = c.args.capsule in
+    let q = c.take.new.pass in
+    let b = c.supply.new.self in
+    let P : Taken → Type 0 = λ r. TakenAs c.args.object.0 c.args.mode x.pass.shows (Ok r) q.shows in
+    let Q : ℕ → Type 0 = λ n. Tied g.N.RunName.mark g.N.RunName.plan q b x.from n in
+    record {
+      tied = subst Q (sym c.in_ok-done.ensures)
+          (took g.N.RunName.mark g.N.RunName.plan x.pass x.machine x.from x.events x.tied c.args.object c.args.mode c.requires.asked
+          (c.stands.ensures (ask.Take c.args.object c.args.mode) c.requires.asked) c.in-Got.content q b c.in_ok-content.ensures.mark
+          (subst P c.in-Got.is c.in_ok-content.ensures.answer) c.supply.ensures.supplied c.supply.ensures.held);
+    }
+
+pub invariant_of-result-in-NotYet : goal.invariant_of-result-in-NotYet
+invariant_of-result-in-NotYet g c =
+    let x = c.args.capsule in
+    let q = c.take.new.pass in
+    let P : Taken → Type 0 = λ r. TakenAs c.args.object.0 c.args.mode x.pass.shows (Ok r) q.shows in
+    record {
+      tied = kept_by g.N.RunName.mark g.N.RunName.plan x.pass x.machine x.from x.events x.tied q c.in-NotYet.keeper c.args.object.0 c.args.mode
+          c.in_ok-content.ensures.mark (subst P c.in-NotYet.is c.in_ok-content.ensures.answer);
+    }
+
+pub invariant_of-result-in-Busy : goal.invariant_of-result-in-Busy
+invariant_of-result-in-Busy g c =
+    let x = c.args.capsule in
+    let q = c.take.new.pass in
+    let P : Taken → Type 0 = λ r. TakenAs c.args.object.0 c.args.mode x.pass.shows (Ok r) q.shows in
+    record {
+      tied = busy g.N.RunName.mark g.N.RunName.plan x.pass x.machine x.from x.events x.tied q c.in-Busy.field-0 c.args.object.0
+          c.in_ok-content.ensures.mark (subst P c.in-Busy.is c.in_ok-content.ensures.answer);
+    }

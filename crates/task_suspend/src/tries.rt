@@ -1,0 +1,506 @@
+//! One try at what a task asks for.
+
+ghost use Rattle.std.specs.Prelude.{◌<◌, ◌≡◌, ◌∷◌, ◌+◌, [], true, false, Some, None, IfOk};
+ghost use Rattle.jade_base.specs.Rights.{has_rights};
+ghost use Rattle.jade_meaning.specs.Talk.{Enter, Shift, Leave};
+ghost use Rattle.object_table.specs.Views.{count_of};
+ghost use Rattle.object_table.specs.Calls.{Next, TriedAs};
+ghost use Rattle.task_machine.specs.Stages.{rights_at};
+ghost use Rattle.task_machine.specs.Machines.{made_at, amended_at};
+ghost use Rattle.task_machine.specs.Asks.{enters_from, shifts_from, leaves_from, follows};
+ghost use Rattle.task_suspend.specs.steps.Ending.{ending};
+
+use crate::capsule::Capsule;
+use crate::name::RunName;
+use crate::went::{Place, Resigned, Went};
+use jade_base::{Blame, Memory, Mode, ObjectId, Rights};
+use object_table::{ObjectTable, Taken, TaskPass, Tried};
+use std::alloc::Global;
+use std::marker::PhantomData;
+use task_machine::Ask;
+
+/// One try at what the task asks for, on the objects of its run: where no ask stands, the task goes
+/// on to its next one; else one event of the ask is tried, and what the task does then is what its
+/// talk says. Whether the task went on, and what is done, the answer says. The error is want of
+/// memory, after which the run can't go on.
+pub fn attempt<'c, N: RunName>(
+    alloc: Global,
+    table: &ObjectTable,
+    capsule: Capsule<'c, N>,
+) -> Result<Went<'c, N>, Memory>
+    requires { (table.now.mark ≡ N.mark) × (table.now.plan ≡ N.plan) }
+{
+    match capsule.machine.asked() {
+        None => go_on(alloc, capsule),
+        Some(Ask::Take(object, mode)) => take(alloc, table, capsule, object, mode),
+        Some(Ask::GiveBack(object)) => give_back(table, capsule, object),
+        Some(Ask::Create) => create(alloc, table, capsule),
+        Some(Ask::Change) => change(table, capsule),
+        Some(Ask::End) => end(table, capsule, None),
+        Some(Ask::Fault(blame)) => end(table, capsule, Some(blame)),
+    }
+}
+
+// So many events more. The error stands for more than 2^64 events, which no run does.
+fn more(events: u64, count: u64) -> Result<u64, Memory>
+    ensures { IfOk result (λ n. n ≡ events + count) }
+{
+    match events.checked_add(count) {
+        Some(sum) => Ok(sum),
+        None => Err(Memory),
+    }
+}
+
+// The number after an object's. The error stands for 2^32 objects, which no program has.
+fn above(object: ObjectId) -> Result<u32, Memory>
+    ensures { IfOk result (λ n. n ≡ object.0 + 1) }
+{
+    match object.0.checked_add(1) {
+        Some(next) => Ok(next),
+        None => Err(Memory),
+    }
+}
+
+// An object of the run.
+fn place<N: RunName>(object: ObjectId) -> Place<N>
+    requires { object.0 < count_of N.plan }
+    ensures { result.object ≡ object }
+{
+    Place {
+        object,
+        name: PhantomData,
+    }
+}
+
+// No ask stands: the task goes on to the next one, past the cells that it touches on the way.
+fn go_on<'c, N: RunName>(alloc: Global, capsule: Capsule<'c, N>) -> Result<Went<'c, N>, Memory>
+    requires { capsule.machine.ask ≡ None }
+{
+    let Capsule {
+        mut pass,
+        mut machine,
+        from: _,
+        events,
+        passed: _,
+        name,
+    } = capsule;
+    let _ask = machine.advance(alloc)?;
+    machine.stands();
+    let done = more(events, machine.touched())?;
+    pass.pass_on(done);
+    Ok(Went::Ready(Capsule {
+        pass,
+        machine,
+        from: 0,
+        events: done,
+        passed: false,
+        name,
+    }))
+}
+
+// A content is asked for.
+fn take<'c, N: RunName>(
+    alloc: Global,
+    table: &ObjectTable,
+    capsule: Capsule<'c, N>,
+    object: ObjectId,
+    mode: Mode,
+) -> Result<Went<'c, N>, Memory>
+    requires table { (table.now.mark ≡ N.mark) × (table.now.plan ≡ N.plan) }
+    requires asked { capsule.machine.ask ≡ Some (Ask.Take object mode) }
+{
+    let Capsule {
+        mut pass,
+        mut machine,
+        from,
+        events,
+        passed,
+        name,
+    } = capsule;
+    machine.stands();
+    let done = more(events, 1)?;
+    match table.take(alloc, &mut pass, object, mode)? {
+        Taken::Got(content) => {
+            machine.supply(object, content);
+            Ok(Went::Ready(Capsule {
+                pass,
+                machine,
+                from,
+                events: done,
+                passed: false,
+                name,
+            }))
+        }
+        Taken::NotYet(keeper) => {
+            drop(keeper);
+            Ok(Went::Waits(
+                place(object),
+                Capsule {
+                    pass,
+                    machine,
+                    from,
+                    events,
+                    passed,
+                    name,
+                },
+            ))
+        }
+        Taken::Busy(_) => Ok(Went::Busy(Capsule {
+            pass,
+            machine,
+            from,
+            events,
+            passed,
+            name,
+        })),
+    }
+}
+
+// A content is to be given back.
+fn give_back<'c, N: RunName>(
+    table: &ObjectTable,
+    capsule: Capsule<'c, N>,
+    object: ObjectId,
+) -> Result<Went<'c, N>, Memory>
+    requires table { (table.now.mark ≡ N.mark) × (table.now.plan ≡ N.plan) }
+    requires asked { capsule.machine.ask ≡ Some (Ask.GiveBack object) }
+{
+    let Capsule {
+        mut pass,
+        mut machine,
+        from,
+        events,
+        passed,
+        name,
+    } = capsule;
+    machine.stands();
+    let done = more(events, 1)?;
+    let content = machine.surrender(object);
+    match table.give(&mut pass, object, content) {
+        Ok(()) => Ok(Went::Freed(
+            place(object),
+            Capsule {
+                pass,
+                machine,
+                from,
+                events: done,
+                passed: false,
+                name,
+            },
+        )),
+        Err((back, _)) => {
+            machine.restore(object, back);
+            Ok(Went::Busy(Capsule {
+                pass,
+                machine,
+                from,
+                events,
+                passed,
+                name,
+            }))
+        }
+    }
+}
+
+// A child is to be created: its entries are made one after another, and then it is enrolled.
+fn create<'c, N: RunName>(
+    alloc: Global,
+    table: &ObjectTable,
+    capsule: Capsule<'c, N>,
+) -> Result<Went<'c, N>, Memory>
+    requires table { (table.now.mark ≡ N.mark) × (table.now.plan ≡ N.plan) }
+    requires asked { capsule.machine.ask ≡ Some Ask.Create }
+{
+    match capsule.machine.next_enter(ObjectId(capsule.from)) {
+        Some((object, rights)) => enter(alloc, table, capsule, object, rights),
+        None => enroll(alloc, table, capsule),
+    }
+}
+
+// The child's next entry.
+fn enter<'c, N: RunName>(
+    alloc: Global,
+    table: &ObjectTable,
+    capsule: Capsule<'c, N>,
+    object: ObjectId,
+    rights: Rights,
+) -> Result<Went<'c, N>, Memory>
+    requires table { (table.now.mark ≡ N.mark) × (table.now.plan ≡ N.plan) }
+    requires asked { capsule.machine.ask ≡ Some Ask.Create }
+    requires inside { object.0 < capsule.machine.at.execution.stage.objects }
+    requires entry { let made = made_at capsule.machine.at.execution
+        in enters_from capsule.from made ≡ Enter object.0 rights ∷ enters_from (object.0 + 1) made }
+{
+    let Capsule {
+        mut pass,
+        machine,
+        from,
+        events,
+        passed,
+        name,
+    } = capsule;
+    let done = more(events, 1)?;
+    let next = above(object)?;
+    match table.enter(alloc, &mut pass, object, rights)? {
+        Tried::Done => Ok(Went::Ready(Capsule {
+            pass,
+            machine,
+            from: next,
+            events: done,
+            passed,
+            name,
+        })),
+        Tried::Busy(_) => Ok(Went::Busy(Capsule {
+            pass,
+            machine,
+            from,
+            events,
+            passed,
+            name,
+        })),
+    }
+}
+
+// All entries of the child are made: it gets its seat, its pass and its machine.
+fn enroll<'c, N: RunName>(
+    alloc: Global,
+    table: &ObjectTable,
+    capsule: Capsule<'c, N>,
+) -> Result<Went<'c, N>, Memory>
+    requires table { (table.now.mark ≡ N.mark) × (table.now.plan ≡ N.plan) }
+    requires asked { capsule.machine.ask ≡ Some Ask.Create }
+    requires entered { enters_from capsule.from (made_at capsule.machine.at.execution) ≡ [] }
+{
+    let Capsule {
+        mut pass,
+        mut machine,
+        from,
+        events,
+        passed,
+        name,
+    } = capsule;
+    let done = more(events, 1)?;
+    match table.enroll(alloc, &mut pass, machine.steps())? {
+        Tried::Done => {
+            let young = table.split(alloc, &mut pass)?;
+            let theirs = machine.child(alloc)?;
+            let child = Capsule {
+                pass: young,
+                machine: theirs,
+                from: 0,
+                events: 0,
+                passed: false,
+                name: PhantomData,
+            };
+            let parent = Capsule {
+                pass,
+                machine,
+                from,
+                events: done,
+                passed: false,
+                name,
+            };
+            Ok(Went::Parted(parent, child))
+        }
+        Tried::Busy(_) => Ok(Went::Busy(Capsule {
+            pass,
+            machine,
+            from,
+            events,
+            passed,
+            name,
+        })),
+    }
+}
+
+// The rights are to change: the entries follow them one after another, and then the machine does.
+fn change<'c, N: RunName>(
+    table: &ObjectTable,
+    capsule: Capsule<'c, N>,
+) -> Result<Went<'c, N>, Memory>
+    requires table { (table.now.mark ≡ N.mark) × (table.now.plan ≡ N.plan) }
+    requires asked { capsule.machine.ask ≡ Some Ask.Change }
+{
+    match capsule.machine.next_change(ObjectId(capsule.from)) {
+        Some((object, rights)) => follow(table, capsule, object, rights),
+        None => Ok(Went::Ready(changed(capsule))),
+    }
+}
+
+// One try at the event by which the task's entry on an object follows new rights.
+fn try_follow(table: &ObjectTable, pass: &mut TaskPass, object: ObjectId, rights: Rights) -> Tried
+    requires mark { pass.old.mark ≡ table.now.mark }
+    requires declared { object.0 < count_of table.now.plan }
+    requires shifts { has_rights rights ≡ true → Next (Shift object.0 rights) pass.old.shows }
+    requires leaves { has_rights rights ≡ false → Next (Leave object.0) pass.old.shows }
+    ensures mark { pass.new.mark ≡ pass.old.mark }
+    ensures answer { TriedAs object.0 pass.old.shows result pass.new.shows }
+{
+    if rights.any() {
+        table.shift(pass, object, rights)
+    } else {
+        table.leave(pass, object)
+    }
+}
+
+// The next entry that follows new rights.
+fn follow<'c, N: RunName>(
+    table: &ObjectTable,
+    capsule: Capsule<'c, N>,
+    object: ObjectId,
+    rights: Rights,
+) -> Result<Went<'c, N>, Memory>
+    requires table { (table.now.mark ≡ N.mark) × (table.now.plan ≡ N.plan) }
+    requires asked { capsule.machine.ask ≡ Some Ask.Change }
+    requires inside { object.0 < capsule.machine.at.execution.stage.objects }
+    requires change { let old = rights_at capsule.machine.at.execution.stage in let new = amended_at capsule.machine.at.execution
+        in shifts_from capsule.from old new ≡ follows object.0 rights ∷ shifts_from (object.0 + 1) old new }
+{
+    let Capsule {
+        mut pass,
+        machine,
+        from,
+        events,
+        passed,
+        name,
+    } = capsule;
+    let done = more(events, 1)?;
+    let next = above(object)?;
+    match try_follow(table, &mut pass, object, rights) {
+        Tried::Done => Ok(Went::Freed(
+            place(object),
+            Capsule {
+                pass,
+                machine,
+                from: next,
+                events: done,
+                passed,
+                name,
+            },
+        )),
+        Tried::Busy(_) => Ok(Went::Busy(Capsule {
+            pass,
+            machine,
+            from,
+            events,
+            passed,
+            name,
+        })),
+    }
+}
+
+// All entries follow the new rights: the machine goes on with them.
+fn changed<'c, N: RunName>(capsule: Capsule<'c, N>) -> Capsule<'c, N>
+    requires asked { capsule.machine.ask ≡ Some Ask.Change }
+    requires shifted { shifts_from capsule.from (rights_at capsule.machine.at.execution.stage) (amended_at capsule.machine.at.execution) ≡ [] }
+{
+    let Capsule {
+        pass,
+        mut machine,
+        from,
+        events,
+        passed: _,
+        name,
+    } = capsule;
+    machine.changed();
+    Capsule {
+        pass,
+        machine,
+        from,
+        events,
+        passed: false,
+        name,
+    }
+}
+
+// The task ends: its entries leave one after another, and then it resigns.
+fn end<'c, N: RunName>(
+    table: &ObjectTable,
+    capsule: Capsule<'c, N>,
+    blame: Option<Blame>,
+) -> Result<Went<'c, N>, Memory>
+    requires table { (table.now.mark ≡ N.mark) × (table.now.plan ≡ N.plan) }
+    requires asked { capsule.machine.ask ≡ Some (ending blame) }
+{
+    match capsule.machine.next_leave(ObjectId(capsule.from)) {
+        Some(object) => leave(table, capsule, blame, object),
+        None => resign(table, capsule, blame),
+    }
+}
+
+// The next entry that leaves.
+fn leave<'c, N: RunName>(
+    table: &ObjectTable,
+    capsule: Capsule<'c, N>,
+    blame: Option<Blame>,
+    object: ObjectId,
+) -> Result<Went<'c, N>, Memory>
+    requires table { (table.now.mark ≡ N.mark) × (table.now.plan ≡ N.plan) }
+    requires asked { capsule.machine.ask ≡ Some (ending blame) }
+    requires inside { object.0 < capsule.machine.at.execution.stage.objects }
+    requires entry { let old = rights_at capsule.machine.at.execution.stage
+        in leaves_from capsule.from old ≡ Leave object.0 ∷ leaves_from (object.0 + 1) old }
+{
+    let Capsule {
+        mut pass,
+        machine,
+        from,
+        events,
+        passed,
+        name,
+    } = capsule;
+    let done = more(events, 1)?;
+    let next = above(object)?;
+    match table.leave(&mut pass, object) {
+        Tried::Done => Ok(Went::Freed(
+            place(object),
+            Capsule {
+                pass,
+                machine,
+                from: next,
+                events: done,
+                passed,
+                name,
+            },
+        )),
+        Tried::Busy(_) => Ok(Went::Busy(Capsule {
+            pass,
+            machine,
+            from,
+            events,
+            passed,
+            name,
+        })),
+    }
+}
+
+// All entries have left: the task resigns.
+fn resign<'c, N: RunName>(
+    table: &ObjectTable,
+    capsule: Capsule<'c, N>,
+    blame: Option<Blame>,
+) -> Result<Went<'c, N>, Memory>
+    requires table { (table.now.mark ≡ N.mark) × (table.now.plan ≡ N.plan) }
+    requires asked { capsule.machine.ask ≡ Some (ending blame) }
+    requires over { leaves_from capsule.from (rights_at capsule.machine.at.execution.stage) ≡ [] }
+{
+    let Capsule {
+        mut pass,
+        machine,
+        from,
+        events,
+        passed,
+        name,
+    } = capsule;
+    match table.resign(&mut pass, blame, machine.steps()) {
+        Tried::Done => Ok(Went::Ended(Resigned { pass, name })),
+        Tried::Busy(_) => Ok(Went::Busy(Capsule {
+            pass,
+            machine,
+            from,
+            events,
+            passed,
+            name,
+        })),
+    }
+}

@@ -1,0 +1,45 @@
+//! How a try went.
+
+ghost use Rattle.std.specs.Prelude.{◌≡◌, ◌<◌};
+ghost use Rattle.object_table.specs.Views.{count_of};
+ghost use Rattle.object_table.specs.Calls.{IsGone};
+ghost use Rattle.task_suspend.specs.steps.Facts.{Gone-prop};
+
+use crate::capsule::Capsule;
+use crate::name::RunName;
+use jade_base::ObjectId;
+use object_table::TaskPass;
+use std::marker::PhantomData;
+
+/// An object of the run `N`.
+#[derive(Drop)]
+pub struct Place<N: RunName> {
+    pub object: ObjectId,
+    pub name: PhantomData<N>,
+    pub ghost inside: { object.0 < count_of N.plan },
+}
+
+/// A pass of the run `N` whose task has ended.
+#[derive(Drop)]
+pub struct Resigned<N: RunName> {
+    pub pass: TaskPass,
+    pub name: PhantomData<N>,
+    pub ghost of: { (pass.mark ≡ N.mark) × IsGone pass.shows } by { Gone-prop N.mark pass.mark pass.shows },
+}
+
+/// How a try went.
+#[derive(Drop)]
+pub enum Went<'c, N: RunName> {
+    /// It is done, and the task goes on.
+    Ready(Capsule<'c, N>),
+    /// Another pass has a turn at the word that was tried; nothing is done.
+    Busy(Capsule<'c, N>),
+    /// An earlier task keeps this one from the object; nothing is done.
+    Waits(Place<N>, Capsule<'c, N>),
+    /// It is done, and a task that waits for the object may go on.
+    Freed(Place<N>, Capsule<'c, N>),
+    /// A child was created: the parent, which goes on, and the child, at its begin.
+    Parted(Capsule<'c, N>, Capsule<'c, N>),
+    /// The task has ended.
+    Ended(Resigned<N>),
+}
