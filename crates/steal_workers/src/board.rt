@@ -1,0 +1,48 @@
+//! What the workers of a run share.
+
+ghost use Rattle.std.specs.Prelude.{◌≡◌, ◌<◌, vec_len};
+ghost use Rattle.object_table.specs.Views.{count_of};
+ghost use Rattle.steal_workers.specs.steps.Facts.{Of-prop};
+
+use crate::signals::Signals;
+use crate::worker::Worker;
+use fair_deque::Thief;
+use object_table::ObjectTable;
+use std::sync::Mutex;
+use std::sync::atomic::{AtomicU64, Ordering};
+use task_suspend::{Capsule, CapsuleList, Place, Resigned, Rooms, RunName};
+
+/// A worker of the run.
+pub(crate) type TaskWorker<'c, N> = Worker<Capsule<'c, N>, Resigned<N>>;
+
+/// The ready tasks of one worker, as the others see them.
+pub(crate) type OtherDeque<'c, N> = Thief<Capsule<'c, N>>;
+
+/// The table of the run, how many objects it has, a room for each object with the tasks that wait for it, how often each
+/// object was freed, the tasks that are held back, the deques as thieves see them, and the signals.
+#[derive(Drop)]
+pub(crate) struct Board<'c, N: RunName> {
+    pub table: ObjectTable<'c>,
+    pub objects: u32,
+    pub rooms: Rooms<'c, N>,
+    pub freed: Vec<AtomicU64>,
+    pub held_back: Mutex<CapsuleList<'c, N>>,
+    pub others: Vec<OtherDeque<'c, N>>,
+    pub signals: Signals,
+    pub ghost of: { (table.mark ≡ N.mark) × (table.plan ≡ N.plan) } by { Of-prop table.mark N.mark table.plan N.plan },
+    pub ghost all: { objects ≡ count_of N.plan },
+    pub ghost seats: { rooms ≡ count_of N.plan },
+    pub ghost counts: { vec_len freed ≡ count_of N.plan },
+}
+
+impl<'c, N: RunName> Board<'c, N> {
+    /// How often the object was freed, modulo 2^64.
+    pub fn times_freed(&self, place: &Place<N>) -> u64 {
+        self.freed[place.object.0 as usize].load(Ordering::SeqCst)
+    }
+
+    /// The object was freed once more.
+    pub fn count_freed(&self, place: &Place<N>) {
+        self.freed[place.object.0 as usize].fetch_add(1, Ordering::SeqCst);
+    }
+}

@@ -1,0 +1,224 @@
+//! What a worker does after a try.
+
+use crate::board::{Board, TaskWorker};
+use crate::keeper::with_one_more;
+use jade_base::Memory;
+use std::hint::spin_loop;
+use std::sync::Wait;
+use task_suspend::{Capsule, CapsuleList, Place, Resigned, RunName, Went};
+
+/// So often a task is tried again where another has a turn.
+const BUSY_TRIES: u32 = 6;
+
+/// The tries in vain since the task last went on: how often another had a turn, and whether it was
+/// seen to wait, and how often its object was freed before.
+#[derive(Clone, Copy)]
+pub(crate) struct Tries {
+    busy: u32,
+    waited: Option<u64>,
+}
+
+impl Tries {
+    /// No try in vain.
+    pub fn none() -> Tries {
+        Tries {
+            busy: 0,
+            waited: None,
+        }
+    }
+}
+
+/// A task in a worker's hand.
+#[derive(Drop)]
+pub(crate) struct Hand<'c, N: RunName> {
+    pub task: Capsule<'c, N>,
+    pub tries: Tries,
+}
+
+impl<'c, N: RunName> Hand<'c, N> {
+    /// A task that goes on.
+    pub fn of(task: Capsule<'c, N>) -> Hand<'c, N> {
+        Hand {
+            task,
+            tries: Tries::none(),
+        }
+    }
+}
+
+/// Does what a try asks for; the task that stays in hand, if one does. The error is want of memory.
+pub(crate) fn settle<'c, N: RunName, R: Wait>(
+    rt: &R,
+    board: &Board<'c, N>,
+    worker: &mut TaskWorker<'c, N>,
+    went: Result<Went<'c, N>, Memory>,
+    tries: Tries,
+) -> Result<Option<Hand<'c, N>>, Memory> {
+    match went {
+        Ok(Went::Waits(place, task)) => wait(rt, board, worker, place, task, tries),
+        Ok(Went::Busy(task)) => pause(board, worker, task, tries),
+        Ok(went) => go_on(rt, board, worker, went),
+        Err(_) => Err(Memory),
+    }
+}
+
+// After a try that was not in vain; `settle` answers the other two itself.
+fn go_on<'c, N: RunName, R: Wait>(
+    rt: &R,
+    board: &Board<'c, N>,
+    worker: &mut TaskWorker<'c, N>,
+    went: Went<'c, N>,
+) -> Result<Option<Hand<'c, N>>, Memory> {
+    worker.goes_on();
+    match went {
+        Went::Freed(place, task) => {
+            free(rt, board, worker, place)?;
+            Ok(Some(Hand::of(task)))
+        }
+        Went::Parted(parent, child) => {
+            part(rt, board, worker, parent)?;
+            Ok(Some(Hand::of(child)))
+        }
+        Went::Ended(resigned) => {
+            end(board, worker, resigned);
+            Ok(None)
+        }
+        Went::Ready(task) => Ok(Some(Hand::of(task))),
+        Went::Busy(task) => Ok(Some(Hand::of(task))),
+        Went::Waits(_, task) => Ok(Some(Hand::of(task))),
+    }
+}
+
+// Keeps the pass of a task that has ended, and tells where it was the last.
+fn end<'c, N: RunName>(
+    board: &Board<'c, N>,
+    worker: &mut TaskWorker<'c, N>,
+    resigned: Resigned<N>,
+) {
+    let kept = with_one_more(board, worker.hand_over(), resigned);
+    let over = kept.pass.over();
+    worker.keep(kept);
+    if over {
+        board.signals.finish();
+    }
+}
+
+// Makes a task ready, where other workers find it too.
+fn make_ready<'c, N: RunName>(
+    board: &Board<'c, N>,
+    worker: &mut TaskWorker<'c, N>,
+    task: Capsule<'c, N>,
+) -> Result<(), Memory> {
+    match worker.put(task) {
+        Ok(()) => {
+            board.signals.call_one();
+            Ok(())
+        }
+        Err(_) => Err(Memory),
+    }
+}
+
+// The worker goes on with the child. The parent is ready; where a crowd of tasks waits, it is held
+// back, so that it does not run ahead of its children.
+fn part<'c, N: RunName, R: Wait>(
+    rt: &R,
+    board: &Board<'c, N>,
+    worker: &mut TaskWorker<'c, N>,
+    parent: Capsule<'c, N>,
+) -> Result<(), Memory> {
+    if !board.signals.is_crowded() {
+        return make_ready(board, worker, parent);
+    }
+    board.signals.task_held_back();
+    match board.held_back.lock(rt).push(parent) {
+        Ok(()) => Ok(()),
+        Err(_) => Err(Memory),
+    }
+}
+
+// The object was freed: the tasks that wait for it are ready.
+fn free<'c, N: RunName, R: Wait>(
+    rt: &R,
+    board: &Board<'c, N>,
+    worker: &mut TaskWorker<'c, N>,
+    place: Place<N>,
+) -> Result<(), Memory> {
+    board.count_freed(&place);
+    let tasks = board.rooms.drain(rt, place.object);
+    requeue(board, worker, tasks)
+}
+
+/// Makes the tasks of a room ready. Most of them will wait again, so one sleeper at most is called. The
+/// error is want of memory.
+pub(crate) fn requeue<'c, N: RunName>(
+    board: &Board<'c, N>,
+    worker: &mut TaskWorker<'c, N>,
+    mut tasks: CapsuleList<'c, N>,
+) -> Result<(), Memory> {
+    for count in 0..u64::MAX {
+        let Some(task) = tasks.pop() else {
+            if count > 0 {
+                board.signals.call_one();
+            }
+            return Ok(());
+        };
+        board.signals.task_left();
+        match worker.put(task) {
+            Ok(()) => {}
+            Err(_) => return Err(Memory),
+        }
+    }
+    Ok(())
+}
+
+// The task waits for an object. It is tried once more, and goes then to the object's room. Where the
+// object was freed since before the second try, nobody else may know that it waits, so the room is
+// drained.
+fn wait<'c, N: RunName, R: Wait>(
+    rt: &R,
+    board: &Board<'c, N>,
+    worker: &mut TaskWorker<'c, N>,
+    place: Place<N>,
+    task: Capsule<'c, N>,
+    tries: Tries,
+) -> Result<Option<Hand<'c, N>>, Memory> {
+    let freed = board.times_freed(&place);
+    let Some(before) = tries.waited else {
+        let tries = Tries {
+            busy: tries.busy,
+            waited: Some(freed),
+        };
+        return Ok(Some(Hand { task, tries }));
+    };
+    board.signals.task_waits();
+    match board.rooms.put(rt, place.object, task) {
+        Ok(()) => {}
+        Err(_) => return Err(Memory),
+    }
+    if board.times_freed(&place) != before {
+        let tasks = board.rooms.drain(rt, place.object);
+        requeue(board, worker, tasks)?;
+    }
+    Ok(None)
+}
+
+// Another has a turn: the task is tried again after a while, and is given out of hand after some
+// tries.
+fn pause<'c, N: RunName>(
+    board: &Board<'c, N>,
+    worker: &mut TaskWorker<'c, N>,
+    task: Capsule<'c, N>,
+    tries: Tries,
+) -> Result<Option<Hand<'c, N>>, Memory> {
+    if tries.busy >= BUSY_TRIES {
+        make_ready(board, worker, task)?;
+        return Ok(None);
+    }
+    for _ in 0..(1u32 << tries.busy) {
+        spin_loop();
+    }
+    let tries = Tries {
+        busy: tries.busy + 1,
+        waited: tries.waited,
+    };
+    Ok(Some(Hand { task, tries }))
+}

@@ -1,0 +1,150 @@
+//! What workers tell one another. All of it is advice: nothing is claimed of it.
+
+use std::sync::Wait;
+use std::sync::atomic::{AtomicBool, AtomicU64, Ordering};
+use std::time::Duration;
+
+/// So many tasks may wait in the rooms before those that create more are held back.
+const WAITING_TASKS: u64 = 16;
+
+/// Flags, counts and a bell.
+#[derive(Drop)]
+pub(crate) struct Signals {
+    workers: u64,
+    // Memory was wanting.
+    stopped: AtomicBool,
+    // A worker has seen the end.
+    done: AtomicBool,
+    // How many tasks wait in the rooms, and how many are held back.
+    waiting: AtomicU64,
+    held_back: AtomicU64,
+    // How many workers have no task, and how many of these sleep or are about to.
+    idle: AtomicU64,
+    asleep: AtomicU64,
+    // How often those that sleep were called.
+    bell: AtomicU64,
+}
+
+impl Signals {
+    /// All quiet, among so many workers.
+    pub fn new(workers: u64) -> Signals {
+        Signals {
+            workers,
+            stopped: AtomicBool::new(false),
+            done: AtomicBool::new(false),
+            waiting: AtomicU64::new(0),
+            held_back: AtomicU64::new(0),
+            idle: AtomicU64::new(0),
+            asleep: AtomicU64::new(0),
+            bell: AtomicU64::new(0),
+        }
+    }
+
+    /// Tells that memory was wanting.
+    pub fn stop(&self) {
+        self.stopped.store(true, Ordering::SeqCst);
+        self.call_all();
+    }
+
+    /// Whether memory was wanting.
+    pub fn is_stopped(&self) -> bool {
+        self.stopped.load(Ordering::SeqCst)
+    }
+
+    /// Tells that the end was seen.
+    pub fn finish(&self) {
+        self.done.store(true, Ordering::SeqCst);
+        self.call_all();
+    }
+
+    /// Takes back that the end was seen.
+    pub fn go_on(&self) {
+        self.done.store(false, Ordering::SeqCst);
+    }
+
+    /// Whether there is nothing more to do.
+    pub fn is_over(&self) -> bool {
+        self.done.load(Ordering::SeqCst) || self.is_stopped()
+    }
+
+    /// One more task waits in a room.
+    pub fn task_waits(&self) {
+        self.waiting.fetch_add(1, Ordering::SeqCst);
+    }
+
+    /// A task has left its room.
+    pub fn task_left(&self) {
+        self.waiting.fetch_sub(1, Ordering::SeqCst);
+    }
+
+    /// Whether a task waits in a room.
+    pub fn has_waiting(&self) -> bool {
+        self.waiting.load(Ordering::SeqCst) > 0
+    }
+
+    /// Whether so many tasks wait that no more are to be created just now.
+    pub fn is_crowded(&self) -> bool {
+        self.waiting.load(Ordering::SeqCst) >= WAITING_TASKS
+    }
+
+    /// One more task is held back.
+    pub fn task_held_back(&self) {
+        self.held_back.fetch_add(1, Ordering::SeqCst);
+    }
+
+    /// A task is held back no longer.
+    pub fn task_let_go(&self) {
+        self.held_back.fetch_sub(1, Ordering::SeqCst);
+    }
+
+    /// Whether a task that is held back may go on: no crowd waits, or no worker has a task.
+    pub fn may_let_go(&self) -> bool {
+        self.has_held_back()
+            && (!self.is_crowded() || self.idle.load(Ordering::SeqCst) >= self.workers)
+    }
+
+    /// Whether a task is held back.
+    pub fn has_held_back(&self) -> bool {
+        self.held_back.load(Ordering::SeqCst) > 0
+    }
+
+    /// A worker has no task.
+    pub fn idle_begins(&self) {
+        self.idle.fetch_add(1, Ordering::SeqCst);
+    }
+
+    /// It has one, or leaves.
+    pub fn idle_ends(&self) {
+        self.idle.fetch_sub(1, Ordering::SeqCst);
+    }
+
+    /// A worker is about to sleep; how often the sleepers were called, modulo 2^32.
+    pub fn lie_down(&self) -> u32 {
+        self.asleep.fetch_add(1, Ordering::SeqCst);
+        (self.bell.load(Ordering::SeqCst) % (1 << 32)) as u32
+    }
+
+    /// Sleeps until the sleepers are called once more than so often, or the time has passed.
+    pub fn sleep<R: Wait>(&self, rt: &R, heard: u32, time: Duration) {
+        self.bell.park_timeout(rt, heard, time);
+    }
+
+    /// It does not sleep any more.
+    pub fn get_up(&self) {
+        self.asleep.fetch_sub(1, Ordering::SeqCst);
+    }
+
+    /// Calls one of those that sleep.
+    pub fn call_one(&self) {
+        if self.asleep.load(Ordering::SeqCst) > 0 {
+            self.bell.fetch_add(1, Ordering::SeqCst);
+            self.bell.wake_one();
+        }
+    }
+
+    // Calls all that sleep.
+    fn call_all(&self) {
+        self.bell.fetch_add(1, Ordering::SeqCst);
+        self.bell.wake_all();
+    }
+}

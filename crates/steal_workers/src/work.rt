@@ -1,0 +1,81 @@
+//! The work of one worker.
+
+use crate::board::{Board, TaskWorker};
+use crate::gate::Gate;
+use crate::idle::next_task;
+use crate::settle::{Hand, settle};
+use std::alloc::Global;
+use std::sync::Wait;
+use task_suspend::{Capsule, RunName, attempt};
+
+/// Works until all is over, or memory is wanting.
+pub(crate) fn work<'c, N: RunName, G: Gate, R: Wait>(
+    rt: &R,
+    alloc: Global,
+    board: &Board<'c, N>,
+    gate: &G,
+    mut worker: TaskWorker<'c, N>,
+) -> TaskWorker<'c, N> {
+    for _ in rt.forever() {
+        match next_task(rt, board, &mut worker) {
+            Some(task) => carry(rt, alloc, board, gate, &mut worker, task),
+            None => break,
+        }
+    }
+    worker
+}
+
+// Goes on with a task until it ends, waits or is given out of hand, or memory is wanting.
+fn carry<'c, N: RunName, G: Gate, R: Wait>(
+    rt: &R,
+    alloc: Global,
+    board: &Board<'c, N>,
+    gate: &G,
+    worker: &mut TaskWorker<'c, N>,
+    task: Capsule<'c, N>,
+) {
+    let mut hand = Hand::of(task);
+    for _ in rt.forever() {
+        if board.signals.is_stopped() {
+            break;
+        }
+        match turn(rt, alloc, board, gate, worker, hand) {
+            Some(next) => hand = next,
+            None => return,
+        }
+    }
+}
+
+// One try at a task; the task, if it stays in hand.
+fn turn<'c, N: RunName, G: Gate, R: Wait>(
+    rt: &R,
+    alloc: Global,
+    board: &Board<'c, N>,
+    gate: &G,
+    worker: &mut TaskWorker<'c, N>,
+    hand: Hand<'c, N>,
+) -> Option<Hand<'c, N>> {
+    let Hand { task, tries } = hand;
+    let task = through(rt, gate, task);
+    let went = attempt(alloc, &board.table, task);
+    match settle(rt, board, worker, went, tries) {
+        Ok(next) => next,
+        Err(_) => {
+            board.signals.stop();
+            None
+        }
+    }
+}
+
+// Calls the gate before the first try at an ask.
+fn through<'c, N: RunName, G: Gate, R: Wait>(
+    rt: &R,
+    gate: &G,
+    mut task: Capsule<'c, N>,
+) -> Capsule<'c, N> {
+    if task.is_asking() && !task.passed() {
+        gate.pass(rt, task.path(), task.ask_number());
+        task.set_passed();
+    }
+    task
+}
