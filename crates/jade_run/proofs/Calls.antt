@@ -115,11 +115,11 @@ executed : (words : List (List ℕ)) (e : Execution) → SpellsExecution words e
 executed words e h = (h.steps.some, h.given.few)
 
 pub asks_allowed : (words : List (List ℕ)) (c : Command) → Asks words c → IsAllowed c
-asks_allowed words (Run w e) h = executed h.run.more e h.run.execution
+asks_allowed words (Run w e) h = ((h.run.crew.some, h.run.crew.within), executed h.run.more e h.run.execution)
 asks_allowed words (Serial e) h = executed h.more e h.execution
 asks_allowed words Check h = tt
 asks_allowed words Show h = tt
-asks_allowed words (Drill n w) h = (h.drill.amount.some, h.drill.amount.within)
+asks_allowed words (Drill n w) h = ((h.drill.crew.some, h.drill.crew.within), (h.drill.amount.some, h.drill.amount.within))
 
 commanded : (words : List (List ℕ)) (c : Command) (bytes text : List ℕ) (status : Status) → Asks words c → length bytes ≤ 1048576 →
     IsCommanded c bytes text status → IsOutcome words bytes text status
@@ -246,24 +246,11 @@ refused_shown bytes (NotRead place why) (Ok a) n h = not_shown place why.now h n
 refused_shown bytes Unread (Ok a) n h = absurd n
 refused_shown bytes e (Err m) n h = tt
 
-pub refused_answered : (bytes : List ℕ) (numbers : List ℤ) (limit : ℕ) (e : ReadError) (r : Result AnswerOf NoMemory) →
-    IfOk r (λ a. IsNotRead e a.text.items a.status) → OnRefused e (RefusedFor bytes) → IfOk r (λ a. IsAnswered bytes numbers limit a.text.items a.status)
-refused_answered bytes numbers limit (NotRead place why) (Ok a) n h = refused place why.now h n.0 n.1
-refused_answered bytes numbers limit Unread (Ok a) n h = absurd n
-refused_answered bytes numbers limit e (Err m) n h = tt
-
 pub refused_tested : (bytes : List ℕ) (e : ReadError) (r : Result AnswerOf NoMemory) → IfOk r (λ a. IsNotRead e a.text.items a.status) →
     OnRefused e (RefusedFor bytes) → IfOk r (λ a. IsTested bytes a.text.items a.status)
 refused_tested bytes (NotRead place why) (Ok a) n h = not_good place why.now h n.0 n.1
 refused_tested bytes Unread (Ok a) n h = absurd n
 refused_tested bytes e (Err m) n h = tt
-
-pub miscounted_answered : (bytes : List ℕ) (numbers : List ℤ) (limit wanted got : ℕ) (tree : Program) (r : Result AnswerOf NoMemory) →
-    IfOk r (λ a. a.text.items ≡ numbers_text wanted got) → IfOk r (λ a. a.status ≡ Numbers) → IsGood bytes tree → wanted ≡ input_count tree →
-    got ≡ length numbers → (got ≡ wanted → ⊥) → IfOk r (λ a. IsAnswered bytes numbers limit a.text.items a.status)
-miscounted_answered bytes numbers limit wanted got tree (Ok a) t s g w n differ =
-    miscounted tree g (λ e. differ (n ∙ e ∙ sym w)) (t ∙ ap (λ k. numbers_text k got) w ∙ ap (numbers_text (input_count tree)) n) s
-miscounted_answered bytes numbers limit wanted got tree (Err m) t s g w n differ = tt
 
 pub unread_for : (bytes : List ℕ) (e : ReadError) → OnRefused e (RefusedAs bytes) → OnRefused e (RefusedFor bytes)
 unread_for bytes (NotRead place why) h = unread h

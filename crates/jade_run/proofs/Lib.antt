@@ -7,3 +7,5 @@ pub mod Naming
 pub mod Once
 pub mod Signed
 pub mod Totals
+pub mod Preparing
+pub mod Running

@@ -124,13 +124,17 @@ pub data IsDrilled (tasks : ℕ) (text : List ℕ) (status : Status) : Type 0 wh
 abbrev pub IsLimited : Execution → Type 0
 IsLimited e = (1 ≤ e.limit) × (length e.numbers ≤ 64)
 
+-- 1 to 64 workers
+abbrev pub IsCrew : ℕ → Type 0
+IsCrew workers = (1 ≤ workers) × (workers ≤ 64)
+
 -- what is asked of a command: the bounds of its numbers, where it executes or drills
 abbrev pub IsAllowed : Command → Type 0
-IsAllowed (Run workers e) = IsLimited e
+IsAllowed (Run workers e) = IsCrew workers × IsLimited e
 IsAllowed (Serial e) = IsLimited e
 IsAllowed Check = Unit {0}
 IsAllowed Show = Unit {0}
-IsAllowed (Drill tasks workers) = (1 ≤ tasks) × (tasks ≤ 10000)
+IsAllowed (Drill tasks workers) = IsCrew workers × ((1 ≤ tasks) × (tasks ≤ 10000))
 
 -- what a command comes to on a text of at most 1,048,576 bytes; a drill has its own text
 abbrev pub IsCommanded : Command → (bytes : List ℕ) → (text : List ℕ) → Status → Type 0

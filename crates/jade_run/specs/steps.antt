@@ -1,1 +1,2 @@
 pub mod Drilling
+pub mod Preparing

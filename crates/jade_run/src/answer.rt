@@ -1,139 +1,28 @@
 //! What a text comes to.
 
-ghost use Rattle.std.specs.Prelude.{◌≡◌, ◌≤◌, length, map, IfErr, IfOk, MatchOption};
-ghost use Rattle.std.specs.Option.{option_copied};
-ghost use Rattle.jade_syntax.specs.Image.{program};
-ghost use Rattle.jade_syntax.specs.Objects.{input_names};
-ghost use Rattle.jade_meaning.specs.Answer.{answer, Faulted, Cells};
-ghost use Rattle.jade_meaning.specs.Report.{Ascends};
-ghost use Rattle.jade_meaning.specs.ReportAnswer.{report_answer, first_note, step_over};
-ghost use Rattle.jade_run.specs.Outcome.{fault_key};
-ghost use Rattle.serial_machine.specs.Answers.{told};
+ghost use Rattle.std.specs.Prelude.{◌≡◌, ◌≤◌, length, IfErr, IfOk};
 ghost use Rattle.jade_lexer.specs.Reading.{reading, Whole};
 ghost use Rattle.jade_reading.specs.Reading.{ReadsAs};
-ghost use Rattle.jade_run.specs.Outcome.{IsAnswered, IsGood, IsNotRead, IsShown, IsTested, OnRefused, RefusedAs, RefusedFor, Shows};
+ghost use Rattle.jade_run.specs.Outcome.{IsGood, IsNotRead, IsShown, IsTested, OnRefused, RefusedAs, RefusedFor};
 ghost use Rattle.jade_run.specs.Texts.{numbers_text, refused_text};
+ghost use Rattle.jade_run.specs.steps.Preparing.{IsReady};
 
 use crate::texts::static_word;
 use crate::{Status, texts};
-use fault_order::{first, key_is_before, limit_place};
-use jade_base::{
-    Blame, FaultKind, FaultNote, FaultNotes, Memory, PartStep, PartSteps, Path, Pos, Report,
-};
+use jade_base::{Memory, Pos};
 use jade_layout::print_program;
 use jade_lexer::{LexError, Tokens, tokens};
 use jade_parser::{ParseError, parse};
 use jade_syntax::Checked;
 use jade_syntax::tree::Program;
 use jade_types::{TypeError, check};
-use serial_machine::{RunAnswer, run_serial};
 use std::alloc::Global;
-use task_codegen::compile;
-
-/// The blame of a task whose part passes the limit.
-const LIMIT: Blame = Blame {
-    kind: FaultKind::Limit,
-    pos: None,
-};
 
 /// A text to write, and the status with which it is written.
 #[derive(Debug, Drop)]
 pub struct Answer {
     pub text: Vec<u8>,
     pub status: Status,
-}
-
-/// The answer that a report tells: the task that faults first and why, or nothing where the
-/// objects are the answer.
-pub(crate) fn fault_of(report: &Report, limit: u32) -> Option<(&Path, Blame)>
-    requires { Ascends (map fault_key report.now.faults) }
-    ensures { MatchOption result (report_answer limit report.now ≡ Cells report.now.objects) (λ f. report_answer limit report.now ≡ Faulted f.0.now f.1) }
-{
-    match (
-        first_fault(&report.faults),
-        place_of_limit(&report.steps, limit),
-    ) {
-        (None, None) => None,
-        (Some(fault), None) => Some((&fault.path, fault.blame)),
-        (None, Some(part)) => Some((&part.path, LIMIT)),
-        (Some(fault), Some(part)) => {
-            if key_is_before(&fault.path, fault.children, &part.path, part.children) {
-                Some((&fault.path, fault.blame))
-            } else {
-                Some((&part.path, LIMIT))
-            }
-        }
-    }
-}
-
-/// The first fault of a report.
-fn first_fault(notes: &FaultNotes) -> Option<&FaultNote>
-    requires { Ascends (map fault_key notes.now) }
-    ensures { option_copied result ≡ first_note notes.now }
-{
-    first(notes)
-}
-
-/// The part of a report in which the steps pass the limit.
-fn place_of_limit(steps: &PartSteps, limit: u32) -> Option<&PartStep>
-    ensures { option_copied result ≡ step_over limit steps.now }
-{
-    limit_place(steps, limit)
-}
-
-/// What a report is answered with.
-pub(crate) fn answer_of(
-    alloc: Global,
-    checked: &Checked,
-    report: &Report,
-    limit: u32,
-) -> Result<Answer, Memory>
-    requires { Ascends (map fault_key report.now.faults) }
-    ensures { IfOk result (λ a. Shows (program checked.now.program) (report_answer limit report.now) a.text.items a.status) }
-{
-    match fault_of(report, limit) {
-        Some((path, blame)) => Ok(Answer {
-            text: texts::fault(alloc, path, blame)?,
-            status: Status::Fault,
-        }),
-        None => Ok(Answer {
-            text: texts::objects(alloc, checked, &report.objects)?,
-            status: Status::Good,
-        }),
-    }
-}
-
-/// What an answer is written as.
-fn shown(alloc: Global, checked: &Checked, answer: &RunAnswer) -> Result<Answer, Memory>
-    ensures { IfOk result (λ a. Shows (program checked.now.program) (told answer.now) a.text.items a.status) }
-{
-    match answer {
-        RunAnswer::Fault(path, blame) => {
-            let status = Status::Fault;
-            let text = texts::fault(alloc, path, *blame)?;
-            Ok(Answer { text, status })
-        }
-        RunAnswer::Objects(cells) => Ok(Answer {
-            text: texts::objects(alloc, checked, cells)?,
-            status: Status::Good,
-        }),
-    }
-}
-
-/// What a program comes to with these numbers: its code is run, up to where the answer is known.
-fn run_checked(
-    alloc: Global,
-    checked: Checked,
-    numbers: &[i64],
-    limit: u32,
-) -> Result<Answer, Memory>
-    requires { length numbers.now ≡ length (input_names checked.program.items) }
-    ensures { IfOk result (λ a. Shows (program checked.program) (answer (program checked.program) numbers.now limit) a.text.items a.status) }
-{
-    let compiled = compile(alloc, checked)?;
-    let answer = run_serial(alloc, &compiled, numbers, limit)?;
-    let text = shown(alloc, compiled.checked(), &answer)?;
-    Ok(text)
 }
 
 /// Why a text is no good program: its place and the word for it, or want of memory, which says nothing
@@ -189,7 +78,7 @@ fn refused(alloc: Global, pos: Pos, why: &[u8]) -> Result<Answer, Memory>
 }
 
 /// What a text that is no good program is answered with.
-pub(crate) fn not_read(alloc: Global, error: ReadError) -> Result<Answer, Memory>
+fn not_read(alloc: Global, error: ReadError) -> Result<Answer, Memory>
     ensures { IfOk result (λ a. IsNotRead error a.text.items a.status) }
 {
     match error {
@@ -199,7 +88,7 @@ pub(crate) fn not_read(alloc: Global, error: ReadError) -> Result<Answer, Memory
 }
 
 /// The program of a text with which nothing is wrong before it runs.
-pub(crate) fn checked_of(alloc: Global, text: &[u8]) -> Result<Checked, ReadError>
+fn checked_of(alloc: Global, text: &[u8]) -> Result<Checked, ReadError>
     requires { length text.now ≤ 1048576 }
     ensures good { IfOk result (λ c. IsGood text.now c.program) }
     ensures refused { IfErr result (λ e. OnRefused e (RefusedFor text.now)) }
@@ -216,7 +105,7 @@ pub(crate) fn checked_of(alloc: Global, text: &[u8]) -> Result<Checked, ReadErro
 }
 
 /// What a program is answered with that has so many inputs and was given so many numbers.
-pub(crate) fn miscounted(alloc: Global, wanted: u32, got: u32) -> Result<Answer, Memory>
+fn miscounted(alloc: Global, wanted: u32, got: u32) -> Result<Answer, Memory>
     ensures text { IfOk result (λ a. a.text.items ≡ numbers_text wanted got) }
     ensures status { IfOk result (λ a. a.status ≡ Status.Numbers) }
 {
@@ -234,23 +123,34 @@ fn count_of(numbers: &[i64]) -> u32
     numbers.len() as u32
 }
 
-/// What a text of at most 1,048,576 bytes comes to, run with these numbers and a limit.
-pub fn run_text(alloc: Global, text: &[u8], numbers: &[i64], limit: u32) -> Result<Answer, Memory>
-    requires some { 1 ≤ limit }
+/// A program that is ready to be run, with a number for each of its inputs, or what its text is
+/// answered with.
+#[derive(Drop)]
+pub(crate) enum Ready {
+    Program(Checked),
+    Answered(Answer),
+}
+
+/// The program of a text of at most 1,048,576 bytes, where it can be run with these numbers.
+pub(crate) fn prepare(alloc: Global, text: &[u8], numbers: &[i64]) -> Result<Ready, Memory>
     requires within { length text.now ≤ 1048576 }
     requires few { length numbers.now ≤ 64 }
-    ensures { IfOk result (λ a. IsAnswered text.now numbers.now limit a.text.items a.status) }
+    ensures { IfOk result (IsReady text.now numbers.now) }
 {
     let checked = match checked_of(alloc, text) {
         Ok(checked) => checked,
-        Err(error) => return not_read(alloc, error),
+        Err(error) => {
+            let answer = not_read(alloc, error)?;
+            return Ok(Ready::Answered(answer));
+        }
     };
     let wanted = checked.inputs();
     let got = count_of(numbers);
     if got != wanted {
-        return miscounted(alloc, wanted, got);
+        let answer = miscounted(alloc, wanted, got)?;
+        return Ok(Ready::Answered(answer));
     }
-    run_checked(alloc, checked, numbers, limit)
+    Ok(Ready::Program(checked))
 }
 
 /// What a text of at most 1,048,576 bytes comes to where it is checked.

@@ -6,14 +6,17 @@ ghost use Rattle.jade_run.specs.Outcome.{first_place, IsAllowed, IsCommanded};
 ghost use Rattle.jade_run.specs.Words.{NeedsNoText};
 ghost use Rattle.jade_run.specs.Texts.{refused_text, usage_text};
 
-use crate::answer::{Answer, check_text, run_text, show_text};
+use crate::answer::{Answer, check_text, show_text};
 use crate::drill::run_drill;
-use crate::gate::Gate;
+use crate::run::{run_text, serial_text};
 use crate::status::Status;
 use crate::texts;
 use crate::words::{Command, WordsError, command_of};
 use jade_base::{Memory, Pos, Sink, Source, TextError, Word, read_text, write_text};
 use std::alloc::Global;
+use std::sync::Wait;
+use std::thread::Threads;
+use steal_workers::Gate;
 
 /// Where every text begins.
 const FIRST_PLACE: Pos = Pos { line: 1, column: 1 };
@@ -22,15 +25,18 @@ const FIRST_PLACE: Pos = Pos { line: 1, column: 1 };
 /// source where they are those of a command that works on one, writes what it comes to, and answers
 /// the status. For a drill and for refused words nothing is read.
 ///
+/// `run` and `drill` run the tasks on as many workers as the words say, the caller among them; what
+/// they write does not depend on that, nor on the gate.
+///
 /// The words are tested first, then the length of the text, then the text. The whole text of the
 /// answer is built before its first byte is written.
-pub fn jade_main<R, S: Source, K: Sink, G: Gate>(
-    _rt: &R,
+pub fn jade_main<R: Threads + Wait + Sync, S: Source, K: Sink, G: Gate>(
+    rt: &R,
     alloc: Global,
     words: &[Word],
     source: &mut S,
     sink: &mut K,
-    _gate: &G,
+    gate: &G,
 ) -> Status
     ensures unread { NeedsNoText words.now → (source.new ≡ source.old) × (result ≡ Status.Reading → ⊥) }
     ensures headline { Headline words.now result
@@ -49,7 +55,7 @@ pub fn jade_main<R, S: Source, K: Sink, G: Gate>(
           sink_faults = K.faults sink.new;
         }) }
 {
-    match answer(alloc, words, source) {
+    match answer(rt, alloc, words, source, gate) {
         Ok(answer) => match write_text(sink, &answer.text) {
             Ok(()) => answer.status,
             Err(_) => Status::Writing,
@@ -60,7 +66,13 @@ pub fn jade_main<R, S: Source, K: Sink, G: Gate>(
 
 /// What words and a source come to. The error is the status of a failed source, or of want of
 /// memory.
-fn answer<S: Source>(alloc: Global, words: &[Word], source: &mut S) -> Result<Answer, Status>
+fn answer<R: Threads + Wait + Sync, S: Source, G: Gate>(
+    rt: &R,
+    alloc: Global,
+    words: &[Word],
+    source: &mut S,
+    gate: &G,
+) -> Result<Answer, Status>
     ensures unread { NeedsNoText words.now → (source.new ≡ source.old) × IfErr result (λ s. s ≡ Status.Memory) }
     ensures answer { MatchResult result (λ a. Answers words.now (S.left source.old) (S.left source.new) a.text.items a.status)
         (λ s. Stops s (S.faults source.old) (S.faults source.new)) }
@@ -70,10 +82,10 @@ fn answer<S: Source>(alloc: Global, words: &[Word], source: &mut S) -> Result<An
         Err(error) => return not_a_command(alloc, error),
     };
     if !command.works_on_text() {
-        return without_text(alloc, &command);
+        return without_text(rt, alloc, &command, gate);
     }
     match read_text(alloc, source) {
-        Ok(text) => match of_text(alloc, &command, &text) {
+        Ok(text) => match of_text(rt, alloc, &command, &text, gate) {
             Ok(answer) => Ok(answer),
             Err(Memory) => Err(Status::Memory),
         },
@@ -87,30 +99,45 @@ fn answer<S: Source>(alloc: Global, words: &[Word], source: &mut S) -> Result<An
 }
 
 /// What a command comes to that works on no text. The error is the status of want of memory.
-fn without_text(alloc: Global, command: &Command) -> Result<Answer, Status>
+fn without_text<R: Threads + Wait + Sync, G: Gate>(
+    rt: &R,
+    alloc: Global,
+    command: &Command,
+    gate: &G,
+) -> Result<Answer, Status>
     requires { IsAllowed command.now }
     ensures answer { IfOk result (λ a. IsCommanded command.now [] a.text.items a.status) }
     ensures memory { IfErr result (λ s. s ≡ Status.Memory) }
 {
-    match of_text(alloc, command, &[]) {
+    match of_text(rt, alloc, command, &[], gate) {
         Ok(answer) => Ok(answer),
         Err(Memory) => Err(Status::Memory),
     }
 }
 
 /// What a command comes to on a text of at most 1,048,576 bytes.
-fn of_text(alloc: Global, command: &Command, text: &[u8]) -> Result<Answer, Memory>
+fn of_text<R: Threads + Wait + Sync, G: Gate>(
+    rt: &R,
+    alloc: Global,
+    command: &Command,
+    text: &[u8],
+    gate: &G,
+) -> Result<Answer, Memory>
     requires within { length text.now ≤ 1048576 }
     requires allowed { IsAllowed command.now }
     ensures { IfOk result (λ a. IsCommanded command.now text.now a.text.items a.status) }
 {
     match command {
-        Command::Run(_, execution) | Command::Serial(execution) => {
-            run_text(alloc, text, execution.numbers.as_slice(), execution.limit)
+        Command::Run(workers, execution) => {
+            let numbers = execution.numbers.as_slice();
+            run_text(rt, alloc, text, numbers, *workers, execution.limit, gate)
+        }
+        Command::Serial(execution) => {
+            serial_text(alloc, text, execution.numbers.as_slice(), execution.limit)
         }
         Command::Check => check_text(alloc, text),
         Command::Show => show_text(alloc, text),
-        Command::Drill(tasks, _) => run_drill(alloc, *tasks),
+        Command::Drill(tasks, workers) => run_drill(rt, alloc, *tasks, *workers, gate),
     }
 }
 

@@ -7,18 +7,22 @@ ghost use Rattle.jade_syntax.specs.Objects.{input_names};
 ghost use Rattle.jade_meaning.specs.Answer.{answer};
 ghost use Rattle.jade_meaning.specs.Report.{Ascends};
 ghost use Rattle.jade_meaning.specs.ReportAnswer.{report_answer};
-ghost use Rattle.jade_run.specs.Outcome.{fault_key, IsDrilled};
+ghost use Rattle.jade_run.specs.Outcome.{fault_key, IsCrew, IsDrilled};
 ghost use Rattle.jade_run.specs.steps.Drilling.{ShowsSum};
 
-use crate::answer::{Answer, answer_of, checked_of, fault_of, miscounted, not_read};
+use crate::answer::{Answer, Ready, prepare};
+use crate::run::{answer_of, fault_of};
 use crate::sums::total;
 use crate::{Status, texts};
 use jade_base::{Memory, Report};
 use jade_gen::drill_text;
 use jade_meaning::laws::{report_ascends, report_tells};
-use jade_meaning::serial_run;
 use jade_syntax::Checked;
 use std::alloc::Global;
+use std::sync::Wait;
+use std::thread::Threads;
+use steal_workers::{Gate, run_tasks};
+use task_codegen::compile;
 
 /// The most steps of a drill: the greatest limit.
 const MOST_STEPS: u32 = u32::MAX;
@@ -43,33 +47,46 @@ fn sum_answer(
     }
 }
 
-/// What the program of a drill comes to.
-fn drill_checked(alloc: Global, checked: &Checked, tasks: u32) -> Result<Answer, Memory>
-    requires { length (input_names checked.now.program.items) ≡ 0 }
+/// What the program of a drill comes to, where so many workers run its tasks.
+fn drill_checked<R: Threads + Wait + Sync, G: Gate>(
+    rt: &R,
+    alloc: Global,
+    checked: Checked,
+    tasks: u32,
+    workers: u32,
+    gate: &G,
+) -> Result<Answer, Memory>
+    requires given { 0 ≡ length (input_names checked.program.items) }
+    requires crew { IsCrew workers }
     ensures { IfOk result
-        (λ a. ShowsSum (program checked.now.program) tasks (answer (program checked.now.program) [] 4294967295) a.text.items a.status) }
+        (λ a. ShowsSum (program checked.program) tasks (answer (program checked.program) [] 4294967295) a.text.items a.status) }
 {
     report_ascends();
     report_tells();
-    let _program = checked.program();
-    let report = serial_run(alloc, checked, &[], MOST_STEPS)?;
-    let answer = sum_answer(alloc, checked, tasks, &report)?;
+    let compiled = compile(alloc, checked)?;
+    let ran = run_tasks(rt, alloc, &compiled, &[], workers, MOST_STEPS, gate)?;
+    let seen = compiled.checked();
+    let _program = seen.program();
+    let answer = sum_answer(alloc, seen, tasks, ran.report())?;
     Ok(answer)
 }
 
-/// What a drill of so many tasks comes to.
-pub fn run_drill(alloc: Global, tasks: u32) -> Result<Answer, Memory>
-    requires { (1 ≤ tasks) × (tasks ≤ 10000) }
+/// What a drill of so many tasks comes to, where so many workers run them.
+pub fn run_drill<R: Threads + Wait + Sync, G: Gate>(
+    rt: &R,
+    alloc: Global,
+    tasks: u32,
+    workers: u32,
+    gate: &G,
+) -> Result<Answer, Memory>
+    requires amount { (1 ≤ tasks) × (tasks ≤ 10000) }
+    requires crew { IsCrew workers }
     ensures { IfOk result (λ a. IsDrilled tasks a.text.items a.status) }
 {
     let text = drill_text(alloc, tasks)?;
-    let checked = match checked_of(alloc, &text) {
-        Ok(checked) => checked,
-        Err(error) => return not_read(alloc, error),
-    };
-    let wanted = checked.inputs();
-    if wanted > 0 {
-        return miscounted(alloc, wanted, 0);
+    let ready = prepare(alloc, &text, &[])?;
+    match ready {
+        Ready::Program(checked) => drill_checked(rt, alloc, checked, tasks, workers, gate),
+        Ready::Answered(answer) => Ok(answer),
     }
-    drill_checked(alloc, &checked, tasks)
 }

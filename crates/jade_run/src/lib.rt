@@ -4,8 +4,8 @@
 pub mod answer;
 pub mod call;
 pub mod drill;
-pub mod gate;
 pub mod laws;
+pub mod run;
 pub mod status;
 pub mod sums;
 pub mod sure;
@@ -13,6 +13,6 @@ pub mod texts;
 pub mod words;
 
 pub use call::jade_main;
-pub use gate::{EmptyGate, Gate};
 pub use status::Status;
+pub use steal_workers::{EmptyGate, Gate};
 pub use sure::run_in_memory;

@@ -6,16 +6,18 @@ ghost use Rattle.jade_run.specs.Headline.{Headline};
 ghost use Rattle.jade_run.specs.Words.{NeedsNoText};
 
 use crate::call::jade_main;
-use crate::gate::Gate;
 use crate::laws::one_outcome;
 use crate::status::Status;
 use jade_base::{SureSink, SureSource, Word};
 use std::alloc::Global;
+use std::sync::Wait;
+use std::thread::Threads;
+use steal_workers::Gate;
 
 /// `jade_main` over a text in memory: where the sink has room for the text of the outcome, the
 /// status is the outcome's, or `Memory`. It is never `Reading`. What the sink took and what the
 /// source has left are as `jade_main` says; both tell their bytes here.
-pub fn run_in_memory<R, G: Gate>(
+pub fn run_in_memory<R: Threads + Wait + Sync, G: Gate>(
     rt: &R,
     alloc: Global,
     words: &[Word],

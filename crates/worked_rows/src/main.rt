@@ -13,6 +13,8 @@ use std::alloc::{AllocError, AllocFailed, Global};
 use std::num::ParseIntError;
 use std::process::ExitCode;
 use std::str::Utf8Error;
+use std::sync::Wait;
+use std::thread::Threads;
 use std::{io, str};
 
 /// The most bytes that a case writes.
@@ -119,7 +121,7 @@ impl Case {
     }
 
     /// Runs the case, and prints what it writes and its status.
-    fn run(self, rt: &HostRuntime, alloc: Global) -> Result<(), Stop> {
+    fn run<R: Threads + Wait + Sync + Print>(self, rt: &R, alloc: Global) -> Result<(), Stop> {
         let mut source = SureSource::new(self.text);
         let mut sink = SureSink::new(alloc, ROOM)?;
         let status = run_in_memory(rt, alloc, &self.words, &mut source, &mut sink, &EmptyGate);
@@ -130,7 +132,11 @@ impl Case {
 }
 
 /// Runs the cases of a text.
-fn run_cases(rt: &HostRuntime, alloc: Global, text: &str) -> Result<(), Stop> {
+fn run_cases<R: Threads + Wait + Sync + Print>(
+    rt: &R,
+    alloc: Global,
+    text: &str,
+) -> Result<(), Stop> {
     let mut open = None;
     for line in text.lines() {
         match line.strip_prefix("> ") {
@@ -149,7 +155,11 @@ fn run_cases(rt: &HostRuntime, alloc: Global, text: &str) -> Result<(), Stop> {
 }
 
 /// Runs a case that is complete, if there is one.
-fn finish(rt: &HostRuntime, alloc: Global, case: Option<Case>) -> Result<(), Stop> {
+fn finish<R: Threads + Wait + Sync + Print>(
+    rt: &R,
+    alloc: Global,
+    case: Option<Case>,
+) -> Result<(), Stop> {
     match case {
         Some(case) => case.run(rt, alloc),
         None => Ok(()),
@@ -167,8 +177,8 @@ fn calls(alloc: Global, failing: Option<u64>) -> Result<Vec<u64>, Stop> {
 
 /// Runs `SEVEN` over a source that gives 4 bytes a call and a sink that takes 3, and prints what the
 /// sink took and the status. The calls of these numbers fail.
-fn run_failing(
-    rt: &HostRuntime,
+fn run_failing<R: Threads + Wait + Sync + Print>(
+    rt: &R,
     alloc: Global,
     read: Option<u64>,
     write: Option<u64>,
@@ -184,7 +194,7 @@ fn run_failing(
 }
 
 /// Runs over a source that fails, a sink that fails, and over both without a fault.
-fn run_all_failing(rt: &HostRuntime, alloc: Global) -> Result<(), Stop> {
+fn run_all_failing<R: Threads + Wait + Sync + Print>(rt: &R, alloc: Global) -> Result<(), Stop> {
     run_failing(rt, alloc, None, None)?;
     run_failing(rt, alloc, None, Some(1))?;
     run_failing(rt, alloc, Some(1), None)

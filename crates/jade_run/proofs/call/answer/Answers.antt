@@ -1,4 +1,4 @@
-use Rattle.std.proofs.Common.{sym, ◌∙◌}
+use Rattle.std.proofs.Common.{rules, sym, ◌∙◌}
 use Rattle.jade_run.proofs.Calls.{too_long_answers, command_answers, asks_text, asks_allowed, no_command, textless}
 use Rattle.jade_run.proofs.call.answer.Goals as goal
 
@@ -7,7 +7,7 @@ returns-in-Err-clause-answer g c =
     no_command _ _ _ _ c.in-Err.error c.not_a_command.result c.in-Err.ensures c.not_a_command.ensures.usage c.not_a_command.ensures.memory
 
 pub of_text-requires-clause-allowed : goal.of_text-requires-clause-allowed
-of_text-requires-clause-allowed g c = asks_allowed _ c.in-Ok.command c.in-Ok.ensures
+of_text-requires-clause-allowed g c = search (rules, asks_allowed, c.in-Ok.ensures)
 
 pub returns-in-Ok-of_text-clause-answer : goal.returns-in-Ok-of_text-clause-answer
 returns-in-Ok-of_text-clause-answer g c =

@@ -1,38 +1,55 @@
 use Rattle.std.specs.Prelude.{ℤ}
-use Rattle.std.proofs.Common.{◌≡◌, ℕ, ◌≤◌, [], length, ap, ◌∙◌, sym, subst, List, map}
+use Rattle.std.proofs.Common.{◌≡◌, ℕ, ◌≤◌, true, [], length, ap, ◌∙◌, sym, subst, List}
 use Rattle.std.specs.List.{sum_by}
 use Rattle.jade_base.specs.declared.report.Report.{Report}
 use Rattle.jade_syntax.specs.Abstract.{AbstractProgram}
+use Rattle.jade_syntax.specs.CheckedProgram.{CheckedProgram}
 use Rattle.jade_syntax.specs.Image.{program}
+use Rattle.jade_syntax.specs.Limits.{within_limits}
 use Rattle.jade_meaning.specs.Answer.{Answer, answer}
-use Rattle.jade_meaning.specs.Report.{report, Ascends}
+use Rattle.jade_meaning.specs.Report.{report}
 use Rattle.jade_meaning.specs.ReportAnswer.{report_answer, ReportTells}
 use Rattle.jade_meaning.specs.Serial.{serial_run}
 use Rattle.jade_run.specs.declared.status.Status.{Status}
-use Rattle.jade_run.specs.Outcome.{fault_key}
 use Rattle.jade_run.specs.steps.Drilling.{ShowsSum}
+use Rattle.jade_run.proofs.Running.{reported, faults_ascend}
 use Rattle.jade_run.proofs.Totals.{few_after}
 use Rattle.jade_run.proofs.drill.drill_checked.Goals as goal
 
 -- what tells the answer of a report by a sum tells the program's so
-told : (p : AbstractProgram) (tasks : ℕ) (limit : ℕ) (r : Report) (text : List ℕ) (status : Status) → r ≡ report p [] limit → ReportTells p [] limit →
-    ShowsSum p tasks (report_answer limit r) text status → ShowsSum p tasks (answer p [] limit) text status
-told p tasks limit r text status e t h =
-    let P : Answer → Type 0 = λ a. ShowsSum p tasks a text status in subst P (ap (report_answer limit) e ∙ t.same) h
+told : (r : Report) (p q s : CheckedProgram) (tasks limit : ℕ) (text : List ℕ) (status : Status) → r ≡ report (program p.program) [] limit → q ≡ p → s ≡ q →
+    ReportTells (program p.program) [] limit → ShowsSum (program s.program) tasks (report_answer limit r) text status →
+    ShowsSum (program p.program) tasks (answer (program p.program) [] limit) text status
+told r p q s tasks limit text status e f g t h =
+    let P : Answer → Type 0 = λ a. ShowsSum (program p.program) tasks a text status in
+    let Q : CheckedProgram → Type 0 = λ x. ShowsSum (program x.program) tasks (report_answer limit r) text status in
+    subst P (ap (report_answer limit) e ∙ t.same) (subst Q (g ∙ f) h)
+
+-- a run of a program within the limits has few cells
+few : (r : Report) (p q s : CheckedProgram) (limit : ℕ) → r ≡ report (program p.program) [] limit → q ≡ p → s ≡ q → within_limits s.program.items ≡ true →
+    sum_by (length {A = ℤ}) r.objects ≤ 1048576
+few r p q s limit e f g h =
+    let P : Report → Type 0 = λ x. sum_by (length {A = ℤ}) x.objects ≤ 1048576 in
+    let Q : CheckedProgram → Type 0 = λ x. within_limits x.program.items ≡ true in
+    subst P (sym e) (few_after p.program.items (serial_run (program p.program) [] limit) (subst Q (g ∙ f) h))
 
 pub sum_answer-requires-clause-ascending : goal.sum_answer-requires-clause-ascending
-sum_answer-requires-clause-ascending c =
-    let ascending = (c.report_ascends.ensures (program c.args.checked.now.program) [] 4294967295).faults in
-    let P : Report → Type 0 = λ r. Ascends (map fault_key r.faults) in
-    subst P (sym c.in_ok-report.ensures) ascending
+sum_answer-requires-clause-ascending g c =
+    faults_ascend c.report.result.now (program c.args.checked.program) [] 4294967295
+    (reported c.report.result.now c.in_ok-ran.ran.plan c.args.checked c.in_ok-compiled.compiled [] 4294967295 c.report.ensures.meaning c.in_ok-ran.ensures
+    c.in_ok-compiled.ensures)
+    (c.report_ascends.ensures (program c.args.checked.program) [] 4294967295).faults
 
 pub sum_answer-requires-clause-few : goal.sum_answer-requires-clause-few
-sum_answer-requires-clause-few c =
-    let P : Report → Type 0 = λ r. sum_by (length {A = ℤ}) r.objects ≤ 1048576 in
-    subst P (sym c.in_ok-report.ensures)
-    (few_after c.args.checked.now.program.items (serial_run (program c.args.checked.now.program) [] 4294967295) c.program-program.ensures.limits)
+sum_answer-requires-clause-few g c =
+    few c.report.result.now c.args.checked c.in_ok-compiled.compiled c.checked-seen.result.now 4294967295
+    (reported c.report.result.now c.in_ok-ran.ran.plan c.args.checked c.in_ok-compiled.compiled [] 4294967295 c.report.ensures.meaning c.in_ok-ran.ensures
+    c.in_ok-compiled.ensures)
+    c.in_ok-compiled.ensures c.checked-seen.ensures c.program-program.ensures.limits
 
 pub returns : goal.returns
-returns c =
-    let p = program c.args.checked.now.program in
-    told p c.args.tasks 4294967295 c.in_ok-report.report _ _ c.in_ok-report.ensures (c.report_tells.ensures p [] 4294967295) c.in_ok-answer.ensures
+returns g c =
+    told c.report.result.now c.args.checked c.in_ok-compiled.compiled c.checked-seen.result.now c.args.tasks 4294967295 _ _
+    (reported c.report.result.now c.in_ok-ran.ran.plan c.args.checked c.in_ok-compiled.compiled [] 4294967295 c.report.ensures.meaning c.in_ok-ran.ensures
+    c.in_ok-compiled.ensures)
+    c.in_ok-compiled.ensures c.checked-seen.ensures (c.report_tells.ensures (program c.args.checked.program) [] 4294967295) c.in_ok-answer.ensures

@@ -1,0 +1,43 @@
+-- What the report of a run tells.
+use Rattle.std.proofs.Common.{◌≡◌, ℕ, List, refl, ap, sym, subst, ◌∙◌, map}
+use Rattle.std.specs.Prelude.{ℤ}
+use Rattle.jade_base.specs.declared.report.Report.{Report}
+use Rattle.jade_syntax.specs.Abstract.{AbstractProgram}
+use Rattle.jade_syntax.specs.CheckedProgram.{CheckedProgram}
+use Rattle.jade_syntax.specs.Image.{program}
+use Rattle.jade_meaning.specs.Answer.{Answer, answer}
+use Rattle.jade_meaning.specs.Plan.{RunPlan}
+use Rattle.jade_meaning.specs.Report.{report, Ascends}
+use Rattle.jade_meaning.specs.ReportAnswer.{report_answer, ReportTells}
+use Rattle.jade_run.specs.declared.answer.Ready.{Ready}
+use Rattle.jade_run.specs.declared.answer.Ready.TheVariants.{Program, Answered}
+use Rattle.jade_run.specs.declared.answer.Answer.{Answer as AnswerOf}
+use Rattle.jade_run.specs.declared.status.Status.{Status}
+use Rattle.jade_run.specs.Outcome.{fault_key, Shows}
+use Rattle.jade_run.specs.steps.Preparing.{IsReady, IsSettled}
+
+-- the report of a run of the program that was compiled is that of the program
+pub reported : (r : Report) (plan : RunPlan) (p q : CheckedProgram) (ns : List ℤ) (limit : ℕ) → r ≡ report (program plan.program) plan.numbers plan.limit →
+    plan ≡ record { program = q.program; numbers = ns; limit = limit } → q ≡ p → r ≡ report (program p.program) ns limit
+reported r plan p q ns limit e f g =
+    e ∙ ap (λ (x : RunPlan). report (program x.program) x.numbers x.limit) f ∙ ap (λ (x : CheckedProgram). report (program x.program) ns limit) g
+
+pub faults_ascend : (r : Report) (p : AbstractProgram) (ns : List ℤ) (limit : ℕ) → r ≡ report p ns limit →
+    Ascends (map fault_key (report p ns limit).faults) → Ascends (map fault_key r.faults)
+faults_ascend r p ns limit e h = let P : Report → Type 0 = λ x. Ascends (map fault_key x.faults) in subst P (sym e) h
+
+-- what shows the answer that the report tells shows the program's
+pub shows_answer : (r : Report) (p q s : CheckedProgram) (ns : List ℤ) (limit : ℕ) (text : List ℕ) (status : Status) → r ≡ report (program p.program) ns limit →
+    q ≡ p → s ≡ q → ReportTells (program p.program) ns limit → Shows (program s.program) (report_answer limit r) text status →
+    Shows (program p.program) (answer (program p.program) ns limit) text status
+shows_answer r p q s ns limit text status e f g t h =
+    let P : Answer → Type 0 = λ a. Shows (program p.program) a text status in
+    let Q : CheckedProgram → Type 0 = λ x. Shows (program x.program) (report_answer limit r) text status in
+    subst P (ap (report_answer limit) e ∙ t.same) (subst Q (g ∙ f) h)
+
+pub program_ready : (bytes : List ℕ) (ns : List ℤ) (r : Ready) (c : CheckedProgram) → r ≡ Program c → IsReady bytes ns r → IsReady bytes ns (Program c)
+program_ready bytes ns r c e h = subst (λ x. IsReady bytes ns x) e h
+
+pub answered_ready : (bytes : List ℕ) (ns : List ℤ) (r : Ready) (a : AnswerOf) → r ≡ Answered a → IsReady bytes ns r →
+    IsSettled bytes ns a.text.items a.status
+answered_ready bytes ns r a e h = let P : Ready → Type 0 = λ x. IsReady bytes ns x in subst P e h
