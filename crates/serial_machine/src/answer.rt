@@ -54,7 +54,7 @@ pub fn run_serial(
     ensures { IfOk result (λ done. told done ≡ answer (abstracted compiled.now.program) numbers.now limit) }
 {
     stopping_agrees();
-    let code = compiled.code();
+    let code = compiled.decoded();
     code.keeps_rules();
     let objects = compiled.checked().objects();
     let mut held = Holdings::whole(alloc, compiled.checked())?;

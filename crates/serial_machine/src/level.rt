@@ -10,7 +10,7 @@ ghost use Rattle.serial_machine.specs.steps.Levels.{Begins, BeginsChild, Passes,
 use crate::ownership::take_child;
 use jade_base::Memory;
 use std::alloc::Global;
-use task_code::Code;
+use task_code::DecodedCode;
 use task_machine::execution::{child_slots, first_body, input_slots, instructions};
 use task_machine::frame::{Frame, go_past};
 use task_machine::section::{Own, all_rights, commit, outside_section};
@@ -50,7 +50,7 @@ fn begun(body: u32, own: Own, slots: Vec<i64>, left: u32) -> Level
 /// The task of the first body at its begin, with all rights. The error is want of memory.
 pub(crate) fn root(
     alloc: Global,
-    code: &Code,
+    code: &DecodedCode,
     numbers: &[i64],
     objects: u32,
     limit: u32,
@@ -69,7 +69,7 @@ pub(crate) fn root(
 /// section. The error is want of memory.
 pub(crate) fn create(
     alloc: Global,
-    code: &Code,
+    code: &DecodedCode,
     numbers: &[i64],
     parent: &mut Level,
     number: u32,
@@ -87,7 +87,7 @@ pub(crate) fn create(
 }
 
 /// The rights of a task are from here on what its section has made of them. It takes no memory.
-pub(crate) fn change(code: &Code, level: &mut Level)
+pub(crate) fn change(code: &DecodedCode, level: &mut Level)
     requires there { level.old.body < length code.now.bodies }
     requires place { level.old.frame.place < length (code_in code.now level.old) }
     ensures { Passes level.old level.new (copy_spread level.old.own.objects level.old.own.spec) }

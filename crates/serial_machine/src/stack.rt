@@ -9,7 +9,7 @@ use crate::level::{Level, change, create, resume};
 use jade_base::{Blame, Memory, Path};
 use std::alloc::Global;
 use std::mem;
-use task_code::Code;
+use task_code::DecodedCode;
 use task_machine::execution::instructions;
 use task_machine::holdings::Holdings;
 
@@ -45,7 +45,7 @@ fn pop(stack: &mut Stack) -> Result<Progress, Memory>
 // A child begins, and its creator waits for it. The error is want of memory.
 fn push(
     alloc: Global,
-    code: &Code,
+    code: &DecodedCode,
     numbers: &[i64],
     stack: &mut Stack,
     number: u32,
@@ -64,7 +64,7 @@ fn push(
 // Goes on to the next stop, and past it. The error is want of memory.
 fn proceed(
     alloc: Global,
-    code: &Code,
+    code: &DecodedCode,
     numbers: &[i64],
     stack: &mut Stack,
     held: &mut Holdings,
@@ -94,7 +94,7 @@ fn proceed(
 /// memory.
 pub(crate) fn run(
     alloc: Global,
-    code: &Code,
+    code: &DecodedCode,
     numbers: &[i64],
     limit: u32,
     stack: &mut Stack,

@@ -1,7 +1,9 @@
 //! The code of a program, the rules that it keeps, and the first place where it does not.
 #![tactic(auto)]
 
+pub mod decoded;
 pub mod valid;
 
 pub use code_meaning::code::{BinaryOp, Body, Instruction, Logic, Operand};
+pub use decoded::{DecodedBody, DecodedCode, DecodedInstruction, Form};
 pub use valid::{At, Bad, Code, Raw, validate};

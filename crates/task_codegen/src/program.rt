@@ -17,14 +17,15 @@ use jade_syntax::Checked;
 use jade_syntax::tree::{NameList, Program};
 use std::alloc::Global;
 use std::marker::Model;
-use task_code::{Code, Raw};
+use task_code::{Code, DecodedCode, Raw};
 use task_translation::laws::code_follows;
 
-/// A checked program and its code.
+/// A checked program and its code, also decoded.
 #[derive(Drop)]
 pub struct Compiled {
     checked: Checked,
     code: Code,
+    decoded: DecodedCode,
 }
 
 impl Model for Compiled {
@@ -46,7 +47,7 @@ impl Model for Compiled {
 
     ghost view = { λ c. c.checked };
 
-    ghost invariant = { λ c. c.code ≡ whole_code (abstracted c.checked.program) };
+    ghost invariant = { λ c. (c.code ≡ whole_code (abstracted c.checked.program)) × (c.decoded ≡ whole_code (abstracted c.checked.program)) };
 }
 
 impl Compiled {
@@ -67,6 +68,15 @@ impl Compiled {
     {
         code_follows();
         &self.code
+    }
+
+    /// The same code, decoded. It takes no memory.
+    pub fn decoded(&self) -> &DecodedCode
+        ensures code { result.now ≡ whole_code (abstracted self.now.program) }
+        ensures follows { (limit : ℕ) → Follows result.now.bodies (abstracted self.now.program) limit }
+    {
+        code_follows();
+        &self.decoded
     }
 }
 
@@ -121,5 +131,10 @@ pub fn compile(alloc: Global, checked: Checked) -> Result<Compiled, Memory>
     ensures { IfOk result (λ compiled. compiled ≡ checked) }
 {
     let code = code_of(alloc, &checked)?;
-    Ok(Compiled { checked, code })
+    let decoded = DecodedCode::of(alloc, &code)?;
+    Ok(Compiled {
+        checked,
+        code,
+        decoded,
+    })
 }

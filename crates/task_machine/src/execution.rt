@@ -25,16 +25,16 @@ use crate::section::{
 };
 use crate::slots::{empty_slots, give_call, give_inputs};
 use access_spec::WorkingCopy;
-use code_meaning::code::{Instruction, Operand};
+use code_meaning::code::Operand;
 use jade_base::{Content, Memory, Mode, ObjectId, Rights, Spec};
 use std::alloc::Global;
 use std::marker::Model;
-use task_code::Code;
+use task_code::{DecodedCode, DecodedInstruction};
 
 /// The execution of the body of one task. Contracts see it as plain data.
 #[derive(Drop)]
 pub struct Execution<'c> {
-    code: &'c Code,
+    code: &'c DecodedCode,
     numbers: &'c [i64],
     limit: u32,
     body: u32,
@@ -57,43 +57,43 @@ impl<'c> Model for Execution<'c> {
 }
 
 /// The instructions of a body.
-pub fn instructions(code: &Code, body: u32) -> &[Instruction]
+pub fn instructions(code: &DecodedCode, body: u32) -> &[DecodedInstruction]
     requires { body < length code.now.bodies }
     ensures code { result.now ≡ (body_at code.now body).code }
     ensures valid { Valid code.now }
 {
     code.keeps_rules();
-    let body = &code.raw().bodies[body as usize];
+    let body = &code.bodies()[body as usize];
     body.code.as_slice()
 }
 
 // The number of slots of a body.
-fn room(code: &Code, body: u32) -> u32
+fn room(code: &DecodedCode, body: u32) -> u32
     requires { body < length code.now.bodies }
     ensures { result ≡ (body_at code.now body).slots }
 {
-    let body = &code.raw().bodies[body as usize];
+    let body = &code.bodies()[body as usize];
     body.slots
 }
 
 // What a creator gives a body.
-fn call_of(code: &Code, body: u32) -> &[Operand]
+fn call_of(code: &DecodedCode, body: u32) -> &[Operand]
     requires { body < length code.now.bodies }
     ensures { result.now ≡ (body_at code.now body).call }
 {
-    let body = &code.raw().bodies[body as usize];
+    let body = &code.bodies()[body as usize];
     body.call.as_slice()
 }
 
 /// That there is a first body. It does nothing.
-pub fn first_body(code: &Code)
+pub fn first_body(code: &DecodedCode)
     ensures { 0 < length code.now.bodies }
 {
     code.keeps_rules();
 }
 
 // A body that is created is there.
-fn created_body(code: &Code, body: u32, place: usize, number: u32)
+fn created_body(code: &DecodedCode, body: u32, place: usize, number: u32)
     requires there { body < length code.now.bodies }
     requires created { created_by (slice_get (body_at code.now body).code place) ≡ Some number }
     ensures later { body < number }
@@ -104,7 +104,7 @@ fn created_body(code: &Code, body: u32, place: usize, number: u32)
 }
 
 // A body has slots for the inputs and for what it is given.
-fn body_room(code: &Code, body: u32)
+fn body_room(code: &DecodedCode, body: u32)
     requires { body < length code.now.bodies }
     ensures { code.now.inputs + length (body_at code.now body).call ≤ (body_at code.now body).slots }
 {
@@ -114,7 +114,7 @@ fn body_room(code: &Code, body: u32)
 /// The slots of a body with the inputs in the first of them. The error is want of memory.
 pub fn input_slots(
     alloc: Global,
-    code: &Code,
+    code: &DecodedCode,
     numbers: &[i64],
     body: u32,
 ) -> Result<Vec<i64>, Memory>
@@ -132,7 +132,7 @@ pub fn input_slots(
 /// The slots of a body that is created. The error is want of memory.
 pub fn child_slots(
     alloc: Global,
-    code: &Code,
+    code: &DecodedCode,
     numbers: &[i64],
     body: u32,
     frame: &Frame,
@@ -150,16 +150,16 @@ pub fn child_slots(
 }
 
 // The number of objects.
-fn count_objects(code: &Code) -> u32
+fn count_objects(code: &DecodedCode) -> u32
     requires { length code.now.sizes < 2 ^ 32 }
     ensures { result ≡ length code.now.sizes }
 {
-    code.raw().sizes.len() as u32
+    code.sizes().len() as u32
 }
 
 // The execution of a body from its begin.
 fn begun<'c>(
-    code: &'c Code,
+    code: &'c DecodedCode,
     numbers: &'c [i64],
     limit: u32,
     body: u32,
@@ -197,7 +197,7 @@ impl<'c> Execution<'c> {
     /// objects and no content held. The error is want of memory.
     pub fn root(
         alloc: Global,
-        code: &'c Code,
+        code: &'c DecodedCode,
         numbers: &'c [i64],
         limit: u32,
     ) -> Result<Execution<'c>, Memory>

@@ -30,7 +30,7 @@ use access_spec::mode_of;
 use jade_base::{Blame, Content, Memory, Mode, ObjectId, Right, Rights};
 use std::alloc::Global;
 use std::marker::Model;
-use task_code::Code;
+use task_code::DecodedCode;
 
 /// What a task asks for.
 #[derive(Clone, Copy, Debug, PartialEq, Eq)]
@@ -352,7 +352,7 @@ impl<'c> Machine<'c> {
     /// objects. The error is want of memory.
     pub fn root(
         alloc: Global,
-        code: &'c Code,
+        code: &'c DecodedCode,
         numbers: &'c [i64],
         limit: u32,
     ) -> Result<Machine<'c>, Memory>

@@ -44,7 +44,7 @@ impl<'c, N: RunName> Capsule<'c, N> {
         requires given { length numbers.now ≡ length (input_names compiled.now.program.items) }
     {
         let _objects = compiled.checked().objects();
-        let machine = Machine::root(alloc, compiled.code(), numbers, limit)?;
+        let machine = Machine::root(alloc, compiled.decoded(), numbers, limit)?;
         Ok(Capsule {
             pass,
             machine,
