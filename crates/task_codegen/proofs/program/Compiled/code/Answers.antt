@@ -10,5 +10,5 @@ use Rattle.task_codegen.proofs.program.Compiled.code.Goals as goal
 pub returns-clause-follows : goal.returns-clause-follows
 returns-clause-follows c =
     let p = abstracted c.args.self.now.program in
-    let code : c.self.inside.code ≡ whole_code p = c.self.invariant ∙ ap (λ (k : CheckedProgram). whole_code (abstracted k.program)) c.self.view_is in
+    let code : c.self.inside.code ≡ whole_code p = c.self.invariant.0 ∙ ap (λ (k : CheckedProgram). whole_code (abstracted k.program)) c.self.view_is in
     λ limit numbers long. ap (λ (t : TaskCode). code_course t.bodies numbers limit (root_spec p)) code ∙ c.code_follows.ensures p limit numbers long
