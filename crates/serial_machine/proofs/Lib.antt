@@ -2,6 +2,7 @@ mod Settling
 mod Budgets
 mod Stacking
 mod Owned
+mod Creating
 mod Outside
 mod Pausing
 mod Levels

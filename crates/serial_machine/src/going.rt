@@ -7,8 +7,8 @@ ghost use Rattle.task_machine.specs.steps.Running.{RunsOn};
 ghost use Rattle.serial_machine.specs.steps.Pausing.{AllHeld, Outside, Stops};
 
 use crate::ownership::begin_child;
-use code_meaning::code::Instruction;
 use jade_base::{Blame, FaultKind, Memory};
+use task_code::{DecodedInstruction, Form};
 use task_machine::frame::{Frame, Pause, go_past};
 use task_machine::holdings::Holdings;
 use task_machine::play::advance;
@@ -27,13 +27,14 @@ pub(crate) enum Stop {
 
 // A child is created, or a change is made, outside of a section for it, which no code of a program
 // does. The error is want of memory.
-fn outside(code: &[Instruction], own: &mut Own, frame: &Frame) -> Result<Stop, Memory>
+fn outside(code: &[DecodedInstruction], own: &mut Own, frame: &Frame) -> Result<Stop, Memory>
     requires place { frame.now.place < length code.now }
     requires section { InSection (slice_get code.now frame.now.place) own.old.section → ⊥ }
     ensures { IfOk result (λ stop. Outside code.now own.old frame.now stop own.new) }
 {
-    match code[frame.place] {
-        Instruction::Create(number, pos) => {
+    let decoded = &code[frame.place];
+    match decoded.form {
+        Form::Create(number, pos) => {
             begin_child(own)?;
             if covers_child(own) {
                 Ok(Stop::Create(number))
@@ -53,7 +54,7 @@ fn outside(code: &[Instruction], own: &mut Own, frame: &Frame) -> Result<Stop, M
 
 /// Goes on to the next stop. The error is want of memory.
 pub(crate) fn go_on(
-    code: &[Instruction],
+    code: &[DecodedInstruction],
     own: &mut Own,
     frame: &mut Frame,
     held: &mut Holdings,
