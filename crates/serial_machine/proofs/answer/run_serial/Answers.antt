@@ -16,13 +16,13 @@ use Rattle.serial_machine.proofs.answer.run_serial.Goals as goal
 
 pub root-requires-clause-numbers : goal.root-requires-clause-numbers
 root-requires-clause-numbers c =
-    c.requires.given ∙ inputs_many c.args.compiled.now.program.items ∙ sym (ap (λ (x : TaskCode). x.inputs) c.code-code.ensures.code)
+    c.requires.given ∙ inputs_many c.args.compiled.now.program.items ∙ sym (ap (λ (x : TaskCode). x.inputs) c.decoded-code.ensures.code)
 
 pub run-requires-clause-fits : goal.run-requires-clause-fits
 run-requires-clause-fits c =
     let zero = c.in_ok-held.ensures ∙ ap (λ (q : CheckedProgram). all_held (zeros (sizes q.program.items))) c.checked-2.ensures in
-    fits (abstracted c.args.compiled.now.program) c.code-code.result.now c.args.numbers.now c.args.limit c.code-code.ensures.code c.keeps_rules.ensures
-    (c.code-code.ensures.follows c.args.limit) (c.requires.given ∙ inputs_many c.args.compiled.now.program.items)
+    fits (abstracted c.args.compiled.now.program) c.decoded-code.result.now c.args.numbers.now c.args.limit c.decoded-code.ensures.code c.keeps_rules.ensures
+    (c.decoded-code.ensures.follows c.args.limit) (c.requires.given ∙ inputs_many c.args.compiled.now.program.items)
     (record { waiting = c.new.result; level = c.in_ok-root.field-0 }) c.new.ensures.items c.in_ok-root.ensures (contents_of c.in_ok-held.held) zero
 
 pub cells_of-requires : goal.cells_of-requires
@@ -31,8 +31,8 @@ cells_of-requires c =
     let many = c.objects-objects.ensures ∙ ap (λ (q : CheckedProgram). length (sizes q.program.items)) c.checked.ensures in
     let end = c.in_ok-blame.ensures ∙ ap (λ o. ended o c.run.new.stack (contents_of c.run.new.held)) c.in-None.is in
     record {
-      held = (whole_holds (abstracted c.args.compiled.now.program) c.code-code.result.now c.args.numbers.now c.args.limit c.code-code.ensures.code
-          c.keeps_rules.ensures (c.code-code.ensures.follows c.args.limit) (c.requires.given ∙ inputs_many c.args.compiled.now.program.items)
+      held = (whole_holds (abstracted c.args.compiled.now.program) c.decoded-code.result.now c.args.numbers.now c.args.limit c.decoded-code.ensures.code
+          c.keeps_rules.ensures (c.decoded-code.ensures.follows c.args.limit) (c.requires.given ∙ inputs_many c.args.compiled.now.program.items)
           (record { waiting = c.new.result; level = c.in_ok-root.field-0 }) c.new.ensures.items c.in_ok-root.ensures (contents_of c.in_ok-held.held) zero
           (contents_of c.run.new.held) c.objects-objects.result many end).held;
     }
@@ -44,8 +44,8 @@ returns-in_ok-path_of-in-Some c =
     let end = c.in_ok-blame.ensures ∙ ap (λ o. ended o c.run.new.stack (contents_of c.run.new.held)) c.in-Some.is
     ∙ ap (λ vs. Fault (0 ∷ map (λ (v : Level). v.children) vs) b) (sym c.as_slice.ensures.value)
     ∙ ap (λ q. Fault q b) (sym c.in_ok-path_of-in-Some.ensures) in
-    fault_answered (abstracted c.args.compiled.now.program) c.code-code.result.now c.args.numbers.now c.args.limit c.code-code.ensures.code
-    c.keeps_rules.ensures (c.code-code.ensures.follows c.args.limit) (c.requires.given ∙ inputs_many c.args.compiled.now.program.items)
+    fault_answered (abstracted c.args.compiled.now.program) c.decoded-code.result.now c.args.numbers.now c.args.limit c.decoded-code.ensures.code
+    c.keeps_rules.ensures (c.decoded-code.ensures.follows c.args.limit) (c.requires.given ∙ inputs_many c.args.compiled.now.program.items)
     (record { waiting = c.new.result; level = c.in_ok-root.field-0 }) c.new.ensures.items c.in_ok-root.ensures (contents_of c.in_ok-held.held) zero
     (c.stopping_agrees.ensures (abstracted c.args.compiled.now.program) c.args.numbers.now c.args.limit) c.in_ok-path_of-in-Some.field-0 b end
 
@@ -55,8 +55,8 @@ returns-in_ok-cells_of-in-None c =
     let many = c.objects-objects.ensures ∙ ap (λ (q : CheckedProgram). length (sizes q.program.items)) c.checked.ensures in
     let end = c.in_ok-blame.ensures ∙ ap (λ o. ended o c.run.new.stack (contents_of c.run.new.held)) c.in-None.is in
     ap Cells c.in_ok-cells_of-in-None.ensures
-    ∙ whole_answered (abstracted c.args.compiled.now.program) c.code-code.result.now c.args.numbers.now c.args.limit c.code-code.ensures.code
-    c.keeps_rules.ensures (c.code-code.ensures.follows c.args.limit) (c.requires.given ∙ inputs_many c.args.compiled.now.program.items)
+    ∙ whole_answered (abstracted c.args.compiled.now.program) c.decoded-code.result.now c.args.numbers.now c.args.limit c.decoded-code.ensures.code
+    c.keeps_rules.ensures (c.decoded-code.ensures.follows c.args.limit) (c.requires.given ∙ inputs_many c.args.compiled.now.program.items)
     (record { waiting = c.new.result; level = c.in_ok-root.field-0 }) c.new.ensures.items c.in_ok-root.ensures (contents_of c.in_ok-held.held) zero
     (c.stopping_agrees.ensures (abstracted c.args.compiled.now.program) c.args.numbers.now c.args.limit) (contents_of c.run.new.held)
     c.objects-objects.result many end

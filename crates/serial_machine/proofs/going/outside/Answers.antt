@@ -8,14 +8,14 @@ use Rattle.serial_machine.proofs.going.outside.Goals as goal
 pub returns-then-covers_child : goal.returns-then-covers_child
 returns-then-covers_child c =
     let here = slice_get-get_or c.args.code.now c.args.frame.now.place _ c.requires.place ∙ ap Some (sym c.index-code-frame.is ∙ sym c.decoded.view_is
-        ∙ ap meant c.in-Create.is) in
+    ∙ ap meant c.in-Create.is) in
     outside_created c.args.code.now c.args.frame.now c.in-Create.number c.in-Create.pos here c.args.own.now c.begin_child.new.own
     c.in_ok-begin_child-in-Create.ensures.kept c.in_ok-begin_child-in-Create.ensures.made (sym c.if-covers_child.true ∙ c.covers_child.ensures)
 
 pub returns-else-covers_child : goal.returns-else-covers_child
 returns-else-covers_child c =
     let here = slice_get-get_or c.args.code.now c.args.frame.now.place _ c.requires.place ∙ ap Some (sym c.index-code-frame.is ∙ sym c.decoded.view_is
-        ∙ ap meant c.in-Create.is) in
+    ∙ ap meant c.in-Create.is) in
     outside_refused c.args.code.now c.args.frame.now c.in-Create.number c.in-Create.pos here c.args.own.now c.begin_child.new.own
     c.in_ok-begin_child-in-Create.ensures.kept c.in_ok-begin_child-in-Create.ensures.made (sym c.if-covers_child.false ∙ c.covers_child.ensures)
 
