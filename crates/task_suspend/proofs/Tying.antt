@@ -30,7 +30,7 @@ use Rattle.task_machine.specs.Asks.{Asking, BeginsAs, PlaysTo, Stays, Goes, stay
 use Rattle.task_machine.specs.Asks.{left_from, enters_from, shifts_from, leaves_from}
 use Rattle.task_machine.specs.Asks.{follows, number_of, created, changed}
 use Rattle.task_suspend.specs.Ties.{Tied, to_go}
-use Rattle.task_suspend.specs.steps.Ending.{ending}
+use Rattle.task_suspend.specs.Tries.{ending, place_of}
 use Rattle.task_suspend.proofs.Walking.{next_is, moved_on, child_is, child_to_do}
 use Rattle.task_suspend.proofs.Touching.{Comes as ComesTo, comes_on, passed_kept, passed_done}
 
@@ -49,6 +49,14 @@ pub ends_so : (fault : Option Blame) (m : Machine) (n : ℕ) (vs : List ℤ)
 ends_so None m n vs = refl
 ends_so (Some b) m n vs = refl
 
+-- the event by which an entry follows new rights is one at its object
+pub follows_at : (roll o : ℕ) (r : Rights) → o ≡ place_of roll (follows o r)
+follows_at roll o r = at (has_rights r)
+  where
+    at : (b : Bool) → o ≡ place_of roll (if b then Shift o r else Leave o)
+    at true = refl
+    at false = refl
+
 -- where a pass comes to by so many touches: to what is left then, with what is held then
 record Reaches (p : Pass) (b : Asking) : Type 0 where
   pub touches : all_touches b.touched p.shows ≡ true
@@ -62,6 +70,10 @@ module _ (mark : TableId) (plan : RunPlan) (p : Pass) (a : Asking) (from events 
 
   next_of : (e : Event) (es : List Event) → to_go p.shows.seat.walker [] ≡ e ∷ es → Next e p.shows
   next_of e es h = record { live = t.live; born = t.born; first = next_is p.shows.seat.walker e es h }
+
+  -- the roll's place
+  pub roll_at : (own : RunPlan) → own ≡ plan → count_of own ≡ count_of p.shows.key
+  roll_at own e = ap count_of (e ∙ sym t.run)
 
   -- an object that is there is one of the plan
   pub inside : (o : ℕ) → o < a.at.execution.stage.objects → o < count_of plan
@@ -315,13 +327,14 @@ module _ (mark : TableId) (plan : RunPlan) (p : Pass) (a : Asking) (from events 
       follow_left vs = left_is (Some ask.Change) asks vs ∙ ap (λ es. es ++ left (changed a.at) vs) next
           ∙ ap (λ z. follows o r ∷ left_from (o + 1) z a.at vs) (sym asks)
 
+      pub follow_next : Next (follows o r) p.shows
+      follow_next = next_of (follows o r) (left_from (o + 1) a.ask a.at []) (follow_left [])
+
       pub shift_next : has_rights r ≡ true → Next (Shift o r) p.shows
-      shift_next some = next_of (Shift o r) (left_from (o + 1) a.ask a.at [])
-          (follow_left [] ∙ ap (λ b. (if b then Shift o r else Leave o) ∷ left_from (o + 1) a.ask a.at []) some)
+      shift_next some = let P : Bool → Type 0 = λ b. Next (if b then Shift o r else Leave o) p.shows in subst P some follow_next
 
       pub leave_next : has_rights r ≡ false → Next (Leave o) p.shows
-      leave_next absent = next_of (Leave o) (left_from (o + 1) a.ask a.at [])
-          (follow_left [] ∙ ap (λ b. (if b then Shift o r else Leave o) ∷ left_from (o + 1) a.ask a.at []) absent)
+      leave_next absent = let P : Bool → Type 0 = λ b. Next (if b then Shift o r else Leave o) p.shows in subst P absent follow_next
 
       pub followed : (q : Pass) → q.mark ≡ p.mark → Did o p.shows.held p.shows q.shows → Tied mark plan q a (o + 1) (events + 1)
       followed q same d = did_so q a (o + 1) (follows o r) o p.shows.held same d refl follow_left t.held
