@@ -32,7 +32,8 @@ use Rattle.task_machine.specs.Asks.{follows, number_of, created, changed}
 use Rattle.task_suspend.specs.Ties.{Tied, to_go}
 use Rattle.task_suspend.specs.Tries.{ending, place_of}
 use Rattle.task_suspend.proofs.Walking.{next_is, moved_on, child_is, child_to_do}
-use Rattle.task_suspend.proofs.Touching.{Comes as ComesTo, comes_on, passed_kept, passed_done}
+use Rattle.object_table.proofs.Touching.{passed_same}
+use Rattle.task_suspend.proofs.Touching.{Comes as ComesTo, comes_on, passed_done}
 
 -- what is left while an ask stands is what is left
 left_stands : (y : Ask) (b : Asking) → Stands y b → (vs : List ℤ) → left b.at vs ≡ left_from 0 (Some y) b.at vs
@@ -107,13 +108,13 @@ module _ (mark : TableId) (plan : RunPlan) (p : Pass) (a : Asking) (from events 
       → q.shows ≡ passed b.touched p.shows → Tied mark plan q b 0 (events + b.touched)
   advanced b y q none g asks stands same is =
       let r = reaches b none g in
-      let k = passed_kept b.touched p.shows in
+      let k = passed_same b.touched p.shows in
       record {
         table = same ∙ t.table;
         run = ap (λ (v : View). v.key) is ∙ k.key ∙ t.run;
         objects = g.objects ∙ t.objects;
         live = ap (λ (v : View). v.live) is ∙ k.live ∙ t.live;
-        born = ap (λ (v : View). v.unborn) is ∙ k.born ∙ t.born;
+        born = ap (λ (v : View). v.unborn) is ∙ k.unborn ∙ t.born;
         left = λ vs. ap (λ (v : View). to_go v.seat.walker vs) is ∙ r.tells vs ∙ left_stands y b stands vs ∙ ap (λ z. left_from 0 z b.at vs) (sym asks);
         held = λ o. ap (λ (v : View). held_at o v.held) is ∙ r.held o;
         done = ap (λ (v : View). v.seat.walker.done) is ∙ passed_done b.touched p.shows r.touches ∙ ap (λ n. n + b.touched) t.done;
