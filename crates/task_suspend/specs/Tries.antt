@@ -90,8 +90,8 @@ pub record Further (o : ℕ) (a b : Carried) : Type 0 where
 -- No ask stood: the machine is at its next ask, and the pass has gone past the cells that were touched on the way.
 pub record Advances (a b : Carried) : Type 0 where
   pub idle : a.machine.ask ≡ None
-  pub ask : Ask
-  pub asks : b.machine.ask ≡ Some ask
+  pub next : Ask
+  pub asks : b.machine.ask ≡ Some next
   pub goes : GoesTo a.machine b.machine
   pub count : b.machine.asks ≡ (a.machine.asks + 1) % 2 ^ 64
   pub children : b.machine.children ≡ a.machine.children
@@ -181,8 +181,8 @@ pub record Resigns (a : Carried) (p : Pass) : Type 0 where
 
 -- An event of the ask comes next, and this try read at its place that the word is taken: nothing is done.
 pub record FindsTaken (a b : Carried) : Type 0 where
-  pub ask : Ask
-  pub asked : a.machine.ask ≡ Some ask
+  pub wanted : Ask
+  pub asked : a.machine.ask ≡ Some wanted
   pub event : Event
   pub next : Next event a.pass.shows
   pub read : b.pass.shows ≡ found_busy (place_of (roll_of a) event) a.pass.shows

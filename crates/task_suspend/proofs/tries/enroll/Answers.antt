@@ -108,7 +108,7 @@ returns-in-Busy g c =
     let child = child_task (number_of x.machine.at.phase) x.machine.at.execution in
     let found = enrolled_busy o x.pass.shows w c.in_ok-enroll.field-0 c.in-Busy.field-0 c.in-Busy.is c.in_ok-enroll.ensures.answer in
     record {
-      ask = ask.Create;
+      wanted = ask.Create;
       asked = c.requires.asked;
       event = Enroll child c.steps.result;
       next = enroll_next g.N.RunName.mark g.N.RunName.plan x.pass x.machine x.from x.events x.tied c.requires.asked c.requires.entered c.steps.result c.steps.ensures;

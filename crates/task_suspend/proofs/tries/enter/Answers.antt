@@ -65,7 +65,7 @@ returns-in-Busy g c =
     let q = c.enter.new.pass in
     let found = tried_busy c.args.object.0 x.pass.shows q.shows c.in_ok-enter.field-0 c.in-Busy.field-0 c.in-Busy.is c.in_ok-enter.ensures.answer in
     record {
-      ask = ask.Create;
+      wanted = ask.Create;
       asked = c.requires.asked;
       event = Enter c.args.object.0 c.args.rights;
       next = enter_next g.N.RunName.mark g.N.RunName.plan x.pass x.machine x.from x.events x.tied c.requires.asked c.args.object.0 c.args.rights c.requires.entry;

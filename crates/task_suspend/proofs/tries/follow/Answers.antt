@@ -79,7 +79,7 @@ returns-in-Busy g c =
     let o = c.args.object.0 in
     let found = tried_busy o x.pass.shows q.shows c.try_follow.result c.in-Busy.field-0 c.in-Busy.is c.try_follow.ensures.answer in
     record {
-      ask = ask.Change;
+      wanted = ask.Change;
       asked = c.requires.asked;
       event = follows o c.args.rights;
       next = follow_next g.N.RunName.mark g.N.RunName.plan x.pass x.machine x.from x.events x.tied c.requires.asked o c.args.rights c.requires.change;

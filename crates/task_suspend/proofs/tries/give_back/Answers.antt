@@ -95,7 +95,7 @@ returns-in-Err g c =
     let P : Held → Type 0 = λ h. IsSurrendered c.args.object h x.machine c.surrender-content.new.self in
     let before = c.restore.ensures x.machine (subst P (sym c.in-Err.ensures.busy.0) c.surrender-content.ensures.given) in
     record {
-      ask = ask.GiveBack c.args.object;
+      wanted = ask.GiveBack c.args.object;
       asked = c.requires.asked;
       event = Give c.args.object.0;
       next = give_next g.N.RunName.mark g.N.RunName.plan x.pass x.machine x.from x.events x.tied c.args.object c.requires.asked

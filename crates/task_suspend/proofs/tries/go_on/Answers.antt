@@ -38,7 +38,7 @@ returns g c =
     let touches = subst P (sym sum) (comes g.N.RunName.mark g.N.RunName.plan x.pass x.machine x.from x.events x.tied b c.requires c.in_ok-_ask.ensures.goes) in
     advances (record {
       idle = c.requires;
-      ask = c.in_ok-_ask._ask;
+      next = c.in_ok-_ask._ask;
       asks = c.in_ok-_ask.ensures.asks;
       goes = c.in_ok-_ask.ensures.goes;
       count = c.in_ok-_ask.ensures.count;

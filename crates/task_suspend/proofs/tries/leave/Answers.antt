@@ -72,7 +72,7 @@ returns-in-Busy g c =
     let q = c.leave.new.pass in
     let found = tried_busy c.args.object.0 x.pass.shows q.shows c.leave.result c.in-Busy.field-0 c.in-Busy.is c.leave.ensures.answer in
     record {
-      ask = ending c.args.blame;
+      wanted = ending c.args.blame;
       asked = c.requires.asked;
       event = Leave c.args.object.0;
       next = last_next g.N.RunName.mark g.N.RunName.plan x.pass x.machine x.from x.events x.tied c.args.blame (Some (ending c.args.blame)) c.requires.asked

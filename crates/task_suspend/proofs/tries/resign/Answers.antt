@@ -63,7 +63,7 @@ returns-in-Busy g c =
     let n = c.in-Busy.field-0 in
     let found = resigned_busy o x.pass.shows q.shows c.resign.result c.args.blame c.steps.result n c.in-Busy.is c.resign.ensures.answer in
     record {
-      ask = ending c.args.blame;
+      wanted = ending c.args.blame;
       asked = c.requires.asked;
       event = Resign c.args.blame c.steps.result;
       next = resign_next g.N.RunName.mark g.N.RunName.plan x.pass x.machine x.from x.events x.tied c.args.blame (Some (ending c.args.blame)) c.requires.asked

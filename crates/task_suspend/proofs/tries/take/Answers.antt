@@ -9,7 +9,7 @@ use Rattle.task_suspend.proofs.Tying.{take_inside, take_next, supply_asks, took,
 use Rattle.jade_base.specs.declared.place.ObjectId.{ObjectId}
 use Rattle.jade_meaning.specs.Talk.{Take}
 use Rattle.object_table.specs.Calls.{IsBusy}
-use Rattle.task_suspend.specs.Tries.{carried, takes, Waits}
+use Rattle.task_suspend.specs.Tries.{Carried, carried, takes, Waits}
 use Rattle.task_suspend.proofs.tries.take.Goals as goal
 
 pub take-requires-clause-declared : goal.take-requires-clause-declared
@@ -96,7 +96,7 @@ returns-in-NotYet g c =
     let x = c.args.capsule in
     let q = c.take.new.pass in
     let P : Taken → Type 0 = λ r. TakenAs c.args.object.0 c.args.mode x.pass.shows (Ok r) q.shows in
-    let a = carried x in
+    let a : Carried = carried x in
     let W : ObjectId → Type 0 = λ o. Waits o a (record { pass = q; machine = x.machine; from = x.from; events = x.events; gate = x.passed }) in
     subst W (sym c.place.ensures) (record {
       mode = c.args.mode;
@@ -113,7 +113,7 @@ returns-in-Busy g c =
     let P : Taken → Type 0 = λ r. TakenAs c.args.object.0 c.args.mode x.pass.shows (Ok r) q.shows in
     let busy_so : IsBusy c.in-Busy.field-0 c.args.object.0 x.pass.shows q.shows = subst P c.in-Busy.is c.in_ok-content.ensures.answer in
     record {
-      ask = ask.Take c.args.object c.args.mode;
+      wanted = ask.Take c.args.object c.args.mode;
       asked = c.requires.asked;
       event = Take c.args.object.0 c.args.mode;
       next = take_next g.N.RunName.mark g.N.RunName.plan x.pass x.machine x.from x.events x.tied c.args.object c.args.mode c.requires.asked
