@@ -73,18 +73,29 @@ fn place<N: RunName>(object: ObjectId) -> Place<N>
 }
 
 // No ask stands: the task goes on to the next one, past the cells that it touches on the way.
-fn go_on<'c, N: RunName>(alloc: Global, mut capsule: Capsule<'c, N>) -> Result<Went<'c, N>, Memory>
+fn go_on<'c, N: RunName>(alloc: Global, capsule: Capsule<'c, N>) -> Result<Went<'c, N>, Memory>
     requires { capsule.machine.ask ≡ None }
     ensures { IfOk result (λ went. WentAs capsule.entry went) }
 {
-    let _ask = capsule.machine.advance(alloc)?;
-    capsule.machine.stands();
-    let done = more(capsule.events, capsule.machine.touched())?;
-    capsule.pass.pass_on(done);
-    capsule.from = 0;
-    capsule.events = done;
-    capsule.passed = false;
-    Ok(Went::Ready(capsule))
+    let Capsule {
+        mut pass,
+        mut machine,
+        events,
+        name,
+        ..
+    } = capsule;
+    let _ask = machine.advance(alloc)?;
+    machine.stands();
+    let done = more(events, machine.touched())?;
+    pass.pass_on(done);
+    Ok(Went::Ready(Capsule {
+        pass,
+        machine,
+        from: 0,
+        events: done,
+        passed: false,
+        name,
+    }))
 }
 
 // A content is asked for.

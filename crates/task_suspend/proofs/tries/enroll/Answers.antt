@@ -17,7 +17,7 @@ pub enroll-requires-clause-next : goal.enroll-requires-clause-next
 enroll-requires-clause-next g c =
     let x = c.args.capsule in (
       child_task (number_of x.machine.at.phase) x.machine.at.execution,
-      enroll_next g.N.RunName.mark g.N.RunName.plan x.pass x.machine x.from x.events x.tied c.requires.asked c.requires.entered c.steps.result c.steps.ensures,
+      enroll_next g.N.RunName.mark g.N.RunName.plan x.pass x.machine x.from x.events x.tied c.requires.asked c.requires.entered c.steps-steps.result c.steps-steps.ensures,
     )
 
 pub split-requires-clause-mark : goal.split-requires-clause-mark
@@ -79,8 +79,8 @@ invariant_of-capsule-in-Busy g c =
           (enrolled_busy o x.pass.shows q.shows c.in_ok-enroll.field-0 n c.in-Busy.is c.in_ok-enroll.ensures.answer);
     }
 
-pub returns-in-Done : goal.returns-in-Done
-returns-in-Done g c =
+pub returns-in_ok-theirs-in-Done : goal.returns-in_ok-theirs-in-Done
+returns-in_ok-theirs-in-Done g c =
     let x = c.args.capsule in
     let w = c.enroll.new.pass.shows in
     let o = count_of c.args.table.now.plan in
@@ -110,8 +110,8 @@ returns-in-Busy g c =
     record {
       wanted = ask.Create;
       asked = c.requires.asked;
-      event = Enroll child c.steps.result;
-      next = enroll_next g.N.RunName.mark g.N.RunName.plan x.pass x.machine x.from x.events x.tied c.requires.asked c.requires.entered c.steps.result c.steps.ensures;
+      event = Enroll child c.steps-steps.result;
+      next = enroll_next g.N.RunName.mark g.N.RunName.plan x.pass x.machine x.from x.events x.tied c.requires.asked c.requires.entered c.steps-steps.result c.steps-steps.ensures;
       read = found.after ∙ ap (λ n. found_busy n x.pass.shows) (roll_at g.N.RunName.mark g.N.RunName.plan x.pass x.machine x.from x.events x.tied c.args.table.now.plan c.requires.table.1);
       unmoved = record { machine = refl; from = refl; events = refl; gate = refl };
     }

@@ -13,8 +13,8 @@ pass_on-requires g c =
     let P : ℕ → Type 0 = λ n. Comes b.touched n x.pass.shows in
     (b.touched, subst P (sym sum) (comes g.N.RunName.mark g.N.RunName.plan x.pass x.machine x.from x.events x.tied b c.requires c.in_ok-_ask.ensures.goes))
 
-pub invariant_of-capsule : goal.invariant_of-capsule
-invariant_of-capsule g c =
+pub invariant_of-result : goal.invariant_of-result
+invariant_of-result g c =
     let x = c.args.capsule in
     let b = c.advance.new.self in
     let q = c.pass_on.new.self in
