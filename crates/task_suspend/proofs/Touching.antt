@@ -39,8 +39,7 @@ use Rattle.jade_meaning.specs.Specification.{Specification, rights_on}
 use Rattle.jade_meaning.specs.Course.{Course, Reads, Writes, Steps, Creates, Changes, Ends}
 use Rattle.jade_meaning.specs.Talk.{Event, Enter, Enroll, Take, TouchRead, TouchWrite, Wants, Give, Leave, Shift, Resign, Holds, held, take_in, first_take}
 use Rattle.jade_meaning.specs.Talk.{touched as touched_holds, events}
-use Rattle.jade_meaning.specs.Walks.{Walk}
-use Rattle.jade_meaning.specs.Walk.{upcoming, moved}
+use Rattle.jade_meaning.specs.Walk.{upcoming}
 use Rattle.object_shelf.specs.Whole.{with_cell as content_with}
 use Rattle.object_shelf.specs.Shelves.{value_in}
 use Rattle.schedule_core.specs.Plain.{seat_after}

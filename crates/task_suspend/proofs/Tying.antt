@@ -1,6 +1,6 @@
 -- What each step of a task leaves of the tie between its pass and its machine.
-use Rattle.std.proofs.Common.{◌≡◌, ℕ, suc, ◌+◌, ◌<◌, arith, List, [], ◌∷◌, ◌++◌, length, Bool, true, false, Option, None, Some, refl, sym, ap, ap₂, ◌∙◌, subst}
-use Rattle.std.specs.Prelude.{ℤ, nat_eq, if◌then◌else◌}
+use Rattle.std.proofs.Common.{◌≡◌, ℕ, suc, ◌+◌, ◌<◌, arith, List, [], ◌∷◌, ◌++◌, Bool, true, false, Option, None, Some, refl, sym, ap, ◌∙◌, subst}
+use Rattle.std.specs.Prelude.{ℤ, if◌then◌else◌}
 use Rattle.std.proofs.lemmas.Bool.{cases_eq, eq-eqb, ne_eqb}
 use Rattle.std.proofs.Common.{◌⊎◌, inl, inr}
 use Rattle.atomic_table.specs.Seated.{TableId}
@@ -11,29 +11,27 @@ use Rattle.jade_base.specs.declared.report.Blame.{Blame}
 use Rattle.jade_base.specs.Rights.{has_rights}
 use Rattle.jade_base.specs.Held.{Held}
 use Rattle.jade_meaning.specs.Plan.{RunPlan}
-use Rattle.jade_meaning.specs.Talk.{Event, Enter, Enroll, Take, Give, Leave, Shift, Resign, Task, talk}
-use Rattle.jade_meaning.specs.Walk.{moved}
+use Rattle.jade_meaning.specs.Talk.{Event, Enter, Enroll, Take, Give, Leave, Shift, Resign}
 use Rattle.schedule_core.specs.declared.steps.Seat.{Seat}
 use Rattle.schedule_core.specs.Plain.{seat_after}
 use Rattle.object_table.specs.Views.{View, count_of}
 use Rattle.object_table.specs.Touches.{held_at, put_held, all_touches, passed}
 use Rattle.object_table.specs.Plays.{without_kid, kid_view}
-use Rattle.object_table.specs.Calls.{Pass, Next, Took, KeptBy, IsBusy, AsBefore, Did, Bore, Ended, IsGone, Comes}
+use Rattle.object_table.specs.Calls.{Pass, Next, Took, KeptBy, IsBusy, Did, Bore, Ended, IsGone, Comes}
 use Rattle.object_table.proofs.Lists.{held_here, held_else}
 use Rattle.task_machine.specs.declared.machine.Ask.{Ask}
 use Rattle.task_machine.specs.declared.machine.Ask.TheVariants as ask
-use Rattle.task_machine.specs.Playing.{played, touches}
 use Rattle.task_machine.specs.Stages.{rights_at}
 use Rattle.task_machine.specs.Executions.{held_by}
 use Rattle.task_machine.specs.Machines.{Machine, left, made_at, amended_at, steps_at, child_task, supplied, surrendered}
-use Rattle.task_machine.specs.Asks.{Asking, BeginsAs, PlaysTo, Stays, Goes, stays, plays, GoesTo, Stands, HeldWith}
+use Rattle.task_machine.specs.Asks.{Asking, BeginsAs, Goes, stays, plays, GoesTo, Stands, HeldWith}
 use Rattle.task_machine.specs.Asks.{left_from, enters_from, shifts_from, leaves_from}
 use Rattle.task_machine.specs.Asks.{follows, number_of, created, changed}
 use Rattle.task_suspend.specs.Ties.{Tied, to_go}
 use Rattle.task_suspend.specs.Tries.{ending, place_of}
 use Rattle.task_suspend.proofs.Walking.{next_is, moved_on, child_is, child_to_do}
 use Rattle.object_table.proofs.Touching.{passed_same}
-use Rattle.task_suspend.proofs.Touching.{Comes as ComesTo, comes_on, passed_done}
+use Rattle.task_suspend.proofs.Touching.{comes_on, passed_done}
 
 -- what is left while an ask stands is what is left
 left_stands : (y : Ask) (b : Asking) → Stands y b → (vs : List ℤ) → left b.at vs ≡ left_from 0 (Some y) b.at vs

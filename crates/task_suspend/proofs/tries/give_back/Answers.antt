@@ -1,4 +1,4 @@
-use Rattle.std.proofs.Common.{◌≡◌, ℕ, ◌<◌, ◌∙◌, refl, sym, subst}
+use Rattle.std.proofs.Common.{ℕ, ◌<◌, ◌∙◌, refl, sym, subst}
 use Rattle.jade_meaning.specs.Plan.{RunPlan}
 use Rattle.jade_base.specs.Held.{Held}
 use Rattle.object_table.specs.Views.{count_of}

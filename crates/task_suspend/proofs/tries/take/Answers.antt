@@ -1,4 +1,4 @@
-use Rattle.std.proofs.Common.{ℕ, ◌<◌, Ok, Some, ◌∙◌, refl, sym, subst}
+use Rattle.std.proofs.Common.{ℕ, ◌<◌, Ok, ◌∙◌, refl, sym, subst}
 use Rattle.jade_meaning.specs.Plan.{RunPlan}
 use Rattle.object_table.specs.Views.{count_of}
 use Rattle.object_table.specs.Calls.{TakenAs}
