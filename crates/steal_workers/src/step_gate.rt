@@ -1,7 +1,8 @@
 //! A gate that holds tasks back, for tests of schedules.
 
-ghost use Rattle.std.specs.Prelude.{◌≡◌, ◌≤◌, ◌<◌, ◌&&◌, ◌^◌, nat_eq, length, vec_len, IfOk, slice_get, Some};
+ghost use Rattle.std.specs.Prelude.{◌≡◌, ◌≤◌, ◌<◌, ◌&&◌, ◌^◌, nat_eq, length, vec_len, IfOk, slice_get, Some, count_by};
 ghost use Rattle.jade_base.specs.Places.{same_path};
+ghost use Rattle.steal_workers.specs.Holds.{holds_back};
 
 use crate::gate::Gate;
 use jade_base::{Memory, Path};
@@ -32,7 +33,7 @@ pub type HoldList = Sequence<Hold>;
 impl Hold {
     // Whether it holds this task back at this ask.
     fn holds(&self, path: &Path, ask: u64) -> bool
-        ensures { result ≡ same_path self.now.path path.now && nat_eq self.now.ask ask }
+        ensures { result ≡ holds_back path.now ask self.now }
     {
         self.path.is_same(path) && self.ask == ask
     }
@@ -117,21 +118,33 @@ impl StepGate {
 
     /// The task of this path is at its ask of this number: the holds that end with it end, and then
     /// those that hold it back are waited for, one after another, each for at most the number of looks.
-    /// It takes no memory.
+    /// It takes no memory. No clause tells what it did: the marks and the count of what was given up
+    /// are words that other threads change at any time.
     pub fn hold(&self, path: &Path, ask: u64) {
         for i in 0..self.holds.len() {
             if self.holds.at(i).ends(path, ask) {
                 self.ended[i].store(true, Ordering::SeqCst);
             }
         }
-        for i in 0..self.holds.len() {
-            if self.holds.at(i).holds(path, ask) && !is_seen_set(&self.ended[i], self.turns) {
-                self.missed.fetch_add(1, Ordering::SeqCst);
-            }
-        }
+        self.missed
+            .fetch_add(self.give_up(path, ask), Ordering::SeqCst);
     }
 
-    /// How many holds were given up, modulo 2^64. It takes no memory.
+    // Waits for the holds that hold this task back at this ask; how many of these it gave up.
+    fn give_up(&self, path: &Path, ask: u64) -> u64
+        ensures { result ≤ count_by (holds_back path.now ask) self.now.holds }
+    {
+        let mut count = 0;
+        'looks: for i in 0..self.holds.len() {
+            if self.holds.at(i).holds(path, ask) && !is_seen_set(&self.ended[i], self.turns) {
+                count += 1;
+            }
+        }
+        count
+    }
+
+    /// How many holds were given up, modulo 2^64: the sum of what the calls of `hold` gave up so far. It
+    /// takes no memory.
     pub fn missed(&self) -> u64 {
         self.missed.load(Ordering::SeqCst)
     }

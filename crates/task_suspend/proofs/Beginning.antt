@@ -1,5 +1,5 @@
 -- The root's pass and machine at the begin of a run.
-use Rattle.std.proofs.Common.{◌≡◌, ℕ, List, length, refl, sym, ap, ◌∙◌}
+use Rattle.std.proofs.Common.{◌≡◌, ℕ, List, length, sym, ap, ◌∙◌}
 use Rattle.std.specs.Prelude.{ℤ, replicate}
 use Rattle.atomic_table.specs.Seated.{TableId}
 use Rattle.jade_base.specs.Rights.{both_rights}
@@ -19,7 +19,6 @@ use Rattle.object_table.specs.Views.{View, count_of}
 use Rattle.object_table.specs.Touches.{held_at}
 use Rattle.object_table.specs.Rule.{first_view}
 use Rattle.object_table.specs.Calls.{Pass}
-use Rattle.task_machine.specs.Machines.{left}
 use Rattle.task_machine.specs.Asks.{Asking, BeginsAs, left_from}
 use Rattle.task_suspend.specs.Ties.{Tied, to_go}
 

@@ -39,14 +39,14 @@ use Rattle.jade_meaning.specs.Specification.{Specification, rights_on}
 use Rattle.jade_meaning.specs.Course.{Course, Reads, Writes, Steps, Creates, Changes, Ends}
 use Rattle.jade_meaning.specs.Talk.{Event, Enter, Enroll, Take, TouchRead, TouchWrite, Wants, Give, Leave, Shift, Resign, Holds, held, take_in, first_take}
 use Rattle.jade_meaning.specs.Talk.{touched as touched_holds, events}
-use Rattle.jade_meaning.specs.Walks.{Walk}
-use Rattle.jade_meaning.specs.Walk.{upcoming, moved}
+use Rattle.jade_meaning.specs.Walk.{upcoming}
 use Rattle.object_shelf.specs.Whole.{with_cell as content_with}
 use Rattle.object_shelf.specs.Shelves.{value_in}
 use Rattle.schedule_core.specs.Plain.{seat_after}
 use Rattle.object_table.specs.Views.{View}
 use Rattle.object_table.specs.Touches.{held_at, put_held, cells_of, touches_first, touched_first, touched, touch_next, passed, all_touches}
 use Rattle.object_table.proofs.Lists.{held_here, held_else}
+use Rattle.object_table.proofs.Touching.{and_left, and_right}
 use Rattle.task_machine.specs.Playing.{Contents, Played, with_cell, put_in, where_held, writable, for_writing, cell_of, counted, played, touches}
 use Rattle.task_machine.specs.Telling.{Agrees}
 use Rattle.task_suspend.specs.Ties.{to_go}
@@ -54,14 +54,6 @@ use Rattle.task_suspend.proofs.Walking.{upcoming_is, moved_on, answered}
 
 both : (a b : Bool) → a ≡ true → b ≡ true → a && b ≡ true
 both a b e f = ap (λ x. x && b) e ∙ f
-
-and_left : (a b : Bool) → a && b ≡ true → a ≡ true
-and_left true b e = refl
-and_left false b e = e
-
-and_right : (a b : Bool) → a && b ≡ true → b ≡ true
-and_right true b e = e
-and_right false b e = absurd (cc)
 
 -- one touch at the front
 passed_first : (t : ℕ) (v : View) → passed (suc t) v ≡ passed t (touched v)
@@ -74,32 +66,6 @@ all_first (suc t) v e h =
     both (all_touches (suc t) v) (touch_next (passed (suc t) v))
     (all_first t v e (and_left (all_touches t (touched v)) (touch_next (passed t (touched v))) h))
     (ap touch_next (passed_first t v) ∙ and_right (all_touches t (touched v)) (touch_next (passed t (touched v))) h)
-
--- what touches leave as it is
-pub record Kept (v w : View) : Type 0 where
-  pub key : w.key ≡ v.key
-  pub live : w.live ≡ v.live
-  pub born : w.unborn ≡ v.unborn
-
-first_kept : (l : List Event) (v : View) → Kept v (touched_first l v)
-first_kept [] v = record { key = refl; live = refl; born = refl }
-first_kept (Wants o c ∷ es) v = record { key = refl; live = refl; born = refl }
-first_kept (TouchWrite o c x ∷ es) v = record { key = refl; live = refl; born = refl }
-first_kept (TouchRead o c x ∷ es) v = record { key = refl; live = refl; born = refl }
-first_kept (Enter o a ∷ es) v = record { key = refl; live = refl; born = refl }
-first_kept (Enroll t m ∷ es) v = record { key = refl; live = refl; born = refl }
-first_kept (Take o m ∷ es) v = record { key = refl; live = refl; born = refl }
-first_kept (Give o ∷ es) v = record { key = refl; live = refl; born = refl }
-first_kept (Leave o ∷ es) v = record { key = refl; live = refl; born = refl }
-first_kept (Shift o a ∷ es) v = record { key = refl; live = refl; born = refl }
-first_kept (Resign b m ∷ es) v = record { key = refl; live = refl; born = refl }
-
-pub passed_kept : (t : ℕ) (v : View) → Kept v (passed t v)
-passed_kept zero v = record { key = refl; live = refl; born = refl }
-passed_kept (suc t) v =
-    let a = passed_kept t v in
-    let b = first_kept (upcoming (passed t v).seat.walker) (passed t v) in
-    record { key = b.key ∙ a.key; live = b.live ∙ a.live; born = b.born ∙ a.born }
 
 touch_done : (l : List Event) (v : View) → touches_first l ≡ true → (touched_first l v).seat.walker.done ≡ suc v.seat.walker.done
 touch_done [] v e = absurd (cc)

@@ -1,6 +1,6 @@
 -- What each step of a task leaves of the tie between its pass and its machine.
-use Rattle.std.proofs.Common.{◌≡◌, ℕ, suc, ◌+◌, ◌<◌, arith, List, [], ◌∷◌, ◌++◌, length, Bool, true, false, Option, None, Some, refl, sym, ap, ap₂, ◌∙◌, subst}
-use Rattle.std.specs.Prelude.{ℤ, nat_eq, if◌then◌else◌}
+use Rattle.std.proofs.Common.{◌≡◌, ℕ, suc, ◌+◌, ◌<◌, arith, List, [], ◌∷◌, ◌++◌, Bool, true, false, Option, None, Some, refl, sym, ap, ◌∙◌, subst}
+use Rattle.std.specs.Prelude.{ℤ, if◌then◌else◌}
 use Rattle.std.proofs.lemmas.Bool.{cases_eq, eq-eqb, ne_eqb}
 use Rattle.std.proofs.Common.{◌⊎◌, inl, inr}
 use Rattle.atomic_table.specs.Seated.{TableId}
@@ -11,28 +11,27 @@ use Rattle.jade_base.specs.declared.report.Blame.{Blame}
 use Rattle.jade_base.specs.Rights.{has_rights}
 use Rattle.jade_base.specs.Held.{Held}
 use Rattle.jade_meaning.specs.Plan.{RunPlan}
-use Rattle.jade_meaning.specs.Talk.{Event, Enter, Enroll, Take, Give, Leave, Shift, Resign, Task, talk}
-use Rattle.jade_meaning.specs.Walk.{moved}
+use Rattle.jade_meaning.specs.Talk.{Event, Enter, Enroll, Take, Give, Leave, Shift, Resign}
 use Rattle.schedule_core.specs.declared.steps.Seat.{Seat}
 use Rattle.schedule_core.specs.Plain.{seat_after}
 use Rattle.object_table.specs.Views.{View, count_of}
 use Rattle.object_table.specs.Touches.{held_at, put_held, all_touches, passed}
 use Rattle.object_table.specs.Plays.{without_kid, kid_view}
-use Rattle.object_table.specs.Calls.{Pass, Next, Took, KeptBy, IsBusy, AsBefore, Did, Bore, Ended, IsGone, Comes}
+use Rattle.object_table.specs.Calls.{Pass, Next, Took, KeptBy, IsBusy, Did, Bore, Ended, IsGone, Comes}
 use Rattle.object_table.proofs.Lists.{held_here, held_else}
 use Rattle.task_machine.specs.declared.machine.Ask.{Ask}
 use Rattle.task_machine.specs.declared.machine.Ask.TheVariants as ask
-use Rattle.task_machine.specs.Playing.{played, touches}
 use Rattle.task_machine.specs.Stages.{rights_at}
 use Rattle.task_machine.specs.Executions.{held_by}
 use Rattle.task_machine.specs.Machines.{Machine, left, made_at, amended_at, steps_at, child_task, supplied, surrendered}
-use Rattle.task_machine.specs.Asks.{Asking, BeginsAs, PlaysTo, Stays, Goes, stays, plays, GoesTo, Stands, HeldWith}
+use Rattle.task_machine.specs.Asks.{Asking, BeginsAs, Goes, stays, plays, GoesTo, Stands, HeldWith}
 use Rattle.task_machine.specs.Asks.{left_from, enters_from, shifts_from, leaves_from}
 use Rattle.task_machine.specs.Asks.{follows, number_of, created, changed}
 use Rattle.task_suspend.specs.Ties.{Tied, to_go}
-use Rattle.task_suspend.specs.steps.Ending.{ending}
+use Rattle.task_suspend.specs.Tries.{ending, place_of}
 use Rattle.task_suspend.proofs.Walking.{next_is, moved_on, child_is, child_to_do}
-use Rattle.task_suspend.proofs.Touching.{Comes as ComesTo, comes_on, passed_kept, passed_done}
+use Rattle.object_table.proofs.Touching.{passed_same}
+use Rattle.task_suspend.proofs.Touching.{comes_on, passed_done}
 
 -- what is left while an ask stands is what is left
 left_stands : (y : Ask) (b : Asking) → Stands y b → (vs : List ℤ) → left b.at vs ≡ left_from 0 (Some y) b.at vs
@@ -49,6 +48,14 @@ pub ends_so : (fault : Option Blame) (m : Machine) (n : ℕ) (vs : List ℤ)
 ends_so None m n vs = refl
 ends_so (Some b) m n vs = refl
 
+-- the event by which an entry follows new rights is one at its object
+pub follows_at : (roll o : ℕ) (r : Rights) → o ≡ place_of roll (follows o r)
+follows_at roll o r = at (has_rights r)
+  where
+    at : (b : Bool) → o ≡ place_of roll (if b then Shift o r else Leave o)
+    at true = refl
+    at false = refl
+
 -- where a pass comes to by so many touches: to what is left then, with what is held then
 record Reaches (p : Pass) (b : Asking) : Type 0 where
   pub touches : all_touches b.touched p.shows ≡ true
@@ -62,6 +69,10 @@ module _ (mark : TableId) (plan : RunPlan) (p : Pass) (a : Asking) (from events 
 
   next_of : (e : Event) (es : List Event) → to_go p.shows.seat.walker [] ≡ e ∷ es → Next e p.shows
   next_of e es h = record { live = t.live; born = t.born; first = next_is p.shows.seat.walker e es h }
+
+  -- the roll's place
+  pub roll_at : (own : RunPlan) → own ≡ plan → count_of own ≡ count_of p.shows.key
+  roll_at own e = ap count_of (e ∙ sym t.run)
 
   -- an object that is there is one of the plan
   pub inside : (o : ℕ) → o < a.at.execution.stage.objects → o < count_of plan
@@ -95,13 +106,13 @@ module _ (mark : TableId) (plan : RunPlan) (p : Pass) (a : Asking) (from events 
       → q.shows ≡ passed b.touched p.shows → Tied mark plan q b 0 (events + b.touched)
   advanced b y q none g asks stands same is =
       let r = reaches b none g in
-      let k = passed_kept b.touched p.shows in
+      let k = passed_same b.touched p.shows in
       record {
         table = same ∙ t.table;
         run = ap (λ (v : View). v.key) is ∙ k.key ∙ t.run;
         objects = g.objects ∙ t.objects;
         live = ap (λ (v : View). v.live) is ∙ k.live ∙ t.live;
-        born = ap (λ (v : View). v.unborn) is ∙ k.born ∙ t.born;
+        born = ap (λ (v : View). v.unborn) is ∙ k.unborn ∙ t.born;
         left = λ vs. ap (λ (v : View). to_go v.seat.walker vs) is ∙ r.tells vs ∙ left_stands y b stands vs ∙ ap (λ z. left_from 0 z b.at vs) (sym asks);
         held = λ o. ap (λ (v : View). held_at o v.held) is ∙ r.held o;
         done = ap (λ (v : View). v.seat.walker.done) is ∙ passed_done b.touched p.shows r.touches ∙ ap (λ n. n + b.touched) t.done;
@@ -315,13 +326,14 @@ module _ (mark : TableId) (plan : RunPlan) (p : Pass) (a : Asking) (from events 
       follow_left vs = left_is (Some ask.Change) asks vs ∙ ap (λ es. es ++ left (changed a.at) vs) next
           ∙ ap (λ z. follows o r ∷ left_from (o + 1) z a.at vs) (sym asks)
 
+      pub follow_next : Next (follows o r) p.shows
+      follow_next = next_of (follows o r) (left_from (o + 1) a.ask a.at []) (follow_left [])
+
       pub shift_next : has_rights r ≡ true → Next (Shift o r) p.shows
-      shift_next some = next_of (Shift o r) (left_from (o + 1) a.ask a.at [])
-          (follow_left [] ∙ ap (λ b. (if b then Shift o r else Leave o) ∷ left_from (o + 1) a.ask a.at []) some)
+      shift_next some = let P : Bool → Type 0 = λ b. Next (if b then Shift o r else Leave o) p.shows in subst P some follow_next
 
       pub leave_next : has_rights r ≡ false → Next (Leave o) p.shows
-      leave_next absent = next_of (Leave o) (left_from (o + 1) a.ask a.at [])
-          (follow_left [] ∙ ap (λ b. (if b then Shift o r else Leave o) ∷ left_from (o + 1) a.ask a.at []) absent)
+      leave_next absent = let P : Bool → Type 0 = λ b. Next (if b then Shift o r else Leave o) p.shows in subst P absent follow_next
 
       pub followed : (q : Pass) → q.mark ≡ p.mark → Did o p.shows.held p.shows q.shows → Tied mark plan q a (o + 1) (events + 1)
       followed q same d = did_so q a (o + 1) (follows o r) o p.shows.held same d refl follow_left t.held

@@ -1,5 +1,5 @@
 -- A pass and a machine at the same ask of one task of one run.
-use Rattle.std.specs.Prelude.{◌≡◌, ℕ, true, List, ◌++◌, drop, Option, None, ℤ}
+use Rattle.std.specs.Prelude.{◌≡◌, ℕ, true, List, ◌++◌, drop, None, ℤ}
 use Rattle.atomic_table.specs.Seated.{TableId}
 use Rattle.jade_meaning.specs.Plan.{RunPlan}
 use Rattle.jade_meaning.specs.Talk.{Event, talk}

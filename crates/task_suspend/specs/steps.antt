@@ -1,3 +1,2 @@
 pub mod Sets
 pub mod Facts
-pub mod Ending

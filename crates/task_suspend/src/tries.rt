@@ -1,6 +1,6 @@
 //! One try at what a task asks for.
 
-ghost use Rattle.std.specs.Prelude.{◌<◌, ◌≡◌, ◌∷◌, ◌+◌, [], true, false, Some, None, IfOk};
+ghost use Rattle.std.specs.Prelude.{◌≡◌, ◌<◌, ◌∷◌, ◌+◌, [], true, false, Some, None, IfOk};
 ghost use Rattle.jade_base.specs.Rights.{has_rights};
 ghost use Rattle.jade_meaning.specs.Talk.{Enter, Shift, Leave};
 ghost use Rattle.object_table.specs.Views.{count_of};
@@ -8,7 +8,7 @@ ghost use Rattle.object_table.specs.Calls.{Next, TriedAs};
 ghost use Rattle.task_machine.specs.Stages.{rights_at};
 ghost use Rattle.task_machine.specs.Machines.{made_at, amended_at};
 ghost use Rattle.task_machine.specs.Asks.{enters_from, shifts_from, leaves_from, follows};
-ghost use Rattle.task_suspend.specs.steps.Ending.{ending};
+ghost use Rattle.task_suspend.specs.Tries.{WentAs, ending};
 
 use crate::capsule::Capsule;
 use crate::name::RunName;
@@ -20,15 +20,15 @@ use std::marker::PhantomData;
 use task_machine::Ask;
 
 /// One try at what the task asks for, on the objects of its run: where no ask stands, the task goes
-/// on to its next one; else one event of the ask is tried, and what the task does then is what its
-/// talk says. Whether the task went on, and what is done, the answer says. The error is want of
-/// memory, after which the run can't go on.
+/// on to its next one; else one event of the ask is tried. What is done then, or why nothing is, the
+/// answer says. The error is want of memory, after which the run can't go on.
 pub fn attempt<'c, N: RunName>(
     alloc: Global,
     table: &ObjectTable,
     capsule: Capsule<'c, N>,
 ) -> Result<Went<'c, N>, Memory>
     requires { (table.now.mark ≡ N.mark) × (table.now.plan ≡ N.plan) }
+    ensures { IfOk result (λ went. WentAs capsule.entry went) }
 {
     match capsule.machine.asked() {
         None => go_on(alloc, capsule),
@@ -75,14 +75,14 @@ fn place<N: RunName>(object: ObjectId) -> Place<N>
 // No ask stands: the task goes on to the next one, past the cells that it touches on the way.
 fn go_on<'c, N: RunName>(alloc: Global, capsule: Capsule<'c, N>) -> Result<Went<'c, N>, Memory>
     requires { capsule.machine.ask ≡ None }
+    ensures { IfOk result (λ went. WentAs capsule.entry went) }
 {
     let Capsule {
         mut pass,
         mut machine,
-        from: _,
         events,
-        passed: _,
         name,
+        ..
     } = capsule;
     let _ask = machine.advance(alloc)?;
     machine.stands();
@@ -102,102 +102,53 @@ fn go_on<'c, N: RunName>(alloc: Global, capsule: Capsule<'c, N>) -> Result<Went<
 fn take<'c, N: RunName>(
     alloc: Global,
     table: &ObjectTable,
-    capsule: Capsule<'c, N>,
+    mut capsule: Capsule<'c, N>,
     object: ObjectId,
     mode: Mode,
 ) -> Result<Went<'c, N>, Memory>
     requires table { (table.now.mark ≡ N.mark) × (table.now.plan ≡ N.plan) }
     requires asked { capsule.machine.ask ≡ Some (Ask.Take object mode) }
+    ensures { IfOk result (λ went. WentAs capsule.entry went) }
 {
-    let Capsule {
-        mut pass,
-        mut machine,
-        from,
-        events,
-        passed,
-        name,
-    } = capsule;
-    machine.stands();
-    let done = more(events, 1)?;
-    match table.take(alloc, &mut pass, object, mode)? {
+    capsule.machine.stands();
+    let done = more(capsule.events, 1)?;
+    match table.take(alloc, &mut capsule.pass, object, mode)? {
         Taken::Got(content) => {
-            machine.supply(object, content);
-            Ok(Went::Ready(Capsule {
-                pass,
-                machine,
-                from,
-                events: done,
-                passed: false,
-                name,
-            }))
+            capsule.machine.supply(object, content);
+            capsule.events = done;
+            capsule.passed = false;
+            Ok(Went::Ready(capsule))
         }
         Taken::NotYet(keeper) => {
             drop(keeper);
-            Ok(Went::Waits(
-                place(object),
-                Capsule {
-                    pass,
-                    machine,
-                    from,
-                    events,
-                    passed,
-                    name,
-                },
-            ))
+            Ok(Went::Waits(place(object), capsule))
         }
-        Taken::Busy(_) => Ok(Went::Busy(Capsule {
-            pass,
-            machine,
-            from,
-            events,
-            passed,
-            name,
-        })),
+        Taken::Busy(_) => Ok(Went::Busy(capsule)),
     }
 }
 
 // A content is to be given back.
 fn give_back<'c, N: RunName>(
     table: &ObjectTable,
-    capsule: Capsule<'c, N>,
+    mut capsule: Capsule<'c, N>,
     object: ObjectId,
 ) -> Result<Went<'c, N>, Memory>
     requires table { (table.now.mark ≡ N.mark) × (table.now.plan ≡ N.plan) }
     requires asked { capsule.machine.ask ≡ Some (Ask.GiveBack object) }
+    ensures { IfOk result (λ went. WentAs capsule.entry went) }
 {
-    let Capsule {
-        mut pass,
-        mut machine,
-        from,
-        events,
-        passed,
-        name,
-    } = capsule;
-    machine.stands();
-    let done = more(events, 1)?;
-    let content = machine.surrender(object);
-    match table.give(&mut pass, object, content) {
-        Ok(()) => Ok(Went::Freed(
-            place(object),
-            Capsule {
-                pass,
-                machine,
-                from,
-                events: done,
-                passed: false,
-                name,
-            },
-        )),
+    capsule.machine.stands();
+    let done = more(capsule.events, 1)?;
+    let content = capsule.machine.surrender(object);
+    match table.give(&mut capsule.pass, object, content) {
+        Ok(()) => {
+            capsule.events = done;
+            capsule.passed = false;
+            Ok(Went::Freed(place(object), capsule))
+        }
         Err((back, _)) => {
-            machine.restore(object, back);
-            Ok(Went::Busy(Capsule {
-                pass,
-                machine,
-                from,
-                events,
-                passed,
-                name,
-            }))
+            capsule.machine.restore(object, back);
+            Ok(Went::Busy(capsule))
         }
     }
 }
@@ -210,6 +161,7 @@ fn create<'c, N: RunName>(
 ) -> Result<Went<'c, N>, Memory>
     requires table { (table.now.mark ≡ N.mark) × (table.now.plan ≡ N.plan) }
     requires asked { capsule.machine.ask ≡ Some Ask.Create }
+    ensures { IfOk result (λ went. WentAs capsule.entry went) }
 {
     match capsule.machine.next_enter(ObjectId(capsule.from)) {
         Some((object, rights)) => enter(alloc, table, capsule, object, rights),
@@ -221,7 +173,7 @@ fn create<'c, N: RunName>(
 fn enter<'c, N: RunName>(
     alloc: Global,
     table: &ObjectTable,
-    capsule: Capsule<'c, N>,
+    mut capsule: Capsule<'c, N>,
     object: ObjectId,
     rights: Rights,
 ) -> Result<Went<'c, N>, Memory>
@@ -230,34 +182,17 @@ fn enter<'c, N: RunName>(
     requires inside { object.0 < capsule.machine.at.execution.stage.objects }
     requires entry { let made = made_at capsule.machine.at.execution
         in enters_from capsule.from made ≡ Enter object.0 rights ∷ enters_from (object.0 + 1) made }
+    ensures { IfOk result (λ went. WentAs capsule.entry went) }
 {
-    let Capsule {
-        mut pass,
-        machine,
-        from,
-        events,
-        passed,
-        name,
-    } = capsule;
-    let done = more(events, 1)?;
+    let done = more(capsule.events, 1)?;
     let next = above(object)?;
-    match table.enter(alloc, &mut pass, object, rights)? {
-        Tried::Done => Ok(Went::Ready(Capsule {
-            pass,
-            machine,
-            from: next,
-            events: done,
-            passed,
-            name,
-        })),
-        Tried::Busy(_) => Ok(Went::Busy(Capsule {
-            pass,
-            machine,
-            from,
-            events,
-            passed,
-            name,
-        })),
+    match table.enter(alloc, &mut capsule.pass, object, rights)? {
+        Tried::Done => {
+            capsule.from = next;
+            capsule.events = done;
+            Ok(Went::Ready(capsule))
+        }
+        Tried::Busy(_) => Ok(Went::Busy(capsule)),
     }
 }
 
@@ -265,25 +200,19 @@ fn enter<'c, N: RunName>(
 fn enroll<'c, N: RunName>(
     alloc: Global,
     table: &ObjectTable,
-    capsule: Capsule<'c, N>,
+    mut capsule: Capsule<'c, N>,
 ) -> Result<Went<'c, N>, Memory>
     requires table { (table.now.mark ≡ N.mark) × (table.now.plan ≡ N.plan) }
     requires asked { capsule.machine.ask ≡ Some Ask.Create }
     requires entered { enters_from capsule.from (made_at capsule.machine.at.execution) ≡ [] }
+    ensures { IfOk result (λ went. WentAs capsule.entry went) }
 {
-    let Capsule {
-        mut pass,
-        mut machine,
-        from,
-        events,
-        passed,
-        name,
-    } = capsule;
-    let done = more(events, 1)?;
-    match table.enroll(alloc, &mut pass, machine.steps())? {
+    let done = more(capsule.events, 1)?;
+    let steps = capsule.machine.steps();
+    match table.enroll(alloc, &mut capsule.pass, steps)? {
         Tried::Done => {
-            let young = table.split(alloc, &mut pass)?;
-            let theirs = machine.child(alloc)?;
+            let young = table.split(alloc, &mut capsule.pass)?;
+            let theirs = capsule.machine.child(alloc)?;
             let child = Capsule {
                 pass: young,
                 machine: theirs,
@@ -292,38 +221,31 @@ fn enroll<'c, N: RunName>(
                 passed: false,
                 name: PhantomData,
             };
-            let parent = Capsule {
-                pass,
-                machine,
-                from,
-                events: done,
-                passed: false,
-                name,
-            };
-            Ok(Went::Parted(parent, child))
+            capsule.events = done;
+            capsule.passed = false;
+            Ok(Went::Parted(capsule, child))
         }
-        Tried::Busy(_) => Ok(Went::Busy(Capsule {
-            pass,
-            machine,
-            from,
-            events,
-            passed,
-            name,
-        })),
+        Tried::Busy(_) => Ok(Went::Busy(capsule)),
     }
 }
 
-// The rights are to change: the entries follow them one after another, and then the machine does.
+// The rights are to change: the entries follow them one after another, and then the machine goes on
+// with them.
 fn change<'c, N: RunName>(
     table: &ObjectTable,
-    capsule: Capsule<'c, N>,
+    mut capsule: Capsule<'c, N>,
 ) -> Result<Went<'c, N>, Memory>
     requires table { (table.now.mark ≡ N.mark) × (table.now.plan ≡ N.plan) }
     requires asked { capsule.machine.ask ≡ Some Ask.Change }
+    ensures { IfOk result (λ went. WentAs capsule.entry went) }
 {
     match capsule.machine.next_change(ObjectId(capsule.from)) {
         Some((object, rights)) => follow(table, capsule, object, rights),
-        None => Ok(Went::Ready(changed(capsule))),
+        None => {
+            capsule.machine.changed();
+            capsule.passed = false;
+            Ok(Went::Ready(capsule))
+        }
     }
 }
 
@@ -346,7 +268,7 @@ fn try_follow(table: &ObjectTable, pass: &mut TaskPass, object: ObjectId, rights
 // The next entry that follows new rights.
 fn follow<'c, N: RunName>(
     table: &ObjectTable,
-    capsule: Capsule<'c, N>,
+    mut capsule: Capsule<'c, N>,
     object: ObjectId,
     rights: Rights,
 ) -> Result<Went<'c, N>, Memory>
@@ -355,61 +277,17 @@ fn follow<'c, N: RunName>(
     requires inside { object.0 < capsule.machine.at.execution.stage.objects }
     requires change { let old = rights_at capsule.machine.at.execution.stage in let new = amended_at capsule.machine.at.execution
         in shifts_from capsule.from old new ≡ follows object.0 rights ∷ shifts_from (object.0 + 1) old new }
+    ensures { IfOk result (λ went. WentAs capsule.entry went) }
 {
-    let Capsule {
-        mut pass,
-        machine,
-        from,
-        events,
-        passed,
-        name,
-    } = capsule;
-    let done = more(events, 1)?;
+    let done = more(capsule.events, 1)?;
     let next = above(object)?;
-    match try_follow(table, &mut pass, object, rights) {
-        Tried::Done => Ok(Went::Freed(
-            place(object),
-            Capsule {
-                pass,
-                machine,
-                from: next,
-                events: done,
-                passed,
-                name,
-            },
-        )),
-        Tried::Busy(_) => Ok(Went::Busy(Capsule {
-            pass,
-            machine,
-            from,
-            events,
-            passed,
-            name,
-        })),
-    }
-}
-
-// All entries follow the new rights: the machine goes on with them.
-fn changed<'c, N: RunName>(capsule: Capsule<'c, N>) -> Capsule<'c, N>
-    requires asked { capsule.machine.ask ≡ Some Ask.Change }
-    requires shifted { shifts_from capsule.from (rights_at capsule.machine.at.execution.stage) (amended_at capsule.machine.at.execution) ≡ [] }
-{
-    let Capsule {
-        pass,
-        mut machine,
-        from,
-        events,
-        passed: _,
-        name,
-    } = capsule;
-    machine.changed();
-    Capsule {
-        pass,
-        machine,
-        from,
-        events,
-        passed: false,
-        name,
+    match try_follow(table, &mut capsule.pass, object, rights) {
+        Tried::Done => {
+            capsule.from = next;
+            capsule.events = done;
+            Ok(Went::Freed(place(object), capsule))
+        }
+        Tried::Busy(_) => Ok(Went::Busy(capsule)),
     }
 }
 
@@ -421,6 +299,7 @@ fn end<'c, N: RunName>(
 ) -> Result<Went<'c, N>, Memory>
     requires table { (table.now.mark ≡ N.mark) × (table.now.plan ≡ N.plan) }
     requires asked { capsule.machine.ask ≡ Some (ending blame) }
+    ensures { IfOk result (λ went. WentAs capsule.entry went) }
 {
     match capsule.machine.next_leave(ObjectId(capsule.from)) {
         Some(object) => leave(table, capsule, blame, object),
@@ -431,7 +310,7 @@ fn end<'c, N: RunName>(
 // The next entry that leaves.
 fn leave<'c, N: RunName>(
     table: &ObjectTable,
-    capsule: Capsule<'c, N>,
+    mut capsule: Capsule<'c, N>,
     blame: Option<Blame>,
     object: ObjectId,
 ) -> Result<Went<'c, N>, Memory>
@@ -440,67 +319,37 @@ fn leave<'c, N: RunName>(
     requires inside { object.0 < capsule.machine.at.execution.stage.objects }
     requires entry { let old = rights_at capsule.machine.at.execution.stage
         in leaves_from capsule.from old ≡ Leave object.0 ∷ leaves_from (object.0 + 1) old }
+    ensures { IfOk result (λ went. WentAs capsule.entry went) }
 {
-    let Capsule {
-        mut pass,
-        machine,
-        from,
-        events,
-        passed,
-        name,
-    } = capsule;
-    let done = more(events, 1)?;
+    let done = more(capsule.events, 1)?;
     let next = above(object)?;
-    match table.leave(&mut pass, object) {
-        Tried::Done => Ok(Went::Freed(
-            place(object),
-            Capsule {
-                pass,
-                machine,
-                from: next,
-                events: done,
-                passed,
-                name,
-            },
-        )),
-        Tried::Busy(_) => Ok(Went::Busy(Capsule {
-            pass,
-            machine,
-            from,
-            events,
-            passed,
-            name,
-        })),
+    match table.leave(&mut capsule.pass, object) {
+        Tried::Done => {
+            capsule.from = next;
+            capsule.events = done;
+            Ok(Went::Freed(place(object), capsule))
+        }
+        Tried::Busy(_) => Ok(Went::Busy(capsule)),
     }
 }
 
 // All entries have left: the task resigns.
 fn resign<'c, N: RunName>(
     table: &ObjectTable,
-    capsule: Capsule<'c, N>,
+    mut capsule: Capsule<'c, N>,
     blame: Option<Blame>,
 ) -> Result<Went<'c, N>, Memory>
     requires table { (table.now.mark ≡ N.mark) × (table.now.plan ≡ N.plan) }
     requires asked { capsule.machine.ask ≡ Some (ending blame) }
     requires over { leaves_from capsule.from (rights_at capsule.machine.at.execution.stage) ≡ [] }
+    ensures { IfOk result (λ went. WentAs capsule.entry went) }
 {
-    let Capsule {
-        mut pass,
-        machine,
-        from,
-        events,
-        passed,
-        name,
-    } = capsule;
-    match table.resign(&mut pass, blame, machine.steps()) {
-        Tried::Done => Ok(Went::Ended(Resigned { pass, name })),
-        Tried::Busy(_) => Ok(Went::Busy(Capsule {
-            pass,
-            machine,
-            from,
-            events,
-            passed,
-            name,
+    let steps = capsule.machine.steps();
+    match table.resign(&mut capsule.pass, blame, steps) {
+        Tried::Done => Ok(Went::Ended(Resigned {
+            pass: capsule.pass,
+            name: capsule.name,
         })),
+        Tried::Busy(_) => Ok(Went::Busy(capsule)),
     }
 }

@@ -1,5 +1,5 @@
 -- What a type tells is a fact: it has at most one proof.
-use Rattle.std.specs.Prelude.{◌≡◌, ℕ, List, ℤ}
+use Rattle.std.specs.Prelude.{◌≡◌, ℕ}
 use Rattle.std.specs.Coded.{Coded-set, coded_ℕ, coded_bool, coded_option}
 use Rattle.atomic_table.specs.Seated.{TableId, table_id_coded}
 use Rattle.jade_meaning.specs.Plan.{RunPlan}

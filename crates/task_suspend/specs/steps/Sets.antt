@@ -1,5 +1,5 @@
 -- Events are a set: two proofs that they are the same are the same proof, which a fact in a type wants.
-use Rattle.std.specs.Prelude.{◌≡◌, ◌⊎◌, ℕ, List, [], ◌∷◌, Option, ℤ, refl}
+use Rattle.std.specs.Prelude.{◌≡◌, ℕ, List, [], ◌∷◌, Option, ℤ, refl}
 use Rattle.std.specs.Coded.{Coded-set, coded_ℕ, coded_ℤ, coded_list, coded_option, ×_prop, Π_prop, Unit-prop}
 use mathlib.Core.HLevel.{collapsible→set, ⊥_prop, ×₃_prop}
 use mathlib.Core.Path.{ap, ap₂, subst, fun_ext, ◌∙◌}

@@ -1,3 +1,6 @@
+use Rattle.std.proofs.Common.{refl}
+use Rattle.task_suspend.specs.Tries.{amends}
+use Rattle.task_suspend.proofs.Tying.{changed_so}
 use Rattle.task_suspend.proofs.tries.change.Goals as goal
 
 pub follow-requires-clause-table : goal.follow-requires-clause-table
@@ -12,8 +15,24 @@ follow-requires-clause-inside g c = c.in-Some.ensures.within
 pub follow-requires-clause-change : goal.follow-requires-clause-change
 follow-requires-clause-change g c = c.in-Some.ensures.shifts
 
-pub changed-requires-clause-asked : goal.changed-requires-clause-asked
-changed-requires-clause-asked g c = c.requires.asked
+pub changed-requires : goal.changed-requires
+changed-requires g c = c.requires.asked
 
-pub changed-requires-clause-shifted : goal.changed-requires-clause-shifted
-changed-requires-clause-shifted g c = c.in-None.ensures.none
+pub invariant_of-capsule : goal.invariant_of-capsule
+invariant_of-capsule g c =
+    let x = c.args.capsule in
+    record {
+      tied = changed_so g.N.RunName.mark g.N.RunName.plan x.pass x.machine x.from x.events x.tied c.requires.asked c.changed.new.self c.in-None.ensures.none
+          c.changed.ensures;
+    }
+
+pub returns-in-None : goal.returns-in-None
+returns-in-None g c = amends (record {
+  asked = c.requires.asked;
+  followed = c.in-None.ensures.none;
+  pass = refl;
+  machine = c.changed.ensures;
+  from = refl;
+  events = refl;
+  gate = refl;
+})

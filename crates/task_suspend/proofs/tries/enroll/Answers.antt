@@ -1,9 +1,13 @@
-use Rattle.std.proofs.Common.{◌+◌, ◌%◌, ◌^◌, refl, sym, ◌∙◌}
+use Rattle.std.proofs.Common.{ℕ, ◌+◌, ◌%◌, ◌^◌, refl, sym, ap, ◌∙◌, subst}
 use Rattle.object_table.specs.Views.{count_of}
 use Rattle.task_machine.specs.Machines.{child_task}
 use Rattle.task_machine.specs.Asks.{number_of}
 use Rattle.task_suspend.proofs.Tying.{enroll_next, parted, born_so, busy}
 use Rattle.task_suspend.proofs.Trying.{numbered, enrolled_done, enrolled_busy, bore_live, bore_kid}
+use Rattle.jade_meaning.specs.Talk.{Enroll}
+use Rattle.object_table.specs.Calls.{Bore, found_busy}
+use Rattle.task_machine.specs.declared.machine.Ask.TheVariants as ask
+use Rattle.task_suspend.proofs.Tying.{roll_at}
 use Rattle.task_suspend.proofs.tries.enroll.Goals as goal
 
 pub enroll-requires-clause-mark : goal.enroll-requires-clause-mark
@@ -13,7 +17,7 @@ pub enroll-requires-clause-next : goal.enroll-requires-clause-next
 enroll-requires-clause-next g c =
     let x = c.args.capsule in (
       child_task (number_of x.machine.at.phase) x.machine.at.execution,
-      enroll_next g.N.RunName.mark g.N.RunName.plan x.pass x.machine x.from x.events x.tied c.requires.asked c.requires.entered c.steps.result c.steps.ensures,
+      enroll_next g.N.RunName.mark g.N.RunName.plan x.pass x.machine x.from x.events x.tied c.requires.asked c.requires.entered c.steps-steps.result c.steps-steps.ensures,
     )
 
 pub split-requires-clause-mark : goal.split-requires-clause-mark
@@ -49,8 +53,8 @@ invariant_of-child g c =
           c.in_ok-theirs-in-Done.ensures.begins c.in_ok-theirs-in-Done.ensures.objects;
     }
 
-pub invariant_of-parent : goal.invariant_of-parent
-invariant_of-parent g c =
+pub invariant_of-capsule : goal.invariant_of-capsule
+invariant_of-capsule g c =
     let x = c.args.capsule in
     let w = c.enroll.new.pass.shows in
     let q = c.split.new.pass in
@@ -64,8 +68,8 @@ invariant_of-parent g c =
           c.in_ok-theirs-in-Done.ensures.created) refl c.in_ok-done.ensures;
     }
 
-pub invariant_of-result : goal.invariant_of-result
-invariant_of-result g c =
+pub invariant_of-capsule-in-Busy : goal.invariant_of-capsule-in-Busy
+invariant_of-capsule-in-Busy g c =
     let x = c.args.capsule in
     let q = c.enroll.new.pass in
     let o = count_of c.args.table.now.plan in
@@ -73,4 +77,41 @@ invariant_of-result g c =
     record {
       tied = busy g.N.RunName.mark g.N.RunName.plan x.pass x.machine x.from x.events x.tied q n o c.in_ok-enroll.ensures.mark
           (enrolled_busy o x.pass.shows q.shows c.in_ok-enroll.field-0 n c.in-Busy.is c.in_ok-enroll.ensures.answer);
+    }
+
+pub returns-in_ok-theirs-in-Done : goal.returns-in_ok-theirs-in-Done
+returns-in_ok-theirs-in-Done g c =
+    let x = c.args.capsule in
+    let w = c.enroll.new.pass.shows in
+    let o = count_of c.args.table.now.plan in
+    let B : ℕ → Type 0 = λ n. Bore n x.pass.shows w in
+    record {
+      asked = c.requires.asked;
+      entered = c.requires.entered;
+      enrolled = w;
+      bore = subst B (roll_at g.N.RunName.mark g.N.RunName.plan x.pass x.machine x.from x.events x.tied c.args.table.now.plan c.requires.table.1)
+          (enrolled_done o x.pass.shows w c.in_ok-enroll.field-0 c.in-Done.is c.in_ok-enroll.ensures.answer);
+      parent = c.in_ok-young-in-Done.ensures.parent;
+      answered = record { machine = c.in_ok-theirs-in-Done.ensures.created; from = refl; events = c.in_ok-done.ensures; gate = refl };
+      young = c.in_ok-young-in-Done.ensures.child.1;
+      begins = c.in_ok-theirs-in-Done.ensures.begins;
+      from = refl;
+      events = refl;
+      gate = refl;
+    }
+
+pub returns-in-Busy : goal.returns-in-Busy
+returns-in-Busy g c =
+    let x = c.args.capsule in
+    let w = c.enroll.new.pass.shows in
+    let o = count_of c.args.table.now.plan in
+    let child = child_task (number_of x.machine.at.phase) x.machine.at.execution in
+    let found = enrolled_busy o x.pass.shows w c.in_ok-enroll.field-0 c.in-Busy.field-0 c.in-Busy.is c.in_ok-enroll.ensures.answer in
+    record {
+      wanted = ask.Create;
+      asked = c.requires.asked;
+      event = Enroll child c.steps-steps.result;
+      next = enroll_next g.N.RunName.mark g.N.RunName.plan x.pass x.machine x.from x.events x.tied c.requires.asked c.requires.entered c.steps-steps.result c.steps-steps.ensures;
+      read = found.after ∙ ap (λ n. found_busy n x.pass.shows) (roll_at g.N.RunName.mark g.N.RunName.plan x.pass x.machine x.from x.events x.tied c.args.table.now.plan c.requires.table.1);
+      unmoved = record { machine = refl; from = refl; events = refl; gate = refl };
     }

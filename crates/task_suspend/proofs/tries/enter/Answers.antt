@@ -1,8 +1,11 @@
-use Rattle.std.proofs.Common.{◌+◌, ◌<◌, sym, ◌∙◌, subst}
+use Rattle.std.proofs.Common.{◌+◌, ◌<◌, refl, sym, ◌∙◌, subst}
 use Rattle.jade_meaning.specs.Plan.{RunPlan}
 use Rattle.object_table.specs.Views.{count_of}
 use Rattle.task_suspend.proofs.Tying.{inside, enter_next, entered, busy}
 use Rattle.task_suspend.proofs.Trying.{numbered, tried_done, tried_busy}
+use Rattle.jade_meaning.specs.Talk.{Enter}
+use Rattle.task_machine.specs.declared.machine.Ask.TheVariants as ask
+use Rattle.task_suspend.specs.Tries.{enters}
 use Rattle.task_suspend.proofs.tries.enter.Goals as goal
 
 pub enter-requires-clause-mark : goal.enter-requires-clause-mark
@@ -20,8 +23,8 @@ enter-requires-clause-next g c =
     let x = c.args.capsule in
     enter_next g.N.RunName.mark g.N.RunName.plan x.pass x.machine x.from x.events x.tied c.requires.asked c.args.object.0 c.args.rights c.requires.entry
 
-pub invariant_of-result : goal.invariant_of-result
-invariant_of-result g c =
+pub invariant_of-capsule : goal.invariant_of-capsule
+invariant_of-capsule g c =
     let x = c.args.capsule in
     let o = c.args.object.0 in
     let q = c.enter.new.pass in
@@ -32,8 +35,8 @@ invariant_of-result g c =
           c.in_ok-enter.ensures.mark did) c.in_ok-next.ensures c.in_ok-done.ensures;
     }
 
-pub invariant_of-result-in-Busy : goal.invariant_of-result-in-Busy
-invariant_of-result-in-Busy g c =
+pub invariant_of-capsule-in-Busy : goal.invariant_of-capsule-in-Busy
+invariant_of-capsule-in-Busy g c =
     let x = c.args.capsule in
     let o = c.args.object.0 in
     let q = c.enter.new.pass in
@@ -41,4 +44,31 @@ invariant_of-result-in-Busy g c =
     record {
       tied = busy g.N.RunName.mark g.N.RunName.plan x.pass x.machine x.from x.events x.tied q n o c.in_ok-enter.ensures.mark
           (tried_busy o x.pass.shows q.shows c.in_ok-enter.field-0 n c.in-Busy.is c.in_ok-enter.ensures.answer);
+    }
+
+pub returns-in-Done : goal.returns-in-Done
+returns-in-Done g c =
+    let x = c.args.capsule in
+    let q = c.enter.new.pass in
+    enters (record {
+      asked = c.requires.asked;
+      object = c.args.object.0;
+      rights = c.args.rights;
+      next = c.requires.entry;
+      did = tried_done c.args.object.0 x.pass.shows q.shows c.in_ok-enter.field-0 c.in-Done.is c.in_ok-enter.ensures.answer;
+      further = record { machine = refl; from = c.in_ok-next.ensures; events = c.in_ok-done.ensures; gate = refl };
+    })
+
+pub returns-in-Busy : goal.returns-in-Busy
+returns-in-Busy g c =
+    let x = c.args.capsule in
+    let q = c.enter.new.pass in
+    let found = tried_busy c.args.object.0 x.pass.shows q.shows c.in_ok-enter.field-0 c.in-Busy.field-0 c.in-Busy.is c.in_ok-enter.ensures.answer in
+    record {
+      wanted = ask.Create;
+      asked = c.requires.asked;
+      event = Enter c.args.object.0 c.args.rights;
+      next = enter_next g.N.RunName.mark g.N.RunName.plan x.pass x.machine x.from x.events x.tied c.requires.asked c.args.object.0 c.args.rights c.requires.entry;
+      read = found.after;
+      unmoved = record { machine = refl; from = refl; events = refl; gate = refl };
     }

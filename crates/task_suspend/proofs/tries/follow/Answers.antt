@@ -1,8 +1,13 @@
-use Rattle.std.proofs.Common.{◌+◌, ◌<◌, sym, ◌∙◌, subst}
+use Rattle.std.proofs.Common.{◌+◌, ◌<◌, refl, sym, ap, ◌∙◌, subst}
 use Rattle.jade_meaning.specs.Plan.{RunPlan}
 use Rattle.object_table.specs.Views.{count_of}
-use Rattle.task_suspend.proofs.Tying.{inside, shift_next, leave_next, followed, busy}
+use Rattle.task_suspend.proofs.Tying.{inside, shift_next, leave_next, follow_next, follows_at, followed, busy}
 use Rattle.task_suspend.proofs.Trying.{numbered, tried_done, tried_busy}
+use Rattle.jade_base.specs.declared.place.ObjectId.{ObjectId}
+use Rattle.object_table.specs.Calls.{found_busy}
+use Rattle.task_machine.specs.declared.machine.Ask.TheVariants as ask
+use Rattle.task_machine.specs.Asks.{follows}
+use Rattle.task_suspend.specs.Tries.{carried, Frees, follows_on}
 use Rattle.task_suspend.proofs.tries.follow.Goals as goal
 
 pub try_follow-requires-clause-mark : goal.try_follow-requires-clause-mark
@@ -30,8 +35,8 @@ place-requires g c =
     let x = c.args.capsule in
     inside g.N.RunName.mark g.N.RunName.plan x.pass x.machine x.from x.events x.tied c.args.object.0 c.requires.inside
 
-pub invariant_of-result : goal.invariant_of-result
-invariant_of-result g c =
+pub invariant_of-capsule : goal.invariant_of-capsule
+invariant_of-capsule g c =
     let x = c.args.capsule in
     let o = c.args.object.0 in
     let q = c.try_follow.new.pass in
@@ -42,8 +47,8 @@ invariant_of-result g c =
           c.try_follow.ensures.mark did) c.in_ok-next.ensures c.in_ok-done.ensures;
     }
 
-pub invariant_of-result-in-Busy : goal.invariant_of-result-in-Busy
-invariant_of-result-in-Busy g c =
+pub invariant_of-capsule-in-Busy : goal.invariant_of-capsule-in-Busy
+invariant_of-capsule-in-Busy g c =
     let x = c.args.capsule in
     let o = c.args.object.0 in
     let q = c.try_follow.new.pass in
@@ -51,4 +56,33 @@ invariant_of-result-in-Busy g c =
     record {
       tied = busy g.N.RunName.mark g.N.RunName.plan x.pass x.machine x.from x.events x.tied q n o c.try_follow.ensures.mark
           (tried_busy o x.pass.shows q.shows c.try_follow.result n c.in-Busy.is c.try_follow.ensures.answer);
+    }
+
+pub returns-in-Done : goal.returns-in-Done
+returns-in-Done g c =
+    let x = c.args.capsule in
+    let q = c.try_follow.new.pass in
+    let F : ObjectId → Type 0 = λ o. Frees o (carried x)
+    (record { pass = q; machine = x.machine; from = c.in_ok-next.next; events = c.in_ok-done.done; gate = x.passed }) in
+    subst F (sym c.place.ensures) (follows_on (record {
+      asked = c.requires.asked;
+      rights = c.args.rights;
+      next = c.requires.change;
+      did = tried_done c.args.object.0 x.pass.shows q.shows c.try_follow.result c.in-Done.is c.try_follow.ensures.answer;
+      further = record { machine = refl; from = c.in_ok-next.ensures; events = c.in_ok-done.ensures; gate = refl };
+    }))
+
+pub returns-in-Busy : goal.returns-in-Busy
+returns-in-Busy g c =
+    let x = c.args.capsule in
+    let q = c.try_follow.new.pass in
+    let o = c.args.object.0 in
+    let found = tried_busy o x.pass.shows q.shows c.try_follow.result c.in-Busy.field-0 c.in-Busy.is c.try_follow.ensures.answer in
+    record {
+      wanted = ask.Change;
+      asked = c.requires.asked;
+      event = follows o c.args.rights;
+      next = follow_next g.N.RunName.mark g.N.RunName.plan x.pass x.machine x.from x.events x.tied c.requires.asked o c.args.rights c.requires.change;
+      read = found.after ∙ ap (λ n. found_busy n x.pass.shows) (follows_at (count_of x.pass.shows.key) o c.args.rights);
+      unmoved = record { machine = refl; from = refl; events = refl; gate = refl };
     }

@@ -1,4 +1,4 @@
-use Rattle.std.proofs.Common.{ℕ, ◌<◌, ◌∙◌, sym, subst}
+use Rattle.std.proofs.Common.{ℕ, ◌<◌, ◌∙◌, refl, sym, subst}
 use Rattle.jade_meaning.specs.Plan.{RunPlan}
 use Rattle.jade_base.specs.Held.{Held}
 use Rattle.object_table.specs.Views.{count_of}
@@ -7,6 +7,10 @@ use Rattle.task_machine.specs.Asks.{Asking}
 use Rattle.task_machine.specs.steps.Surrendering.{IsSurrendered}
 use Rattle.task_suspend.specs.Ties.{Tied}
 use Rattle.task_suspend.proofs.Tying.{give_inside, give_next, give_held, gave, busy}
+use Rattle.std.proofs.Common.{false}
+use Rattle.jade_base.specs.declared.place.ObjectId.{ObjectId}
+use Rattle.jade_meaning.specs.Talk.{Give}
+use Rattle.task_suspend.specs.Tries.{carried, Frees, gives_back}
 use Rattle.task_suspend.proofs.tries.give_back.Goals as goal
 
 pub surrender-content-requires : goal.surrender-content-requires
@@ -41,8 +45,8 @@ place-requires g c =
     give_inside g.N.RunName.mark g.N.RunName.plan x.pass x.machine x.from x.events x.tied c.args.object c.requires.asked
     (c.stands.ensures (ask.GiveBack c.args.object) c.requires.asked)
 
-pub invariant_of-result : goal.invariant_of-result
-invariant_of-result g c =
+pub invariant_of-capsule : goal.invariant_of-capsule
+invariant_of-capsule g c =
     let x = c.args.capsule in
     let q = c.give.new.pass in
     let b = c.surrender-content.new.self in
@@ -60,8 +64,8 @@ restore-requires g c =
     let P : Held → Type 0 = λ h. IsSurrendered c.args.object h x.machine c.surrender-content.new.self in
     (x.machine, subst P (sym c.in-Err.ensures.busy.0) c.surrender-content.ensures.given)
 
-pub invariant_of-result-in-Err : goal.invariant_of-result-in-Err
-invariant_of-result-in-Err g c =
+pub invariant_of-capsule-in-Err : goal.invariant_of-capsule-in-Err
+invariant_of-capsule-in-Err g c =
     let x = c.args.capsule in
     let q = c.give.new.pass in
     let P : Held → Type 0 = λ h. IsSurrendered c.args.object h x.machine c.surrender-content.new.self in
@@ -71,4 +75,31 @@ invariant_of-result-in-Err g c =
       tied = subst Q (sym before)
           (busy g.N.RunName.mark g.N.RunName.plan x.pass x.machine x.from x.events x.tied q c.in-Err.field-0-1 c.args.object.0 c.in-Err.ensures.mark
           c.in-Err.ensures.busy.1);
+    }
+
+pub returns-in-Ok : goal.returns-in-Ok
+returns-in-Ok g c =
+    let x = c.args.capsule in
+    let q = c.give.new.pass in
+    let b = c.surrender-content.new.self in
+    let F : ObjectId → Type 0 = λ o. Frees o (carried x) (record { pass = q; machine = b; from = x.from; events = c.in_ok-done.done; gate = false }) in
+    subst F (sym c.place.ensures) (gives_back (record {
+      asked = c.requires.asked;
+      did = c.in-Ok.ensures.done;
+      answered = record { machine = c.surrender-content.ensures.surrendered; from = refl; events = c.in_ok-done.ensures; gate = refl };
+    }))
+
+pub returns-in-Err : goal.returns-in-Err
+returns-in-Err g c =
+    let x = c.args.capsule in
+    let P : Held → Type 0 = λ h. IsSurrendered c.args.object h x.machine c.surrender-content.new.self in
+    let before = c.restore.ensures x.machine (subst P (sym c.in-Err.ensures.busy.0) c.surrender-content.ensures.given) in
+    record {
+      wanted = ask.GiveBack c.args.object;
+      asked = c.requires.asked;
+      event = Give c.args.object.0;
+      next = give_next g.N.RunName.mark g.N.RunName.plan x.pass x.machine x.from x.events x.tied c.args.object c.requires.asked
+          (c.stands.ensures (ask.GiveBack c.args.object) c.requires.asked);
+      read = c.in-Err.ensures.busy.1.after;
+      unmoved = record { machine = before; from = refl; events = refl; gate = refl };
     }

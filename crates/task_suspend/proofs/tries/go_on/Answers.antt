@@ -1,6 +1,7 @@
-use Rattle.std.proofs.Common.{◌≡◌, ℕ, ◌+◌, sym, ap, ◌∙◌, subst}
+use Rattle.std.proofs.Common.{◌≡◌, ℕ, ◌+◌, refl, sym, ap, ◌∙◌, subst}
 use Rattle.object_table.specs.Calls.{Comes}
 use Rattle.task_suspend.specs.Ties.{Tied}
+use Rattle.task_suspend.specs.Tries.{advances}
 use Rattle.task_suspend.proofs.Tying.{comes, advanced}
 use Rattle.task_suspend.proofs.tries.go_on.Goals as goal
 
@@ -27,3 +28,23 @@ invariant_of-result g c =
           c.in_ok-_ask.ensures.asks (c.stands.ensures c.in_ok-_ask._ask c.in_ok-_ask.ensures.asks) c.pass_on.ensures.mark
           (c.pass_on.ensures.shows b.touched touches));
     }
+
+pub returns : goal.returns
+returns g c =
+    let x = c.args.capsule in
+    let b = c.advance.new.self in
+    let sum : c.in_ok-done.done ≡ x.events + b.touched = c.in_ok-done.ensures ∙ ap (λ n. x.events + n) c.touched.ensures in
+    let P : ℕ → Type 0 = λ n. Comes b.touched n x.pass.shows in
+    let touches = subst P (sym sum) (comes g.N.RunName.mark g.N.RunName.plan x.pass x.machine x.from x.events x.tied b c.requires c.in_ok-_ask.ensures.goes) in
+    advances (record {
+      idle = c.requires;
+      next = c.in_ok-_ask._ask;
+      asks = c.in_ok-_ask.ensures.asks;
+      goes = c.in_ok-_ask.ensures.goes;
+      count = c.in_ok-_ask.ensures.count;
+      children = c.advance.ensures.children;
+      pass = c.pass_on.ensures.shows b.touched touches;
+      from = refl;
+      events = sum;
+      gate = refl;
+    })

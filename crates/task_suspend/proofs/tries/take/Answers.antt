@@ -1,4 +1,4 @@
-use Rattle.std.proofs.Common.{ℕ, ◌<◌, Ok, ◌∙◌, sym, subst}
+use Rattle.std.proofs.Common.{ℕ, ◌<◌, Ok, ◌∙◌, refl, sym, subst}
 use Rattle.jade_meaning.specs.Plan.{RunPlan}
 use Rattle.object_table.specs.Views.{count_of}
 use Rattle.object_table.specs.Calls.{TakenAs}
@@ -6,6 +6,10 @@ use Rattle.object_table.specs.declared.answers.Taken.{Taken}
 use Rattle.task_machine.specs.declared.machine.Ask.TheVariants as ask
 use Rattle.task_suspend.specs.Ties.{Tied}
 use Rattle.task_suspend.proofs.Tying.{take_inside, take_next, supply_asks, took, kept_by, busy}
+use Rattle.jade_base.specs.declared.place.ObjectId.{ObjectId}
+use Rattle.jade_meaning.specs.Talk.{Take}
+use Rattle.object_table.specs.Calls.{IsBusy}
+use Rattle.task_suspend.specs.Tries.{Carried, carried, takes, Waits}
 use Rattle.task_suspend.proofs.tries.take.Goals as goal
 
 pub take-requires-clause-declared : goal.take-requires-clause-declared
@@ -39,8 +43,8 @@ supply-requires g c =
     supply_asks g.N.RunName.mark g.N.RunName.plan x.pass x.machine x.from x.events x.tied c.args.object c.args.mode c.requires.asked
     (c.stands.ensures (ask.Take c.args.object c.args.mode) c.requires.asked) c.in-Got.content q.shows (subst P c.in-Got.is c.in_ok-content.ensures.answer)
 
-pub invariant_of-result : goal.invariant_of-result
-invariant_of-result g c =
+pub invariant_of-capsule : goal.invariant_of-capsule
+invariant_of-capsule g c =
     let x = c.args.capsule in
     let q = c.take.new.pass in
     let b = c.supply.new.self in
@@ -53,8 +57,8 @@ invariant_of-result g c =
           (subst P c.in-Got.is c.in_ok-content.ensures.answer) c.supply.ensures.supplied c.supply.ensures.held);
     }
 
-pub invariant_of-result-in-NotYet : goal.invariant_of-result-in-NotYet
-invariant_of-result-in-NotYet g c =
+pub invariant_of-capsule-in-NotYet : goal.invariant_of-capsule-in-NotYet
+invariant_of-capsule-in-NotYet g c =
     let x = c.args.capsule in
     let q = c.take.new.pass in
     let P : Taken → Type 0 = λ r. TakenAs c.args.object.0 c.args.mode x.pass.shows (Ok r) q.shows in
@@ -63,12 +67,57 @@ invariant_of-result-in-NotYet g c =
           c.in_ok-content.ensures.mark (subst P c.in-NotYet.is c.in_ok-content.ensures.answer);
     }
 
-pub invariant_of-result-in-Busy : goal.invariant_of-result-in-Busy
-invariant_of-result-in-Busy g c =
+pub invariant_of-capsule-in-Busy : goal.invariant_of-capsule-in-Busy
+invariant_of-capsule-in-Busy g c =
     let x = c.args.capsule in
     let q = c.take.new.pass in
     let P : Taken → Type 0 = λ r. TakenAs c.args.object.0 c.args.mode x.pass.shows (Ok r) q.shows in
     record {
       tied = busy g.N.RunName.mark g.N.RunName.plan x.pass x.machine x.from x.events x.tied q c.in-Busy.field-0 c.args.object.0
           c.in_ok-content.ensures.mark (subst P c.in-Busy.is c.in_ok-content.ensures.answer);
+    }
+
+pub returns-in-Got : goal.returns-in-Got
+returns-in-Got g c =
+    let x = c.args.capsule in
+    let q = c.take.new.pass in
+    let P : Taken → Type 0 = λ r. TakenAs c.args.object.0 c.args.mode x.pass.shows (Ok r) q.shows in
+    takes (record {
+      object = c.args.object;
+      mode = c.args.mode;
+      asked = c.requires.asked;
+      content = c.in-Got.content;
+      took = subst P c.in-Got.is c.in_ok-content.ensures.answer;
+      answered = record { machine = c.supply.ensures.supplied; from = refl; events = c.in_ok-done.ensures; gate = refl };
+    })
+
+pub returns-in-NotYet : goal.returns-in-NotYet
+returns-in-NotYet g c =
+    let x = c.args.capsule in
+    let q = c.take.new.pass in
+    let P : Taken → Type 0 = λ r. TakenAs c.args.object.0 c.args.mode x.pass.shows (Ok r) q.shows in
+    let a : Carried = carried x in
+    let W : ObjectId → Type 0 = λ o. Waits o a (record { pass = q; machine = x.machine; from = x.from; events = x.events; gate = x.passed }) in
+    subst W (sym c.place.ensures) (record {
+      mode = c.args.mode;
+      asked = c.requires.asked;
+      keeper = c.in-NotYet.keeper;
+      kept = subst P c.in-NotYet.is c.in_ok-content.ensures.answer;
+      unmoved = record { machine = refl; from = refl; events = refl; gate = refl };
+    })
+
+pub returns-in-Busy : goal.returns-in-Busy
+returns-in-Busy g c =
+    let x = c.args.capsule in
+    let q = c.take.new.pass in
+    let P : Taken → Type 0 = λ r. TakenAs c.args.object.0 c.args.mode x.pass.shows (Ok r) q.shows in
+    let busy_so : IsBusy c.in-Busy.field-0 c.args.object.0 x.pass.shows q.shows = subst P c.in-Busy.is c.in_ok-content.ensures.answer in
+    record {
+      wanted = ask.Take c.args.object c.args.mode;
+      asked = c.requires.asked;
+      event = Take c.args.object.0 c.args.mode;
+      next = take_next g.N.RunName.mark g.N.RunName.plan x.pass x.machine x.from x.events x.tied c.args.object c.args.mode c.requires.asked
+          (c.stands.ensures (ask.Take c.args.object c.args.mode) c.requires.asked);
+      read = busy_so.after;
+      unmoved = record { machine = refl; from = refl; events = refl; gate = refl };
     }
