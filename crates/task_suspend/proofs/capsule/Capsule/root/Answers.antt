@@ -8,18 +8,18 @@ use Rattle.task_suspend.proofs.capsule.Capsule.root.Goals as goal
 
 pub root-requires-clause-numbers : goal.root-requires-clause-numbers
 root-requires-clause-numbers g c =
-    c.requires.given ∙ inputs_many c.args.compiled.now.program.items ∙ sym (ap (λ (x : TaskCode). x.inputs) c.code.ensures.code)
+    c.requires.given ∙ inputs_many c.args.compiled.now.program.items ∙ sym (ap (λ (x : TaskCode). x.inputs) c.decoded.ensures.code)
 
 pub invariant_of-result : goal.invariant_of-result
 invariant_of-result g c = record {
-  tied = rooted c.args.compiled.now.program c.code.result.now c.args.numbers.now c.args.limit c.code.ensures.code (c.code.ensures.follows c.args.limit)
+  tied = rooted c.args.compiled.now.program c.decoded.result.now c.args.numbers.now c.args.limit c.decoded.ensures.code (c.decoded.ensures.follows c.args.limit)
       (c.requires.given ∙ inputs_many c.args.compiled.now.program.items) g.N.RunName.mark g.N.RunName.plan c.args.pass c.in_ok-machine.machine c.requires.mark
       c.requires.shows c.requires.plan c.in_ok-machine.ensures.begins c.in_ok-machine.ensures.objects;
 }
 
 pub root-requires-clause-objects : goal.root-requires-clause-objects
 root-requires-clause-objects g c =
-    let count : c.objects-objects.result ≡ length c.code.result.now.sizes = c.objects-objects.ensures
-    ∙ ap (λ (p : CheckedProgram). length (sizes p.program.items)) c.checked.ensures ∙ sym (ap (λ (x : TaskCode). length x.sizes) c.code.ensures.code) in
+    let count : c.objects-objects.result ≡ length c.decoded.result.now.sizes = c.objects-objects.ensures
+    ∙ ap (λ (p : CheckedProgram). length (sizes p.program.items)) c.checked.ensures ∙ sym (ap (λ (x : TaskCode). length x.sizes) c.decoded.ensures.code) in
     let P : ℕ → Type 0 = λ n. n < 2 ^ 32 in
     subst P count c.objects-objects.type_inv
