@@ -19,7 +19,7 @@ passed_more (suc j) k v = ap touched (passed_more j k v) ∙ ap (λ i. passed i 
     plus_suc : (x y : ℕ) → suc (x + y) ≡ x + suc y
     plus_suc x y = omega arith
 
-both : (a b : Bool) → a ≡ true → b ≡ true → a && b ≡ true
+pub both : (a b : Bool) → a ≡ true → b ≡ true → a && b ≡ true
 both a b e f = ap (λ x. x && b) e ∙ f
 
 all_more : (j k : ℕ) (v : View) → all_touches k v ≡ true → all_touches j (passed k v) ≡ true → all_touches (k + j) v ≡ true
@@ -49,7 +49,7 @@ touch_done (Leave o ∷ es) v e = absurd (cc)
 touch_done (Shift o a ∷ es) v e = absurd (cc)
 touch_done (Resign b m ∷ es) v e = absurd (cc)
 
-passed_done : (k : ℕ) (v : View) → all_touches k v ≡ true → (passed k v).seat.walker.done ≡ v.seat.walker.done + k
+pub passed_done : (k : ℕ) (v : View) → all_touches k v ≡ true → (passed k v).seat.walker.done ≡ v.seat.walker.done + k
 passed_done zero v a = plus_zero v.seat.walker.done
   where
     plus_zero : (x : ℕ) → x ≡ x + 0

@@ -8,7 +8,7 @@ pub mod Acting
 mod Running
 pub mod Executing
 mod Filling
-mod Telling
+pub mod Telling
 mod Left
 mod Tables
 mod Marks

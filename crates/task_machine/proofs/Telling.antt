@@ -85,7 +85,7 @@ for_writing_is Reading h x e = absurd (none-some x e)
 for_writing_is Writing h x e = same_Some h x e
 for_writing_is Commuting h x e = same_Some h x e
 
-held_to_write : (w : Option Held) (x : Held) → writable w ≡ Some x → w ≡ Some x
+pub held_to_write : (w : Option Held) (x : Held) → writable w ≡ Some x → w ≡ Some x
 held_to_write None x e = e
 held_to_write (Some h) x e = ap Some (for_writing_is h.mode h x e)
 

@@ -47,13 +47,12 @@ use Rattle.object_table.specs.Views.{View}
 use Rattle.object_table.specs.Touches.{held_at, put_held, cells_of, touches_first, touched_first, touched, touch_next, passed, all_touches}
 use Rattle.object_table.proofs.Lists.{held_here, held_else}
 use Rattle.object_table.proofs.Touching.{and_left, and_right}
+use Rattle.object_table.proofs.Passing.{both}
 use Rattle.task_machine.specs.Playing.{Contents, Played, with_cell, put_in, where_held, writable, for_writing, cell_of, counted, played, touches}
 use Rattle.task_machine.specs.Telling.{Agrees}
+use Rattle.task_machine.proofs.Telling.{no_take, same_holds, kept_fit, held_to_write}
 use Rattle.task_suspend.specs.Ties.{to_go}
 use Rattle.task_suspend.proofs.Walking.{upcoming_is, moved_on, answered}
-
-both : (a b : Bool) → a ≡ true → b ≡ true → a && b ≡ true
-both a b e f = ap (λ x. x && b) e ∙ f
 
 -- one touch at the front
 passed_first : (t : ℕ) (v : View) → passed (suc t) v ≡ passed t (touched v)
@@ -66,73 +65,6 @@ all_first (suc t) v e h =
     both (all_touches (suc t) v) (touch_next (passed (suc t) v))
     (all_first t v e (and_left (all_touches t (touched v)) (touch_next (passed t (touched v))) h))
     (ap touch_next (passed_first t v) ∙ and_right (all_touches t (touched v)) (touch_next (passed t (touched v))) h)
-
-touch_done : (l : List Event) (v : View) → touches_first l ≡ true → (touched_first l v).seat.walker.done ≡ suc v.seat.walker.done
-touch_done [] v e = absurd (cc)
-touch_done (Wants o c ∷ es) v e = refl
-touch_done (TouchWrite o c x ∷ es) v e = refl
-touch_done (TouchRead o c x ∷ es) v e = absurd (cc)
-touch_done (Enter o a ∷ es) v e = absurd (cc)
-touch_done (Enroll t m ∷ es) v e = absurd (cc)
-touch_done (Take o m ∷ es) v e = absurd (cc)
-touch_done (Give o ∷ es) v e = absurd (cc)
-touch_done (Leave o ∷ es) v e = absurd (cc)
-touch_done (Shift o a ∷ es) v e = absurd (cc)
-touch_done (Resign b m ∷ es) v e = absurd (cc)
-
--- each touch is one event done
-pub passed_done : (t : ℕ) (v : View) → all_touches t v ≡ true → (passed t v).seat.walker.done ≡ v.seat.walker.done + t
-passed_done zero v a = plus_zero v.seat.walker.done
-  where
-    plus_zero : (x : ℕ) → x ≡ x + 0
-    plus_zero x = omega arith
-passed_done (suc t) v a =
-    touch_done (upcoming (passed t v).seat.walker) (passed t v) (and_right (all_touches t v) (touch_next (passed t v)) a)
-    ∙ ap suc (passed_done t v (and_left (all_touches t v) (touch_next (passed t v)) a)) ∙ plus_suc v.seat.walker.done t
-  where
-    plus_suc : (x y : ℕ) → suc (x + y) ≡ x + suc y
-    plus_suc x y = omega arith
-
--- what is held agrees, and stays so
-set_same : (h : Holds) (o : ℕ) → slice_set h o (slice_index_or h o None) ≡ h
-set_same [] o = refl
-set_same (x ∷ h) zero = refl
-set_same (x ∷ h) (suc o) = ap (λ l. x ∷ l) (set_same h o)
-
-module _ (spec : Specification) (h : Holds) (k : Contents) (fit : Agrees spec h k) (o : ℕ) (x : Held) (e : k o ≡ Some x) where
-  no_take : first_take spec h o ≡ []
-  no_take = ap (λ m. if is_none m then take_in (mode_of (rights_on spec o)) o else []) (fit.holds o x e)
-
-  same_holds : touched_holds spec h o ≡ h
-  same_holds = ap (slice_set h o) (fit.rights o x e ∙ sym (fit.holds o x e)) ∙ set_same h o
-
-module _ (spec : Specification) (h : Holds) (k : Contents) (o c : ℕ) (v : ℤ) (fit : Agrees spec h k) where
-  abbrev Fits : ℕ → Option Held → Type 0
-  Fits j w = (x : Held) → w ≡ Some x → (held h j ≡ Some x.mode) × (mode_of (rights_on spec j) ≡ Some x.mode)
-
-  put_fits : (j : ℕ) (w : Option Held) → Fits j w → Fits j (put_in c v w)
-  put_fits j None f x e = absurd (none-some x e)
-  put_fits j (Some old) f x e =
-      let m = ap (λ (y : Held). Some y.mode) (same_Some _ x e) in let g = f old refl in (g.0 ∙ m, g.1 ∙ m)
-
-  either_fits : (t : Bool) (j : ℕ) → Fits j (if t then put_in c v (k j) else k j)
-  either_fits true j = put_fits j (k j) (λ x e. (fit.holds j x e, fit.rights j x e))
-  either_fits false j = λ x e. (fit.holds j x e, fit.rights j x e)
-
-  kept_fit : Agrees spec h (with_cell o c v k)
-  kept_fit = record {
-    holds = λ j x e. (either_fits (nat_eq j o) j x e).0;
-    rights = λ j x e. (either_fits (nat_eq j o) j x e).1;
-  }
-
-for_writing_is : (m : Mode) (h x : Held) → for_writing m h ≡ Some x → h ≡ x
-for_writing_is Reading h x e = absurd (none-some x e)
-for_writing_is Writing h x e = same_Some h x e
-for_writing_is Commuting h x e = same_Some h x e
-
-held_to_write : (w : Option Held) (x : Held) → writable w ≡ Some x → w ≡ Some x
-held_to_write None x e = e
-held_to_write (Some h) x e = ap Some (for_writing_is h.mode h x e)
 
 -- a write changes by the pass what it changes by the machine
 same_put : (c : ℕ) (v : ℤ) (w : Option Held) → content_with c v w ≡ put_in c v w

@@ -31,7 +31,8 @@ use Rattle.task_suspend.specs.Ties.{Tied, to_go}
 use Rattle.task_suspend.specs.Tries.{ending, place_of}
 use Rattle.task_suspend.proofs.Walking.{next_is, moved_on, child_is, child_to_do}
 use Rattle.object_table.proofs.Touching.{passed_same}
-use Rattle.task_suspend.proofs.Touching.{comes_on, passed_done}
+use Rattle.object_table.proofs.Passing.{passed_done}
+use Rattle.task_suspend.proofs.Touching.{comes_on}
 
 -- what is left while an ask stands is what is left
 left_stands : (y : Ask) (b : Asking) → Stands y b → (vs : List ℤ) → left b.at vs ≡ left_from 0 (Some y) b.at vs
