@@ -44,10 +44,10 @@ set_same (x ∷ h) zero = refl
 set_same (x ∷ h) (suc o) = ap (λ l. x ∷ l) (set_same h o)
 
 module _ (spec : Specification) (h : Holds) (k : Contents) (fit : Agrees spec h k) (o : ℕ) (x : Held) (e : k o ≡ Some x) where
-  no_take : first_take spec h o ≡ []
+  pub no_take : first_take spec h o ≡ []
   no_take = ap (λ m. if is_none m then take_in (mode_of (rights_on spec o)) o else []) (fit.holds o x e)
 
-  same_holds : touched spec h o ≡ h
+  pub same_holds : touched spec h o ≡ h
   same_holds = ap (slice_set h o) (fit.rights o x e ∙ sym (fit.holds o x e)) ∙ set_same h o
 
 module _ (spec : Specification) (h : Holds) (k : Contents) (o c : ℕ) (v : ℤ) (fit : Agrees spec h k) where
@@ -63,7 +63,7 @@ module _ (spec : Specification) (h : Holds) (k : Contents) (o c : ℕ) (v : ℤ)
   either_fits true j = put_fits j (k j) (λ x e. (fit.holds j x e, fit.rights j x e))
   either_fits false j = λ x e. (fit.holds j x e, fit.rights j x e)
 
-  kept_fit : Agrees spec h (with_cell o c v k)
+  pub kept_fit : Agrees spec h (with_cell o c v k)
   kept_fit = record {
     holds = λ j x e. (either_fits (nat_eq j o) j x e).0;
     rights = λ j x e. (either_fits (nat_eq j o) j x e).1;
