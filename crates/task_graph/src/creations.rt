@@ -1,0 +1,152 @@
+//! The lines on which the tasks of a serial run are created.
+
+use crate::stop::Stop;
+use crate::store::Store;
+use access_spec::mode_of;
+use code_meaning::Body;
+use code_meaning::code::Instruction;
+use jade_base::ObjectId;
+use std::alloc::Global;
+use std::mem;
+use task_codegen::Compiled;
+use task_machine::{Execution, Pause};
+
+/// A task whose code is run, and the objects that it has taken.
+#[derive(Drop)]
+struct Level<'c> {
+    execution: Execution<'c>,
+    taken: Vec<ObjectId>,
+}
+
+/// What comes of one pause.
+#[derive(Drop)]
+enum Going<'c> {
+    On,
+    Ended,
+    /// A child with the body of this number begins.
+    Child(u32, Execution<'c>),
+}
+
+/// The line of the `withonly` that creates tasks with the body of this number; 0 where there is none.
+fn line_of(bodies: &[Body], number: u32) -> u32 {
+    for i in 0..bodies.len() {
+        let body = &bodies[i];
+        for place in 0..body.code.len() {
+            match body.code[place] {
+                Instruction::Create(created, pos) if created == number => return pos.line,
+                _ => {}
+            }
+        }
+    }
+    0
+}
+
+/// The task of an execution that has taken nothing.
+fn begun<'c>(alloc: Global, execution: Execution<'c>) -> Level<'c> {
+    Level {
+        execution,
+        taken: Vec::new(alloc),
+    }
+}
+
+/// What a task has taken goes back to the store.
+fn give_back(level: &mut Level, store: &mut Store) {
+    for place in 0..level.taken.len() {
+        let object = level.taken[place];
+        match level.execution.surrender(object) {
+            Some(content) => store.put(object, content),
+            None => {}
+        }
+    }
+    level.taken.clear();
+}
+
+/// An object is taken, as the rights of the task say.
+fn take(
+    alloc: Global,
+    execution: &mut Execution,
+    store: &mut Store,
+    object: ObjectId,
+) -> Result<(), Stop> {
+    let Some(mode) = mode_of(execution.rights(object)) else {
+        return Err(Stop::Failed);
+    };
+    let content = store.take(alloc, object, mode)?;
+    execution.supply(object, content);
+    Ok(())
+}
+
+/// Runs the code of a task to its next pause, and past it.
+fn go_on<'c>(alloc: Global, level: &mut Level<'c>, store: &mut Store) -> Result<Going<'c>, Stop> {
+    match level.execution.advance() {
+        Pause::Declare(object, rights) => level.execution.declare(alloc, object, rights)?,
+        Pause::Take(number) => {
+            let object = ObjectId(number as u32);
+            take(alloc, &mut level.execution, store, object)?;
+            level.taken.push(object)?;
+        }
+        Pause::Create(number) => {
+            let child = level.execution.child(alloc, number)?;
+            give_back(level, store);
+            return Ok(Going::Child(number, child));
+        }
+        Pause::Change => {
+            level.execution.change();
+            give_back(level, store);
+        }
+        Pause::End => {
+            give_back(level, store);
+            return Ok(Going::Ended);
+        }
+        Pause::Fault(_) => return Err(Stop::Fault),
+        Pause::Other => return Err(Stop::Failed),
+    }
+    Ok(Going::On)
+}
+
+/// Runs the tasks from the root on, and notes the line of each creation.
+fn run(
+    alloc: Global,
+    bodies: &[Body],
+    root: Execution,
+    store: &mut Store,
+) -> Result<Vec<u32>, Stop> {
+    let mut lines = Vec::new(alloc);
+    let mut waiting = Vec::new(alloc);
+    let mut level = begun(alloc, root);
+    for _ in 0..u64::MAX {
+        match go_on(alloc, &mut level, store)? {
+            Going::On => {}
+            Going::Ended => match waiting.pop() {
+                Some(parent) => level = parent,
+                None => break,
+            },
+            Going::Child(number, child) => {
+                lines.push(line_of(bodies, number))?;
+                let parent = mem::replace(&mut level, begun(alloc, child));
+                if waiting.push(parent).is_err() {
+                    return Err(Stop::Failed);
+                }
+            }
+        }
+    }
+    Ok(lines)
+}
+
+/// The line of the `withonly` of each task but the root, in the order in which a serial run creates
+/// them.
+pub(crate) fn lines_of_creations(
+    alloc: Global,
+    compiled: &Compiled,
+    numbers: &[i64],
+    limit: u32,
+) -> Result<Vec<u32>, Stop> {
+    let checked = compiled.checked();
+    if numbers.len() != checked.inputs() as usize {
+        return Err(Stop::Words);
+    }
+    let mut store = Store::whole(alloc, checked)?;
+    let code = compiled.code();
+    let root = Execution::root(alloc, code, numbers, limit)?;
+    run(alloc, &code.raw().bodies, root, &mut store)
+}
