@@ -190,8 +190,8 @@ class Graph:
         else:
             side = self.wide if begin_x + self.wide / 2 < x else 0
             begin_x += side
-            out = begin_x + (GUTTER if side else -GUTTER)
-            way = f"M{begin_x:.1f} {begin_y:.1f} C{out:.1f} {begin_y:.1f} {x:.1f} {top - 14:.1f} {x:.1f} {top:.1f}"
+            out = begin_x + (GUTTER / 2 if side else -GUTTER / 2)
+            way = f"M{begin_x:.1f} {begin_y:.1f} H{out:.1f} V{top - 8:.1f} H{x:.1f} V{top:.1f}"
             self.picture.dot(begin_x, begin_y, RED if arrow.on_chain else GREY)
         colour, thick = (RED, 2) if arrow.on_chain else (GREY, 1.2)
         self.picture.path(way + f" V{y:.1f}", colour, thick, "5 3" if reads else "", True)
@@ -228,7 +228,7 @@ def main():
     if len(tasks.tasks) > MOST_TASKS:
         sys.stderr.write(f"{tasks.verdict()}\nmore than {MOST_TASKS} tasks are not drawn\n")
         return 0
-    sys.stdout.write(Graph(tasks).draw(words))
+    sys.stdout.buffer.write(Graph(tasks).draw(words).encode())
     return 0
 
 

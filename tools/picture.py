@@ -36,7 +36,7 @@ class Picture:
     def path(self, way, colour, thick=1, dashes="", head=False):
         dash = f' stroke-dasharray="{dashes}"' if dashes else ""
         end = ' marker-end="url(#%s)"' % ("red" if colour == RED else "head") if head else ""
-        self.shapes.append(f'<path d="{way}" fill="none" stroke="{colour}" stroke-width="{thick}"{dash}{end}/>')
+        self.shapes.append(f'<path d="{way}" fill="none" stroke="{colour}" stroke-width="{thick}" stroke-linejoin="round"{dash}{end}/>')
 
     def dot(self, x, y, colour):
         self.shapes.append(f'<circle cx="{x:.1f}" cy="{y:.1f}" r="2.5" fill="{colour}"/>')

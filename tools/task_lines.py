@@ -158,8 +158,8 @@ class Tasks:
             task.waits[source] = len(task.waits)
         if not news and begin == arrival:
             return
-        if task.group is None:
-            self.begin_box(task, arrival)
+        if task.group is None and self.begin_box(task, arrival):
+            begin = max(begin, (arrival[0], arrival[1] + 1))
         box = task.boxes[-1]
         if begin[0] > arrival[0]:
             latest = max(others, key=lambda s: s.moment)
@@ -169,12 +169,13 @@ class Tasks:
             self.add_arrow(box, source, number)
 
     def begin_box(self, task, arrival):
+        """What a task does after a wait goes to a box of its own; whether that is another than its first."""
         last = task.boxes[-1]
-        if len(task.boxes) == 1 and not last.steps and len(task.asks) == self.takes_first(task):
-            task.group = last
-            return
-        task.boxes.append(Box(arrival, (task, arrival)))
+        is_first = len(task.boxes) == 1 and not last.steps and len(task.asks) == self.takes_first(task)
+        if not is_first:
+            task.boxes.append(Box(arrival, (task, arrival)))
         task.group = task.boxes[-1]
+        return not is_first
 
     def takes_first(self, task):
         """How many takes a task begins with."""

@@ -13,6 +13,7 @@ comes to its ask until the last task that keeps it from the object comes to the 
 then on it is ready; when a worker goes on with it shows only at its next ask, so it is drawn as running
 from the first time when a worker is free, by the other tasks, and no sooner.
 """
+import bisect
 import sys
 
 from graph import MOST_TASKS, lines_of, refuse, run
@@ -21,9 +22,6 @@ from task_lines import Tasks, told
 
 # The width of the time, of the names to its left, the heights of a row and of the busy share, the room above.
 WIDE, NAMES, ROW, SHARE, TOP = 860, 150, 20, 56, 74
-
-# A wait of fewer nanoseconds is none.
-NO_WAIT = 20_000
 
 COLOURS = {"waits": "#f5c26b", "ready": "#d9dce3", "runs": "#4f8a8b"}
 
@@ -74,23 +72,24 @@ class Times:
             if ask[0] == "take":
                 free = max([now] + [self.at(source.task, source.ask) for source in ask[3]])
                 after = self.at(task, place + 1)
-                if free - now >= NO_WAIT and free <= after:
+                if now < free <= after:
                     self.stretches.append(Stretch(task, ready, begin, now))
                     self.waits.append((task, now, free, ask[1]))
                     ready, begin = free, None
         self.stretches.append(Stretch(task, ready, begin, self.at(task, len(task.asks) - 1)))
 
     def give_workers(self):
-        """When each stretch begins, where that is not known: as soon as a worker is free."""
-        free = [0] * self.workers
-        for stretch in sorted(self.stretches, key=lambda s: s.end):
-            place = min(range(len(free)), key=lambda w: free[w])
-            if stretch.begin is None:
-                stretch.begin = min(stretch.end, max(stretch.ready, free[place]))
-            else:
-                fits = [w for w in range(len(free)) if free[w] <= stretch.begin]
-                place = max(fits, key=lambda w: free[w], default=place)
-            free[place] = stretch.end
+        """When each stretch begins, where that is not known: as soon as a worker is free until its end."""
+        crew = [[(-1, 0)] for _ in range(self.workers)]
+        for stretch in sorted((s for s in self.stretches if s.begin is not None), key=lambda s: s.begin):
+            last = max(crew, key=lambda times: (times[-1][1] <= stretch.begin, times[-1][1]))
+            last.append((stretch.begin, stretch.end))
+        for stretch in sorted((s for s in self.stretches if s.begin is None), key=lambda s: s.end):
+            places = [bisect.bisect_left(times, (stretch.end,)) for times in crew]
+            free = [max(stretch.ready, times[place - 1][1]) for times, place in zip(crew, places)]
+            worker = min(range(self.workers), key=lambda w: free[w])
+            stretch.begin = min(stretch.end, free[worker])
+            crew[worker].insert(places[worker], (stretch.begin, stretch.end))
 
     def busy(self):
         """How many tasks run from each time on."""
@@ -206,7 +205,7 @@ def main():
     if len(times.tasks.tasks) > MOST_TASKS:
         sys.stderr.write(f"{times.verdict()}\nmore than {MOST_TASKS} tasks are not drawn\n")
         return 0
-    sys.stdout.write(TimePicture(times, words).svg())
+    sys.stdout.buffer.write(TimePicture(times, words).svg().encode())
     return 0
 
 
