@@ -54,7 +54,7 @@ class Picture:
         wide, high = int(self.wide + 20), int(self.high + 16)
         heads = "".join(
             f'<marker id="{name}" viewBox="0 0 8 8" refX="7" refY="4" markerWidth="7" markerHeight="7" '
-            f'orient="auto"><path d="M0 0 L8 4 L0 8 z" fill="{colour}"/></marker>'
+            f'orient="auto"><path d="M0 0 8 4 0 8z" fill="{colour}"/></marker>'
             for name, colour in (("head", GREY), ("red", RED))
         )
         return (

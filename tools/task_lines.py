@@ -35,7 +35,7 @@ class Box:
         self.begin, self.end, self.steps = begin, begin, 0
         # The task and the moment that it comes directly after; the arrows that lead to it; and up to
         # which moment it lies on the longest chain, if it does.
-        self.cause, self.arrows, self.chain = cause, [], None
+        self.cause, self.arrows, self.chain, self.by_task = cause, [], None, {}
 
 
 class Arrow:
@@ -84,6 +84,8 @@ class Tasks:
 
     def __init__(self, lines):
         self.names, self.tasks, self.by_path = {}, [], {}
+        # All asks in the order of the lines: the task, and the number of its ask.
+        self.asks = []
         # By object and mode: the sources that a take in this mode waits for, but those that another of
         # them has waited for.
         self.front = {}
@@ -111,6 +113,7 @@ class Tasks:
             task.moment = (task.moment[0] + more, 0)
             task.boxes[-1].steps += more
         task.boxes[-1].end = max(task.moment, task.boxes[-1].end)
+        self.asks.append((task, len(task.asks)))
         task.asks.append(ask)
         return task
 
@@ -135,7 +138,7 @@ class Tasks:
     def read_take(self, path, steps, number, mode):
         task = self.go_on(path, steps, ("take", number, mode))
         entry = self.entry(task, number)
-        sources = self.front.setdefault((number, mode), [])
+        sources = self.front.setdefault((number, mode), {})
         entry.waited += sources
         others = [s for s in sources if not self.is_above(s.task, task)]
         news = [s for s in others if not task.has_waited(s)]
@@ -186,23 +189,24 @@ class Tasks:
 
     def add_arrow(self, box, source, number):
         """An arrow to a box; where one comes from the same task already, the later source counts."""
-        for arrow in box.arrows:
-            if arrow.source.task is source.task:
-                if arrow.source.moment == source.moment:
-                    arrow.objects.append(number)
-                elif arrow.source.moment < source.moment:
-                    arrow.source, arrow.objects = source, [number]
-                return
-        box.arrows.append(Arrow(source, [number]))
+        arrow = box.by_task.get(source.task)
+        if not arrow:
+            box.by_task[source.task] = Arrow(source, [number])
+            box.arrows.append(box.by_task[source.task])
+        elif arrow.source.moment == source.moment:
+            arrow.objects.append(number)
+        elif arrow.source.moment < source.moment:
+            arrow.source, arrow.objects = source, [number]
 
     def release(self, task, number, entry, for_writing, for_reading, is_end):
         """An entry has changed: where it kept others from a take before and does no more, from here on."""
         source = Source(task, task.moment, len(task.asks) - 1, is_end)
         for mode, before in (("writing", for_writing), ("reading", for_reading)):
             if before and not entry.conflicts(mode):
-                waited = set(entry.waited)
-                front = self.front.setdefault((number, mode), [])
-                front[:] = [s for s in front if s not in waited] + [source]
+                front = self.front.setdefault((number, mode), {})
+                for other in entry.waited:
+                    front.pop(other, None)
+                front[source] = None
 
     def shift(self, task, number, rights, is_end):
         entry = self.entry(task, number)

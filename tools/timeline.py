@@ -53,7 +53,9 @@ class Times:
                 self.over = int(rest[0])
         self.first = min(self.notes.values(), default=0)
         self.over -= self.first
-        self.waits, self.stretches, self.begun = [], [], {}
+        self.waits, self.stretches, self.begun, self.done = [], [], {}, {}
+        for task, place in tasks.asks:
+            self.done[task, place] = self.free_at(task, place)
         for task in tasks.tasks:
             self.follow(task)
         self.give_workers()
@@ -61,6 +63,12 @@ class Times:
     def at(self, task, ask):
         """When a task came to an ask."""
         return self.notes.get((task.path, ask), self.first + self.over) - self.first
+
+    def free_at(self, task, place):
+        """When a task had what it asked for: at once, but where others keep it from an object."""
+        ask = task.asks[place]
+        sources = ask[3] if ask[0] == "take" else []
+        return max([self.at(task, place)] + [self.done[source.task, source.ask] for source in sources])
 
     def follow(self, task):
         """The waits of a task, and its stretches between them."""
@@ -70,7 +78,7 @@ class Times:
             if ask[0] == "create":
                 self.begun[ask[1]] = now
             if ask[0] == "take":
-                free = max([now] + [self.at(source.task, source.ask) for source in ask[3]])
+                free = self.done[task, place]
                 after = self.at(task, place + 1)
                 if now < free <= after:
                     self.stretches.append(Stretch(task, ready, begin, now))
