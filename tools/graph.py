@@ -86,7 +86,7 @@ class Graph:
         after = {}
         moments = set()
         for task, box in self.boxes:
-            moments |= {box.begin, box.end, task.created}
+            moments |= {box.begin, box.end, box.chain or box.begin}
             after.setdefault(box.end, []).append((box.begin, LEAST))
             if box is not task.boxes[0]:
                 last = task.boxes[task.boxes.index(box) - 1]
@@ -115,13 +115,14 @@ class Graph:
                 if arrow.source.is_end:
                     leaving.setdefault(arrow.source.task, []).append((self.down[box.begin], task))
         root = self.tasks.tasks[0]
-        for task in sorted(self.tasks.tasks, key=lambda t: (self.down[t.created], t is not root)):
+        for task in sorted(self.tasks.tasks, key=lambda t: (self.down[t.boxes[0].begin], t is not root)):
             first = task.boxes[0]
-            top = min(self.down[task.created], self.down[first.begin] - self.stack(first) - 6)
+            top = self.down[first.begin] - self.stack(first) - 6
             place = 0
             while place < len(columns) and not self.is_free(columns[place], task, top):
                 place += 1
-            columns[place : place + 1] = [(self.bottom(task.boxes[-1]) + 8, leaving.get(task, []))]
+            end = self.bottom(task.boxes[-1]) + 8 if task is not root else float("inf")
+            columns[place : place + 1] = [(end, leaving.get(task, []))]
             self.column[task] = LEFT + place * (self.wide + GUTTER)
 
     def is_free(self, column, task, top):
@@ -146,9 +147,9 @@ class Graph:
         return self.picture.svg()
 
     def draw_waiting(self, task):
-        """A thin line where a task is there, and waits."""
+        """A thin line where a task has begun, and waits."""
         x = self.column[task] + 4
-        begin, end = self.down[task.created], self.down[task.boxes[-1].begin]
+        begin, end = self.down[task.boxes[0].begin], self.down[task.boxes[-1].begin]
         if end > begin:
             self.picture.path(f"M{x:.1f} {begin:.1f} V{end:.1f}", "#aab", 1, "1 3")
 
@@ -158,7 +159,7 @@ class Graph:
         tip = f"{told(task)}: from {box.begin[0]} to {box.end[0]} steps"
         self.picture.box(x, y, self.wide, end - y, fill, "#889", 1, tip)
         if box.chain:
-            upto = end if box.chain == box.end else self.down.get(box.chain, end)
+            upto = end if box.chain == box.end else self.down[box.chain]
             self.picture.box(x, y, 4, max(upto - y, 3), RED)
         for place, text in enumerate(box_texts(task, box)):
             self.picture.text(x + 9, y + 14 + place * LINE, short(text, self.wide - 10), bold=not place)

@@ -53,7 +53,8 @@ class Picture:
     def svg(self):
         wide, high = int(self.wide + 20), int(self.high + 16)
         heads = "".join(
-            f'<marker id="{name}" viewBox="0 0 8 8" refX="7" refY="4" markerWidth="7" markerHeight="7" '
+            f'<marker id="{name}" viewBox="0 0 8 8" refX="7" refY="4" markerWidth="9" markerHeight="9" '
+            f'markerUnits="userSpaceOnUse" '
             f'orient="auto"><path d="M0 0 8 4 0 8z" fill="{colour}"/></marker>'
             for name, colour in (("head", GREY), ("red", RED))
         )
