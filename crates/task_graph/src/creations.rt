@@ -8,6 +8,7 @@ use code_meaning::code::Instruction;
 use jade_base::ObjectId;
 use std::alloc::Global;
 use std::mem;
+use task_code::Code;
 use task_codegen::Compiled;
 use task_machine::{Execution, Pause};
 
@@ -133,6 +134,23 @@ fn run(
     Ok(lines)
 }
 
+/// The execution of the root.
+fn root_of<'c>(
+    alloc: Global,
+    code: &'c Code,
+    numbers: &'c [i64],
+    limit: u32,
+) -> Result<Execution<'c>, Stop> {
+    let raw = code.raw();
+    if numbers.len() != raw.inputs as usize {
+        return Err(Stop::Words);
+    }
+    if raw.sizes.len() > u32::MAX as usize {
+        return Err(Stop::Failed);
+    }
+    Ok(Execution::root(alloc, code, numbers, limit)?)
+}
+
 /// The line of the `withonly` of each task but the root, in the order in which a serial run creates
 /// them.
 pub(crate) fn lines_of_creations(
@@ -141,12 +159,7 @@ pub(crate) fn lines_of_creations(
     numbers: &[i64],
     limit: u32,
 ) -> Result<Vec<u32>, Stop> {
-    let checked = compiled.checked();
-    if numbers.len() != checked.inputs() as usize {
-        return Err(Stop::Words);
-    }
-    let mut store = Store::whole(alloc, checked)?;
-    let code = compiled.code();
-    let root = Execution::root(alloc, code, numbers, limit)?;
-    run(alloc, &code.raw().bodies, root, &mut store)
+    let mut store = Store::whole(alloc, compiled.checked())?;
+    let root = root_of(alloc, compiled.code(), numbers, limit)?;
+    run(alloc, &compiled.code().raw().bodies, root, &mut store)
 }

@@ -14,7 +14,7 @@ use crate::creations::lines_of_creations;
 use crate::stop::Stop;
 use crate::told::tell_objects;
 use crate::walk::tell_tasks;
-use crate::words::{Given, given};
+use crate::words::{Words, given};
 use jade_base::{StdSource, read_text};
 use jade_lexer::tokens;
 use jade_parser::parse;
@@ -37,7 +37,7 @@ fn checked(alloc: Global, text: &[u8]) -> Option<Checked> {
 /// Prints all of the program on standard input.
 fn tell_all(rt: &HostRuntime) -> Result<(), Stop> {
     let alloc = rt.alloc();
-    let Given { limit, numbers } = given(rt, alloc)?;
+    let Words { limit, numbers } = given(rt, alloc)?;
     let mut source = StdSource::new(rt.stdin());
     let Ok(text) = read_text(alloc, &mut source) else {
         return Err(Stop::Text);

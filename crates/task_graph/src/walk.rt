@@ -5,6 +5,7 @@ use crate::store::Store;
 use crate::told::{tell_ask, tell_declarations};
 use std::alloc::Global;
 use std::mem;
+use task_code::Code;
 use task_codegen::Compiled;
 use task_machine::{Ask, Machine};
 
@@ -144,6 +145,23 @@ fn run<'c>(
     Ok(())
 }
 
+/// The machine of the root.
+fn root_of<'c>(
+    alloc: Global,
+    code: &'c Code,
+    numbers: &'c [i64],
+    limit: u32,
+) -> Result<Machine<'c>, Stop> {
+    let raw = code.raw();
+    if numbers.len() != raw.inputs as usize {
+        return Err(Stop::Words);
+    }
+    if raw.sizes.len() > u32::MAX as usize {
+        return Err(Stop::Failed);
+    }
+    Ok(Machine::root(alloc, code, numbers, limit)?)
+}
+
 /// Prints the tasks of a serial run. The lines are those of the `withonly` of each task but the root,
 /// in the order of their creation.
 pub(crate) fn tell_tasks(
@@ -153,13 +171,8 @@ pub(crate) fn tell_tasks(
     limit: u32,
     lines: &[u32],
 ) -> Result<(), Stop> {
-    let checked = compiled.checked();
-    if numbers.len() != checked.inputs() as usize {
-        return Err(Stop::Words);
-    }
-    let mut store = Store::whole(rt.alloc(), checked)?;
-    let _objects = checked.objects();
-    let root = Machine::root(rt.alloc(), compiled.code(), numbers, limit)?;
+    let mut store = Store::whole(rt.alloc(), compiled.checked())?;
+    let root = root_of(rt.alloc(), compiled.code(), numbers, limit)?;
     let mut creations = Creations { lines, made: 0 };
     run(rt, root, &mut store, &mut creations)
 }

@@ -14,7 +14,7 @@ const MOST_WORDS: usize = 65;
 
 /// What the words give: the most steps of a task, and the numbers for the inputs.
 #[derive(Drop)]
-pub(crate) struct Given {
+pub(crate) struct Words {
     pub(crate) limit: u32,
     pub(crate) numbers: Vec<i64>,
 }
@@ -53,7 +53,7 @@ fn number_of(word: &Word) -> Result<i64, Stop> {
 }
 
 /// What the words LIMIT NUMBER* give.
-pub(crate) fn given<E: Env>(system: &E, alloc: Global) -> Result<Given, Stop> {
+pub(crate) fn given<E: Env>(system: &E, alloc: Global) -> Result<Words, Stop> {
     let Some(word) = argument(system, alloc, 1)? else {
         return Err(Stop::Words);
     };
@@ -65,5 +65,5 @@ pub(crate) fn given<E: Env>(system: &E, alloc: Global) -> Result<Given, Stop> {
             None => break,
         }
     }
-    Ok(Given { limit, numbers })
+    Ok(Words { limit, numbers })
 }
