@@ -23,6 +23,8 @@ struct Level<'c> {
 #[derive(Drop)]
 enum Going<'c> {
     On,
+    /// Its rights have changed.
+    Changed,
     Ended,
     /// A child with the body of this number begins.
     Child(u32, Execution<'c>),
@@ -77,32 +79,38 @@ fn take(
     Ok(())
 }
 
-/// Runs the code of a task to its next pause, and past it.
-fn go_on<'c>(alloc: Global, level: &mut Level<'c>, store: &mut Store) -> Result<Going<'c>, Stop> {
-    match level.execution.advance() {
-        Pause::Declare(object, rights) => level.execution.declare(alloc, object, rights)?,
+/// Runs the code of a task to its next pause, and past it. Where it pauses for an object, that is
+/// taken, and noted.
+fn go_on<'c>(
+    alloc: Global,
+    execution: &mut Execution<'c>,
+    store: &mut Store,
+    taken: &mut Vec<ObjectId>,
+) -> Result<Going<'c>, Stop> {
+    let pause = execution.advance();
+    match pause {
+        Pause::Declare(object, rights) => {
+            execution.declare(alloc, object, rights)?;
+            Ok(Going::On)
+        }
         Pause::Take(number) => {
             let object = ObjectId(number as u32);
-            take(alloc, &mut level.execution, store, object)?;
-            level.taken.push(object)?;
+            take(alloc, execution, store, object)?;
+            taken.push(object)?;
+            Ok(Going::On)
         }
         Pause::Create(number) => {
-            let child = level.execution.child(alloc, number)?;
-            give_back(level, store);
-            return Ok(Going::Child(number, child));
+            let child = execution.child(alloc, number)?;
+            Ok(Going::Child(number, child))
         }
         Pause::Change => {
-            level.execution.change();
-            give_back(level, store);
+            execution.change();
+            Ok(Going::Changed)
         }
-        Pause::End => {
-            give_back(level, store);
-            return Ok(Going::Ended);
-        }
-        Pause::Fault(_) => return Err(Stop::Fault),
-        Pause::Other => return Err(Stop::Failed),
+        Pause::End => Ok(Going::Ended),
+        Pause::Fault(_) => Err(Stop::Fault),
+        Pause::Other => Err(Stop::Failed),
     }
-    Ok(Going::On)
 }
 
 /// Runs the tasks from the root on, and notes the line of each creation.
@@ -116,13 +124,19 @@ fn run(
     let mut waiting = Vec::new(alloc);
     let mut level = begun(alloc, root);
     for _ in 0..u64::MAX {
-        match go_on(alloc, &mut level, store)? {
+        let going = go_on(alloc, &mut level.execution, store, &mut level.taken)?;
+        match going {
             Going::On => {}
-            Going::Ended => match waiting.pop() {
-                Some(parent) => level = parent,
-                None => break,
-            },
+            Going::Changed => give_back(&mut level, store),
+            Going::Ended => {
+                give_back(&mut level, store);
+                match waiting.pop() {
+                    Some(parent) => level = parent,
+                    None => break,
+                }
+            }
             Going::Child(number, child) => {
+                give_back(&mut level, store);
                 lines.push(line_of(bodies, number))?;
                 let parent = mem::replace(&mut level, begun(alloc, child));
                 if waiting.push(parent).is_err() {
