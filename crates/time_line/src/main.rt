@@ -38,7 +38,10 @@ fn answer<R: Threads + Wait + Sync, S: Source, G: Gate>(
     };
     let numbers = execution.numbers.as_slice();
     let limit = execution.limit;
-    if !(1..=64).contains(&workers) || limit < 1 || numbers.len() > 64 || text.len() > 1_048_576 {
+    if workers < 1 || workers > 64 || limit < 1 {
+        return Err(Stop::Words);
+    }
+    if numbers.len() > 64 || text.len() > 1_048_576 {
         return Err(Stop::Words);
     }
     Ok(run_text(rt, alloc, &text, numbers, workers, limit, gate)?)
