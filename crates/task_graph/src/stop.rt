@@ -1,0 +1,54 @@
+//! Why not all is printed.
+
+use jade_base::Memory;
+use std::alloc::{AllocError, AllocFailed};
+use std::io;
+
+/// Why not all is printed.
+#[derive(Clone, Copy, Debug, PartialEq, Eq)]
+pub(crate) enum Stop {
+    /// A task faults.
+    Fault,
+    /// The text is no program, or could not be read.
+    Text,
+    /// The words are not LIMIT NUMBER*, with a number for each input.
+    Words,
+    /// Memory was wanting, or a line could not be printed.
+    Failed,
+}
+
+impl Stop {
+    /// The status with which the program ends.
+    pub(crate) fn number(self) -> u8 {
+        match self {
+            Stop::Fault => 1,
+            Stop::Text => 2,
+            Stop::Words => 3,
+            Stop::Failed => 7,
+        }
+    }
+}
+
+impl From<Memory> for Stop {
+    fn from(_error: Memory) -> Stop {
+        Stop::Failed
+    }
+}
+
+impl From<io::Error> for Stop {
+    fn from(_error: io::Error) -> Stop {
+        Stop::Failed
+    }
+}
+
+impl From<AllocError> for Stop {
+    fn from(_error: AllocError) -> Stop {
+        Stop::Failed
+    }
+}
+
+impl<T: Copy> From<AllocFailed<T>> for Stop {
+    fn from(_error: AllocFailed<T>) -> Stop {
+        Stop::Failed
+    }
+}
