@@ -8,16 +8,8 @@ use code_meaning::code::Instruction;
 use jade_base::ObjectId;
 use std::alloc::Global;
 use std::mem;
-use task_code::Code;
 use task_codegen::Compiled;
 use task_machine::{Execution, Pause};
-
-/// A task whose code is run, and the objects that it has taken.
-#[derive(Drop)]
-struct Level<'c> {
-    execution: Execution<'c>,
-    taken: Vec<ObjectId>,
-}
 
 /// What comes of one pause.
 #[derive(Drop)]
@@ -44,24 +36,16 @@ fn line_of(bodies: &[Body], number: u32) -> u32 {
     0
 }
 
-/// The task of an execution that has taken nothing.
-fn begun<'c>(alloc: Global, execution: Execution<'c>) -> Level<'c> {
-    Level {
-        execution,
-        taken: Vec::new(alloc),
-    }
-}
-
 /// What a task has taken goes back to the store.
-fn give_back(level: &mut Level, store: &mut Store) {
-    for place in 0..level.taken.len() {
-        let object = level.taken[place];
-        match level.execution.surrender(object) {
+fn give_back(execution: &mut Execution, store: &mut Store, taken: &mut Vec<ObjectId>) {
+    for place in 0..taken.len() {
+        let object = taken[place];
+        match execution.surrender(object) {
             Some(content) => store.put(object, content),
             None => {}
         }
     }
-    level.taken.clear();
+    taken.clear();
 }
 
 /// An object is taken, as the rights of the task say.
@@ -94,9 +78,11 @@ fn go_on<'c>(
             Ok(Going::On)
         }
         Pause::Take(number) => {
-            let object = ObjectId(number as u32);
-            take(alloc, execution, store, object)?;
-            taken.push(object)?;
+            let Ok(number) = u32::try_from(number) else {
+                return Err(Stop::Failed);
+            };
+            take(alloc, execution, store, ObjectId(number))?;
+            taken.push(ObjectId(number))?;
             Ok(Going::On)
         }
         Pause::Create(number) => {
@@ -114,31 +100,31 @@ fn go_on<'c>(
 }
 
 /// Runs the tasks from the root on, and notes the line of each creation.
-fn run(
+fn run<'c>(
     alloc: Global,
     bodies: &[Body],
-    root: Execution,
+    root: Execution<'c>,
     store: &mut Store,
 ) -> Result<Vec<u32>, Stop> {
     let mut lines = Vec::new(alloc);
     let mut waiting = Vec::new(alloc);
-    let mut level = begun(alloc, root);
+    let mut taken = Vec::new(alloc);
+    let mut execution = root;
     for _ in 0..u64::MAX {
-        let going = go_on(alloc, &mut level.execution, store, &mut level.taken)?;
-        match going {
+        match go_on(alloc, &mut execution, store, &mut taken)? {
             Going::On => {}
-            Going::Changed => give_back(&mut level, store),
+            Going::Changed => give_back(&mut execution, store, &mut taken),
             Going::Ended => {
-                give_back(&mut level, store);
+                give_back(&mut execution, store, &mut taken);
                 match waiting.pop() {
-                    Some(parent) => level = parent,
+                    Some(parent) => execution = parent,
                     None => break,
                 }
             }
             Going::Child(number, child) => {
-                give_back(&mut level, store);
+                give_back(&mut execution, store, &mut taken);
                 lines.push(line_of(bodies, number))?;
-                let parent = mem::replace(&mut level, begun(alloc, child));
+                let parent = mem::replace(&mut execution, child);
                 if waiting.push(parent).is_err() {
                     return Err(Stop::Failed);
                 }
@@ -151,15 +137,15 @@ fn run(
 /// The execution of the root.
 fn root_of<'c>(
     alloc: Global,
-    code: &'c Code,
+    compiled: &'c Compiled,
     numbers: &'c [i64],
     limit: u32,
 ) -> Result<Execution<'c>, Stop> {
-    let raw = code.raw();
-    if numbers.len() != raw.inputs as usize {
+    let code = compiled.decoded();
+    if numbers.len() != compiled.code().raw().inputs as usize {
         return Err(Stop::Words);
     }
-    if raw.sizes.len() > u32::MAX as usize {
+    if code.sizes().len() > u32::MAX as usize {
         return Err(Stop::Failed);
     }
     Ok(Execution::root(alloc, code, numbers, limit)?)
@@ -174,6 +160,6 @@ pub(crate) fn lines_of_creations(
     limit: u32,
 ) -> Result<Vec<u32>, Stop> {
     let mut store = Store::whole(alloc, compiled.checked())?;
-    let root = root_of(alloc, compiled.code(), numbers, limit)?;
+    let root = root_of(alloc, compiled, numbers, limit)?;
     run(alloc, &compiled.code().raw().bodies, root, &mut store)
 }

@@ -5,7 +5,6 @@ use crate::store::Store;
 use crate::told::{tell_ask, tell_declarations};
 use std::alloc::Global;
 use std::mem;
-use task_code::Code;
 use task_codegen::Compiled;
 use task_machine::{Ask, Machine};
 
@@ -148,15 +147,15 @@ fn run<'c>(
 /// The machine of the root.
 fn root_of<'c>(
     alloc: Global,
-    code: &'c Code,
+    compiled: &'c Compiled,
     numbers: &'c [i64],
     limit: u32,
 ) -> Result<Machine<'c>, Stop> {
-    let raw = code.raw();
-    if numbers.len() != raw.inputs as usize {
+    let code = compiled.decoded();
+    if numbers.len() != compiled.code().raw().inputs as usize {
         return Err(Stop::Words);
     }
-    if raw.sizes.len() > u32::MAX as usize {
+    if code.sizes().len() > u32::MAX as usize {
         return Err(Stop::Failed);
     }
     Ok(Machine::root(alloc, code, numbers, limit)?)
@@ -172,7 +171,7 @@ pub(crate) fn tell_tasks(
     lines: &[u32],
 ) -> Result<(), Stop> {
     let mut store = Store::whole(rt.alloc(), compiled.checked())?;
-    let root = root_of(rt.alloc(), compiled.code(), numbers, limit)?;
+    let root = root_of(rt.alloc(), compiled, numbers, limit)?;
     let mut creations = Creations { lines, made: 0 };
     run(rt, root, &mut store, &mut creations)
 }

@@ -9,8 +9,8 @@ declare-requires-clause-within c = (c.in-Declare.ensures.tells (child_of c.args.
 pub declare-requires-clause-place : goal.declare-requires-clause-place
 declare-requires-clause-place c = c.in-Declare.ensures.there (λ h. cc)
 
-pub child-requires-clause-created : goal.child-requires-clause-created
-child-requires-clause-created c = ap created_by (c.in-Create.ensures.tells (child_of c.args.execution.now)).0.1
+pub child-requires : goal.child-requires
+child-requires c = ap created_by (c.in-Create.ensures.tells (child_of c.args.execution.now)).0.1
 
-pub change-requires-clause-place : goal.change-requires-clause-place
-change-requires-clause-place c = c.in-Change.ensures.there (λ h. cc)
+pub change-requires : goal.change-requires
+change-requires c = c.in-Change.ensures.there (λ h. cc)
