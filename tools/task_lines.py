@@ -12,7 +12,7 @@ The lines are those of a serial run, in which each task runs whole where it is c
     end PATH STEPS                 it ends
 
 STEPS are those that the task has begun by then, and RIGHTS are words of declarations, or a dash. The
-asks of a task, by which crates/time_line counts, are its lines create, take, give, change and end.
+asks of a task are its lines create, take, give, change and end.
 
 Where all runs as soon as it may, on any number of workers, what counts is not the time but the steps: a
 moment is how many steps lie on the longest chain before it, and beside it how many waits lie there since
