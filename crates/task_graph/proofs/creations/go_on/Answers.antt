@@ -10,7 +10,7 @@ pub declare-requires-clause-place : goal.declare-requires-clause-place
 declare-requires-clause-place c = c.in-Declare.ensures.there (λ h. cc)
 
 pub child-requires : goal.child-requires
-child-requires c = ap created_by (c.in-Create.ensures.tells (child_of c.args.execution.now)).0.1
+child-requires c = record { created = ap created_by (c.in-Create.ensures.tells (child_of c.args.execution.now)).0.1 }
 
 pub change-requires : goal.change-requires
-change-requires c = c.in-Change.ensures.there (λ h. cc)
+change-requires c = record { place = c.in-Change.ensures.there (λ h. cc) }
