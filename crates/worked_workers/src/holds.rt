@@ -1,5 +1,7 @@
 //! Holds, read from a line, and the gate that has them.
 
+ghost use Rattle.std.specs.Prelude.{◌≤◌, ◌<◌, ◌^◌};
+
 use crate::Stop;
 use jade_base::Path;
 use std::alloc::Global;
