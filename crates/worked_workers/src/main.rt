@@ -1,0 +1,119 @@
+//! Runs programs by workers whose tasks are held back, or many times, and prints what no contract
+//! says: that two tasks meet, how many holds were given up, and how many runs came out as the serial
+//! one. A case of standard input begins with a line `> COUNT times WORDS : PATH@ASK<PATH@ASK ..`:
+//! the words of a `run` or a `drill`, and the holds, each of a task at an ask of its own until
+//! another is at one of its own. The lines up to the next one are its text, with a line feed between
+//! two lines. A line `* N PIECE` stands for N times the piece.
+#![tactic(auto)]
+
+mod case;
+mod holds;
+mod meeting;
+
+use crate::case::Case;
+use jade_base::{Memory, StdSource, read_text};
+use std::alloc::{AllocError, AllocFailed, Global};
+use std::num::ParseIntError;
+use std::process::ExitCode;
+use std::str::Utf8Error;
+use std::sync::Wait;
+use std::thread::Threads;
+use std::{io, str};
+
+/// Why the cases could not be run to their end.
+#[derive(Clone, Copy, Debug, PartialEq, Eq)]
+pub enum Stop {
+    /// A line is no line of a case.
+    Line,
+    /// Memory was wanting, or a line could not be written.
+    Failed,
+}
+
+impl From<Memory> for Stop {
+    fn from(_error: Memory) -> Stop {
+        Stop::Failed
+    }
+}
+
+impl From<io::Error> for Stop {
+    fn from(_error: io::Error) -> Stop {
+        Stop::Failed
+    }
+}
+
+impl From<AllocError> for Stop {
+    fn from(_error: AllocError) -> Stop {
+        Stop::Failed
+    }
+}
+
+impl<T: Copy> From<AllocFailed<T>> for Stop {
+    fn from(_error: AllocFailed<T>) -> Stop {
+        Stop::Failed
+    }
+}
+
+impl From<ParseIntError> for Stop {
+    fn from(_error: ParseIntError) -> Stop {
+        Stop::Line
+    }
+}
+
+impl From<Utf8Error> for Stop {
+    fn from(_error: Utf8Error) -> Stop {
+        Stop::Line
+    }
+}
+
+/// Runs the cases of a text.
+fn run_cases<R: Threads + Wait + Sync + Print>(
+    rt: &R,
+    alloc: Global,
+    text: &str,
+) -> Result<(), Stop> {
+    let mut open = None;
+    for line in text.lines() {
+        match line.strip_prefix("> ") {
+            Some(head) => {
+                finish(rt, alloc, open)?;
+                println!(rt; "> {head}")?;
+                open = Some(Case::of(alloc, head)?);
+            }
+            None => match &mut open {
+                Some(case) => case.put(line)?,
+                None => return Err(Stop::Line),
+            },
+        }
+    }
+    finish(rt, alloc, open)
+}
+
+/// Runs a case that is complete, if there is one.
+fn finish<R: Threads + Wait + Sync + Print>(
+    rt: &R,
+    alloc: Global,
+    case: Option<Case>,
+) -> Result<(), Stop> {
+    match case {
+        Some(case) => case.run(rt, alloc),
+        None => Ok(()),
+    }
+}
+
+fn main(rt: HostRuntime) -> ExitCode {
+    let alloc = rt.alloc();
+    let mut source = StdSource::new(rt.stdin());
+    let Ok(bytes) = read_text(alloc, &mut source) else {
+        return ExitCode::from(2);
+    };
+    let Ok(text) = str::from_utf8(&bytes) else {
+        return ExitCode::from(2);
+    };
+    if meeting::run(&rt, alloc).is_err() || holds::script(&rt, alloc).is_err() {
+        return ExitCode::from(1);
+    }
+    match run_cases(&rt, alloc, text) {
+        Ok(()) => ExitCode::SUCCESS,
+        Err(_) => ExitCode::from(1),
+    }
+}

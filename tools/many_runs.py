@@ -1,0 +1,48 @@
+#!/usr/bin/env python3
+"""Runs one program again and again on many workers, and compares what is written with the serial run.
+
+    tools/many_runs.py [RUNS [WORKERS [JADE]]]
+
+The program has 200 tasks on three objects, each of which reads one and changes the next, so almost every task
+waits for others. No task may be lost: each run must end, with the text of `serial`. The last line says how many
+runs there were; the script ends with 1 at the first run that differs.
+"""
+import os
+import subprocess
+import sys
+
+PROGRAM = """objects few[3] : 2;
+main {
+    for i in 0 .. 200 {
+        withonly { rd(few[i % 3]); rd_wr(few[(i + 1) % 3]); } do (i) {
+            few[(i + 1) % 3][0] = (few[(i + 1) % 3][0] * 2 + few[i % 3][1]) % 1000;
+            few[(i + 1) % 3][1] = (few[i % 3][0] + i) % 1000;
+        }
+    }
+}
+"""
+LIMIT = "100000"
+
+
+def run(jade, words):
+    done = subprocess.run([jade, *words, LIMIT], input=PROGRAM.encode(), capture_output=True, timeout=60)
+    return done.returncode, done.stdout.decode()
+
+
+def main():
+    runs = int(sys.argv[1]) if len(sys.argv) > 1 else 1000
+    workers = sys.argv[2] if len(sys.argv) > 2 else "64"
+    top = os.path.dirname(os.path.dirname(os.path.abspath(__file__)))
+    jade = sys.argv[3] if len(sys.argv) > 3 else os.path.join(top, "crates/jade/out/jade")
+    wanted = run(jade, ["serial"])
+    for number in range(runs):
+        got = run(jade, ["run", workers])
+        if got != wanted:
+            print(f"serial: {wanted}\nrun {workers}: {got}\nmany_runs: run {number} differs")
+            return 1
+    print(f"many_runs: {runs} runs of 200 tasks by {workers} workers, all as the serial run")
+    return 0
+
+
+if __name__ == "__main__":
+    sys.exit(main())

@@ -1,0 +1,139 @@
+#!/usr/bin/env python3
+"""Refuses each allocation of some runs in turn, and looks at what the program does then.
+
+    tools/refuse_memory.py [JADE]
+
+Each run below is begun anew for each allocation that it makes, with a `malloc`, `calloc` and `realloc` that
+refuse that one: the program must end, and either with status 7 and nothing written, or with the right status
+and text. It goes on until no allocation is left to refuse. The last lines say how many were refused and how
+the runs ended; the script ends with 1 at the first run that does anything else.
+
+The library that refuses is made by a C compiler: the kit's, or the machine's. Where neither makes it, the
+script says so and ends with 0.
+"""
+import os
+import pathlib
+import shutil
+import subprocess
+import sys
+import tempfile
+
+TOP = pathlib.Path(__file__).resolve().parent.parent
+
+LIBRARY = r"""
+typedef unsigned long size;
+void *__libc_malloc(size);
+void *__libc_calloc(size, size);
+void *__libc_realloc(void *, size);
+char *getenv(const char *);
+int *__errno_location(void);
+long write(int, const void *, size);
+static long left = -1;
+static int ready;
+
+/* Counts one allocation; whether it is the one to refuse, which is told on standard error and by ENOMEM. */
+static int refused(void) {
+    if (!__atomic_load_n(&ready, __ATOMIC_SEQ_CST)) return 0;
+    if (__atomic_fetch_sub(&left, 1, __ATOMIC_SEQ_CST) != 1) return 0;
+    write(2, "refused\n", 8);
+    *__errno_location() = 12;
+    return 1;
+}
+
+__attribute__((constructor)) static void begin(void) {
+    const char *text = getenv("REFUSED_ALLOCATION");
+    long number = 0;
+    while (text && *text >= '0' && *text <= '9') number = 10 * number + (*text++ - '0');
+    left = number;
+    __atomic_store_n(&ready, 1, __ATOMIC_SEQ_CST);
+}
+
+void *malloc(size n) { return refused() ? 0 : __libc_malloc(n); }
+void *calloc(size n, size m) { return refused() ? 0 : __libc_calloc(n, m); }
+void *realloc(void *p, size n) { return refused() ? 0 : __libc_realloc(p, n); }
+"""
+
+COLUMN = """input n;
+objects col[4] : 2;
+main {
+    for j in 0 .. 4 {
+        withonly { wr(col[j]); } do (j) {
+            col[j][0] = j * 10;
+            col[j][1] = n;
+        }
+    }
+    for j in 1 .. 4 {
+        withonly { rd(col[j - 1]); rd_wr(col[j]); } do (j) {
+            col[j][0] = col[j][0] + col[j - 1][0];
+        }
+    }
+}
+"""
+ONE_TASK = "object s : 1; main { withonly { wr(s); } do () { s[0] = 5; } s[0] = s[0] + 1; }\n"
+RUNS = (
+    (["run", "1", "1000"], ONE_TASK, "s = 6\n"),
+    (["run", "4", "1000"], ONE_TASK, "s = 6\n"),
+    (["serial", "1000", "7"], COLUMN, "col[0] = 0 7\ncol[1] = 10 7\ncol[2] = 30 7\ncol[3] = 60 7\n"),
+    (["run", "4", "1000", "7"], COLUMN, "col[0] = 0 7\ncol[1] = 10 7\ncol[2] = 30 7\ncol[3] = 60 7\n"),
+)
+
+
+def compilers():
+    """The compilers to try: the kit's, then the machine's."""
+    rt = shutil.which("rt")
+    if rt:
+        yield str(pathlib.Path(rt).resolve().parent.parent / "toolchain/bin/clang")
+    yield from ("cc", "gcc", "clang")
+
+
+def library(folder):
+    """The library that refuses, or none."""
+    source, made = folder / "refuse.c", folder / "refuse.so"
+    source.write_text(LIBRARY)
+    for compiler in compilers():
+        words = [compiler, "-O1", "-w", "-fno-builtin", "-shared", "-fPIC", "-nostdlib", "-o", made, source]
+        try:
+            if subprocess.run(words, capture_output=True).returncode == 0:
+                return made
+        except OSError:
+            pass
+    return None
+
+
+def run(jade, made, number, words, text):
+    """Status, text and whether an allocation was refused."""
+    told = dict(os.environ, LD_PRELOAD=str(made), REFUSED_ALLOCATION=str(number))
+    done = subprocess.run([jade, *words], input=text.encode(), capture_output=True, timeout=60, env=told)
+    return done.returncode, done.stdout.decode(), b"refused" in done.stderr
+
+
+def refuse_all(jade, made, words, text, wanted):
+    """Refuses each allocation of a run; whether it always ended as it must."""
+    ends = {0: 0, 7: 0}
+    for number in range(1, 100_000):
+        status, written, was_refused = run(jade, made, number, words, text)
+        if (status, written) not in ((0, wanted), (7, "")):
+            print(f"{' '.join(words)}: with allocation {number} refused it ends with {status} and writes {written!r}")
+            return False
+        if not was_refused:
+            break
+        ends[status] += 1
+    print(f"{' '.join(words)}: {ends[0] + ends[7]} allocations refused, {ends[7]} ended with 7, {ends[0]} with the answer")
+    return True
+
+
+def main():
+    jade = sys.argv[1] if len(sys.argv) > 1 else str(TOP / "crates/jade/out/jade")
+    with tempfile.TemporaryDirectory() as folder:
+        made = library(pathlib.Path(folder))
+        if made is None:
+            print("refuse_memory: no C compiler makes the library that refuses; nothing was tried")
+            return 0
+        for words, text, wanted in RUNS:
+            if not refuse_all(jade, made, words, text, wanted):
+                return 1
+    return 0
+
+
+if __name__ == "__main__":
+    sys.exit(main())
