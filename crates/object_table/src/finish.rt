@@ -110,7 +110,7 @@ fn report_in(alloc: Global, slots: Vec<Slot>, roll: Slot) -> Result<Report, Memo
 {
     let objects = contents_of(alloc, slots.as_slice())?;
     let notes = notes_of(alloc, roll);
-    let report = report_of(alloc, objects, notes.as_slice())?;
+    let report = report_of(alloc, objects, notes)?;
     Ok(report)
 }
 

@@ -1,6 +1,6 @@
--- Notes are filed by halves, since they stand by ascending key.
-use Rattle.std.proofs.Common.{◌≡◌, ℕ, zero, suc, ◌<◌, ◌≤◌, ◌+◌, Bool, true, false, List, [], ◌∷◌, length, refl, sym, ap, ◌∙◌, subst, arith}
-use Rattle.std.specs.Prelude.{slice_index_or, if◌then◌else◌}
+-- Notes that are filed one by one stand by ascending key.
+use Rattle.std.proofs.Common.{◌≡◌, ℕ, Bool, true, false, List, [], ◌∷◌, refl, sym, ap, ◌∙◌}
+use Rattle.std.specs.Prelude.{if◌then◌else◌}
 use Rattle.std.specs.declared.cmp.Ordering.{Ordering}
 use Rattle.std.specs.declared.cmp.Ordering.TheVariants.{Less, Equal, Greater}
 use Rattle.std.specs.Ordering.{nat_cmp, ordering_then, ordering_reverse, is_lt}
@@ -11,8 +11,7 @@ use Rattle.std.proofs.lemmas.Cmp.{nat_list_cmp_total}
 use Rattle.jade_base.specs.Places.{is_before, path_order}
 use Rattle.task_roll.specs.declared.note.PartNote.{PartNote}
 use Rattle.task_roll.specs.Rolls.{note_key, filed, filed_into, by_key}
-use Rattle.schedule_core.specs.Notes.{filing}
-use Rattle.schedule_core.specs.steps.Ascending.{NoneBefore, Ascend, IsAscending}
+use Rattle.schedule_core.specs.steps.Ascending.{NoneBefore, Ascend}
 
 order_is : (p q : List ℕ) → path_order p q ≡ slice_cmp nat_cmp p q
 order_is [] [] = refl
@@ -32,12 +31,12 @@ is_less : (p q : List ℕ) → slice_cmp nat_cmp p q ≡ Less → is_before p q 
 is_less p q e = ap is_lt (order_is p q ∙ e)
 
 -- the order goes one way
-asym : (p q : List ℕ) → is_before p q ≡ true → is_before q p ≡ false
+pub asym : (p q : List ℕ) → is_before p q ≡ true → is_before q p ≡ false
 asym p q e =
     ap is_lt (order_is q p ∙ nat_list_cmp_total.antisymm q p ∙ ap ordering_reverse (less p q e))
 
 -- what stands before the second stands before all that does not stand before the second
-through : (p q r : List ℕ) → is_before p q ≡ true → is_before r q ≡ false → is_before p r ≡ true
+pub through : (p q r : List ℕ) → is_before p q ≡ true → is_before r q ≡ false → is_before p r ≡ true
 through p q r e f = go (slice_cmp nat_cmp q r) refl
   where
     go : (o : Ordering) → slice_cmp nat_cmp q r ≡ o → is_before p r ≡ true
@@ -66,7 +65,7 @@ none_filed n m (x ∷ ms) e h = go (is_before (note_key n) (note_key x)) (none_f
     go true g = (e, h)
     go false g = (h.0, g)
 
-ascend_filed : (n : PartNote) (ms : List PartNote) → Ascend ms → Ascend (filed n ms)
+pub ascend_filed : (n : PartNote) (ms : List PartNote) → Ascend ms → Ascend (filed n ms)
 ascend_filed n [] h = (tt, tt)
 ascend_filed n (m ∷ ms) h = go (is_before (note_key n) (note_key m)) refl (ascend_filed n ms h.1)
   where
@@ -74,61 +73,9 @@ ascend_filed n (m ∷ ms) h = go (is_before (note_key n) (note_key m)) refl (asc
     go true e g = ((asym (note_key n) (note_key m) e, none_before n m ms e h.0), h)
     go false e g = (none_filed n m ms e h.0, g)
 
-pub filed_ascending : (n : PartNote) (ms : List PartNote) → IsAscending ms → IsAscending (filed n ms)
-filed_ascending n ms h = record { ascend = ascend_filed n ms h.ascend }
-
--- a note is filed before each that it stands before
-pub at_most : (n : PartNote) (ms : List PartNote) (k : ℕ) (x : PartNote) → k < length ms → is_before (note_key n) (note_key (slice_index_or ms k x)) ≡ true
-    → filing n ms ≤ k
-at_most n [] k x lt e = absurd (omega arith)
-at_most n (m ∷ ms) zero x lt e = go (is_before (note_key n) (note_key m)) e
-  where
-    go : (b : Bool) → b ≡ true → (if b then 0 else suc (filing n ms)) ≤ 0
-    go true e = omega arith
-    go false e = absurd (true≢false (sym e))
-at_most n (m ∷ ms) (suc k) x lt e = go (is_before (note_key n) (note_key m)) (at_most n ms k x (omega arith) e)
-  where
-    go : (b : Bool) → filing n ms ≤ k → (if b then 0 else suc (filing n ms)) ≤ suc k
-    go true g = omega arith
-    go false g = omega arith
-
--- and after each that it does not stand before
-after : (n : PartNote) (ms : List PartNote) → Ascend ms → (k : ℕ) (x : PartNote) → k < length ms
-    → is_before (note_key n) (note_key (slice_index_or ms k x)) ≡ false → k < filing n ms
-after n [] h k x lt e = absurd (omega arith)
-after n (m ∷ ms) h zero x lt e = go (is_before (note_key n) (note_key m)) e
-  where
-    go : (b : Bool) → b ≡ false → 0 < (if b then 0 else suc (filing n ms))
-    go true e = absurd (true≢false e)
-    go false e = omega arith
-after n (m ∷ ms) h (suc k) x lt e = go (is_before (note_key n) (note_key m)) refl (after n ms h.1 k x (omega arith) e)
-  where
-    at : (ms : List PartNote) (k : ℕ) → NoneBefore m ms → k < length ms → is_before (note_key (slice_index_or ms k x)) (note_key m) ≡ false
-    at [] k g lt = absurd (omega arith)
-    at (y ∷ ms) zero g lt = g.0
-    at (y ∷ ms) (suc k) g lt = at ms k g.1 (omega arith)
-
-    go : (b : Bool) → is_before (note_key n) (note_key m) ≡ b → k < filing n ms → suc k < (if b then 0 else suc (filing n ms))
-    go true f g =
-        let y = slice_index_or ms k x in
-        absurd (true≢false (sym (through (note_key n) (note_key m) (note_key y) f (at ms k h.0 (omega arith))) ∙ e))
-    go false f g = omega arith
-
-pub more_than : (n : PartNote) (ms : List PartNote) → IsAscending ms → (k : ℕ) (x : PartNote) → k < length ms
-    → is_before (note_key n) (note_key (slice_index_or ms k x)) ≡ false → k < filing n ms
-more_than n ms h k x lt e = after n ms h.ascend k x lt e
-
-pub at_end : (n : PartNote) (ms : List PartNote) → filing n ms ≤ length ms
-at_end n [] = omega arith
-at_end n (m ∷ ms) = go (is_before (note_key n) (note_key m)) (at_end n ms)
-  where
-    go : (b : Bool) → filing n ms ≤ length ms → (if b then 0 else suc (filing n ms)) ≤ suc (length ms)
-    go true g = omega arith
-    go false g = omega arith
-
 ascend_filed_into : (ns ms : List PartNote) → Ascend ms → Ascend (filed_into ns ms)
 ascend_filed_into [] ms h = h
 ascend_filed_into (n ∷ ns) ms h = ascend_filed_into ns (filed n ms) (ascend_filed n ms h)
 
-pub by_key_ascending : (ns : List PartNote) → IsAscending (by_key ns)
-by_key_ascending ns = record { ascend = ascend_filed_into ns [] tt }
+pub by_key_ascends : (ns : List PartNote) → Ascend (by_key ns)
+by_key_ascends ns = ascend_filed_into ns [] tt

@@ -1,19 +1,10 @@
-use Rattle.std.proofs.Common.{rules, ◌≡◌, ap, sym, subst, ◌∙◌, take}
-use Rattle.task_roll.specs.Rolls.{filed}
-use Rattle.schedule_core.specs.steps.Ascending.{IsAscending}
-use Rattle.schedule_core.proofs.Reporting.{filed_more}
-use Rattle.schedule_core.proofs.Ascending.{by_key_ascending}
+use Rattle.std.proofs.Common.{rules}
+use Rattle.std.proofs.lemmas.List.Sorted.{answers_always}
+use Rattle.schedule_core.specs.steps.Ascending.{stands_before}
+use Rattle.schedule_core.proofs.Sorting.{by_key_orders, sorted_is}
 use Rattle.schedule_core.proofs.reports.in_key_order.Goals as goal
 
-pub loop-note-preserved : goal.loop-note-preserved
-loop-note-preserved c =
-    let ns = c.args.notes.now in
-    let k = c.loop-note.note-index in
-    let x = c.note-item.result in
-    let same : c.in_ok-copy.copy ≡ x = search rules in
-    let done = c.in_ok-file.ensures in
-    done ∙ (λ i. filed (same i) (c.loop-note.invariant i)) ∙ sym (filed_more ns k x c.loop-note-test.true c.note-item.is)
-
-pub file-requires : goal.file-requires
-file-requires c =
-    subst IsAscending (sym c.loop-note.invariant) (by_key_ascending (take c.loop-note.note-index c.args.notes.now))
+pub returns-in-Ok : goal.returns-in-Ok
+returns-in-Ok c =
+    let compares = answers_always _ _ _ (λ f a r next called. search rules) in
+    sorted_is _ _ (c.in-Ok.ensures.sorted stands_before by_key_orders compares) (c.sort_by.ensures.stable stands_before by_key_orders compares)
