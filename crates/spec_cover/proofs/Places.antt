@@ -1,7 +1,8 @@
 -- Entries from a place on.
-use Rattle.std.proofs.Common.{◌≡◌, ℕ, zero, suc, ◌+◌, ◌<◌, ◌≤◌, List, [], ◌∷◌, length, drop, refl, ◌∙◌, sym, arith}
+use Rattle.std.proofs.Common.{◌≡◌, ℕ, zero, suc, ◌+◌, ◌<◌, ◌≤◌, List, [], ◌∷◌, length, drop, refl, ◌∙◌, sym, ap, subst, arith}
 use Rattle.std.specs.Prelude.{slice_get, Option, Some, None, MatchOption}
 use Rattle.std.proofs.lemmas.Bool.{eq-eqb, ne_eqb}
+use Rattle.std.proofs.lemmas.Option.{none-some, same_Some}
 use Rattle.std.proofs.lemmas.List.{drop_all}
 use Rattle.jade_base.specs.declared.place.ObjectId.{ObjectId}
 use Rattle.jade_base.specs.declared.rights.Rights.{Rights}
@@ -31,6 +32,28 @@ enough-next ps place n e h below enough = λ o above.
     let split = enough o above in
     let next = rw (drop-slice_get ps place e h, ne_eqb e.0.0 o.0 (λ q. omega arith)) at split in
     next
+
+above-get : (n : ℕ) (ps : List (ObjectId × Rights)) (k : ℕ) (e : ObjectId × Rights) → AllAbove n ps → slice_get ps k ≡ Some e → n < e.0.0
+above-get n [] k e a h = absurd (none-some e h)
+above-get n (x ∷ ps) zero e a h = subst (λ y. n < y.0.0) (same_Some x e h) a.0
+above-get n (x ∷ ps) (suc k) e a h = above-get n ps k e a.1 h
+
+-- all entries up to one of a lower number may be passed
+enough-beyond : (ps : List (ObjectId × Rights)) (place n : ℕ) (e : ObjectId × Rights) → IsAscending ps → slice_get ps place ≡ Some e → e.0.0 < n
+    → IsEnoughFrom ps (suc place) n
+enough-beyond [] place n e asc h below o above = absurd (none-some e h)
+enough-beyond (x ∷ ps) zero n e asc h below o above =
+    let same = ap (λ y. y.0.0) (same_Some x e h) in
+    rw (ne_eqb x.0.0 o.0 (λ q. omega (arith, same, below, above, q))) refl
+enough-beyond (x ∷ ps) (suc place) n e asc h below o above =
+    let far = above-get x.0.0 ps place e asc.1 h in
+    rw (ne_eqb x.0.0 o.0 (λ q. omega (arith, far, below, above, q))) (enough-beyond ps place n e asc.2 h below o above)
+
+pub enough-past : (ps : List (ObjectId × Rights)) (place n : ℕ) (e : ObjectId × Rights) → IsAscending ps → slice_get ps place ≡ Some e → e.0.0 < n
+    → IsEnoughFrom ps (place + 1) n
+enough-past ps place n e asc h below =
+    let z : suc place ≡ place + 1 = omega arith in
+    subst (λ k. IsEnoughFrom ps k n) z (enough-beyond ps place n e asc h below)
 
 -- the entry at the place is the object's
 pub granted-here : (ps : List (ObjectId × Rights)) (place : ℕ) (o : ObjectId) (e : ObjectId × Rights) → slice_get ps place ≡ Some e → e.0.0 ≡ o.0

@@ -14,7 +14,7 @@ pub fn uncovered(parent: &Spec, child: &Spec) -> Option<ObjectId>
     merged(parent, child)
 }
 
-// The first of the child's entries that the parent's rights do not cover, in one pass over both.
+// The first of the child's entries that the parent's rights do not cover, in one pass over them.
 fn merged(parent: &Spec, child: &Spec) -> Option<ObjectId>
     ensures first { result ≡ first_uncovered parent.now.entries child.now.entries }
     ensures ascending { IsAscending child.now.entries }
@@ -31,13 +31,33 @@ fn merged(parent: &Spec, child: &Spec) -> Option<ObjectId>
     None
 }
 
+// Where the parent's rights on an object are to be sought, found by halves from a place on.
+fn place_from(parent: &Spec, start: usize, object: ObjectId) -> usize
+    requires enough { IsEnoughFrom parent.now.entries start object.0 }
+    ensures enough { IsEnoughFrom parent.now.entries result object.0 }
+{
+    let mut low = start;
+    let mut high = parent.len();
+    'halves: while low < high {
+        let middle = low + (high - low) / 2;
+        let (found, _) = parent.entry(middle);
+        if found.0 < object.0 {
+            low = middle + 1;
+        } else {
+            high = middle;
+        }
+    }
+    low
+}
+
 // The parent's rights on an object, sought from a place on, and the place where the search ended.
 fn granted_from(parent: &Spec, start: usize, object: ObjectId) -> (usize, Rights)
     requires enough { IsEnoughFrom parent.now.entries start object.0 }
     ensures enough { IsEnoughFrom parent.now.entries result.0 object.0 }
     ensures granted { result.1 ≡ rights_in parent.now.entries object }
 {
-    for place in start..parent.len() {
+    let first = place_from(parent, start, object);
+    for place in first..parent.len() {
         let (found, rights) = parent.entry(place);
         if found.0 == object.0 {
             return (place, rights);

@@ -1,6 +1,0 @@
-use Rattle.std.proofs.Common.{◌≡◌, drop}
-use Rattle.task_machine.specs.steps.Holding.{row_from}
-use Rattle.task_machine.proofs.holdings.place_of.Given as goal
-
-abbrev pub invariant-loop-place : goal.invariant-loop-place
-invariant-loop-place l = row_from l.object 0 l.rows ≡ row_from l.object l.place (drop l.place l.rows)
