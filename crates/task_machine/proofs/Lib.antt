@@ -22,3 +22,5 @@ mod Changing
 mod Coming
 mod Entering
 mod Finding
+mod Halving
+mod Sought

@@ -5,9 +5,7 @@ use Rattle.std.specs.Prelude.{ℤ, slice_get, slice_index_or, slice_set}
 use Rattle.std.proofs.lemmas.Bool.{cases_eq, eq-eqb, ne_eqb}
 use Rattle.std.proofs.lemmas.Option.{none-some, same_Some}
 use Rattle.std.proofs.Math.Path.{fun_ext}
-use Rattle.std.proofs.Math.Seq.{drop-cons}
-use Rattle.std.proofs.lemmas.List.{drop_all, take_all}
-use Rattle.std.proofs.Common.{drop}
+use Rattle.std.proofs.lemmas.List.{take_all}
 use Rattle.jade_meaning.specs.Serial.{zeros}
 use Rattle.task_machine.specs.Whole.{all_held, without}
 use Rattle.jade_base.specs.Held.{Held}
@@ -153,25 +151,6 @@ written_row (Some held) k l o c v r new same h = (h.0, fun_ext (λ p. same p ∙
 
 pub unwritten : (k : Contents) (o c : ℕ) (v : ℤ) → k o ≡ None → Written k o c v false k
 unwritten k o c v e = subst (λ w. written (writable w) k o c v false k) (sym e) (refl, refl)
-
--- the rows from a place on
-pub row_turn : (o k : ℕ) (rs : List Row) (d : Row) → k < length rs → row_from o k (drop k rs)
-    ≡ cond (eqb (slice_index_or rs k d).object.0 o) (Some k) (row_from o (k + 1) (drop (k + 1) rs))
-row_turn o k rs d lt = let z : suc k ≡ k + 1 = omega arith in ap (row_from o k) (drop-cons rs k d lt)
-    ∙ ap (λ n. cond (eqb (slice_index_or rs k d).object.0 o) (Some k) (row_from o n (drop n rs))) z
-
-pub row_end : (o k : ℕ) (rs : List Row) → length rs ≤ k → row_from o k (drop k rs) ≡ None
-row_end o k rs le = ap (row_from o k) (drop_all k rs le)
-
-pub row_same : (o k : ℕ) (rs : List Row) (d : Row) → k < length rs → (slice_index_or rs k d).object.0 ≡ o → row_from o 0 rs ≡ row_from o k (drop k rs) → Some k
-    ≡ row_from o 0 rs
-row_same o k rs d lt e h = sym (h ∙ row_turn o k rs d lt ∙ ap (λ b. cond b (Some k) (row_from o (k + 1) (drop (k + 1) rs)))
-    (eq-eqb (slice_index_or rs k d).object.0 o e))
-
-pub row_other : (o k : ℕ) (rs : List Row) (d : Row) → k < length rs → ((slice_index_or rs k d).object.0 ≡ o → ⊥) → row_from o 0 rs ≡ row_from o k (drop k rs)
-    → row_from o 0 rs ≡ row_from o (k + 1) (drop (k + 1) rs)
-row_other o k rs d lt e h = h ∙ row_turn o k rs d lt ∙ ap (λ b. cond b (Some k) (row_from o (k + 1) (drop (k + 1) rs)))
-    (ne_eqb (slice_index_or rs k d).object.0 o e)
 
 missing_content : (o n : ℕ) (h : Option Held) (rs : List Row) → row_from o n rs ≡ None → rs ≡ with_content o h rs
 missing_content o n h [] e = refl

@@ -1,9 +1,10 @@
-//! The entries of a specification, from an object on.
+//! The entries of a specification: that of an object, and those from one on.
 
-ghost use Rattle.std.specs.Prelude.{◌≡◌, IfNone, IfSome};
+ghost use Rattle.std.specs.Prelude.{◌≡◌, IfNone, IfSome, true, false};
 ghost use Rattle.jade_base.specs.Rights.{same_rights};
+ghost use Rattle.jade_base.specs.Specification.{IsAscending};
 ghost use Rattle.access_spec.specs.Copies.{IsSameBetween};
-ghost use Rattle.task_machine.specs.steps.Finding.{IsFreeBetween, IsNextChange, IsNextEntry, IsPlaceFrom};
+ghost use Rattle.task_machine.specs.steps.Finding.{HasNoEntry, IsFreeBetween, IsNextChange, IsNextEntry, IsNotAt, IsPlaceFrom, IsPlaceOf};
 
 use jade_base::{ObjectId, Rights, Spec};
 
@@ -23,6 +24,39 @@ fn place_from(spec: &Spec, from: ObjectId) -> usize
         }
     }
     low
+}
+
+// Whether the entry at a place is that of an object.
+fn is_at(spec: &Spec, place: usize, object: ObjectId) -> bool
+    ensures there { result ≡ true → IsPlaceOf object place spec.now.entries }
+    ensures other { result ≡ false → IsNotAt object place spec.now.entries }
+    ensures ascending { IsAscending spec.now.entries }
+{
+    if place < spec.len() {
+        let (found, _) = spec.entry(place);
+        found.0 == object.0
+    } else {
+        false
+    }
+}
+
+/// The place of an object's entry, if it has one. Where a task has rights on all objects, it is the
+/// object's number. It takes no memory.
+pub(crate) fn place_of(spec: &Spec, object: ObjectId) -> Option<usize>
+    ensures found { IfSome result (λ place. IsPlaceOf object place spec.now.entries) }
+    ensures none { IfNone result (HasNoEntry object spec.now.entries) }
+    ensures ascending { IsAscending spec.now.entries }
+{
+    let number = object.0 as usize;
+    if is_at(spec, number, object) {
+        return Some(number);
+    }
+    let place = place_from(spec, object);
+    if is_at(spec, place, object) {
+        Some(place)
+    } else {
+        None
+    }
 }
 
 // Whether the two are the same rights.

@@ -8,6 +8,7 @@ ghost use Rattle.task_machine.specs.Playing.{cell_of};
 ghost use Rattle.task_machine.specs.Telling.{mode_held};
 ghost use Rattle.task_machine.specs.Executions.{objects_in, with_content, without_content};
 ghost use Rattle.task_machine.specs.steps.Holding.{RowsAscend, contents_of, row_from, cell_in, Written, WrittenIn, whole_from};
+ghost use Rattle.task_machine.specs.steps.Searching.{IsFirstFrom};
 
 use jade_base::{Content, Memory, Mode, Numbers, ObjectId, Spec};
 use jade_syntax::Checked;
@@ -154,6 +155,24 @@ fn take_among(rows: &mut [Row], object: usize) -> Option<Content>
     }
 }
 
+// The place of the first row whose object is not below this one, found by halves.
+fn place_from(rows: &[Row], object: usize) -> usize
+    requires { RowsAscend rows.now }
+    ensures { IsFirstFrom object result (objects_in rows.now) }
+{
+    let mut low = 0;
+    let mut high = rows.len();
+    'halves: while low < high {
+        let middle = low + (high - low) / 2;
+        if (rows[middle].object.0 as usize) < object {
+            low = middle + 1;
+        } else {
+            high = middle;
+        }
+    }
+    low
+}
+
 // The place of an object's row. Where all objects of a program are there, it is the object's number.
 fn place_of(rows: &[Row], object: usize) -> Option<usize>
     requires { RowsAscend rows.now }
@@ -163,10 +182,9 @@ fn place_of(rows: &[Row], object: usize) -> Option<usize>
     if object < rows.len() && rows[object].object.0 as usize == object {
         return Some(object);
     }
-    for place in 0..rows.len() {
-        if rows[place].object.0 as usize == object {
-            return Some(place);
-        }
+    let place = place_from(rows, object);
+    if place < rows.len() && rows[place].object.0 as usize == object {
+        return Some(place);
     }
     None
 }

@@ -9,14 +9,15 @@ ghost use Rattle.jade_meaning.specs.Talk.{Enter, Leave, made_immediate};
 ghost use Rattle.code_meaning.specs.Meaning.{code_course};
 ghost use Rattle.task_machine.specs.Stages.{rights_at, Tells};
 ghost use Rattle.task_machine.specs.Executions.{Advanced, created_by, held_by, with_content};
+ghost use Rattle.task_machine.specs.Left.{IsNone};
 ghost use Rattle.task_machine.specs.Machines.{all_due, child_of, child_task, due_in, is_event, marks_after};
 ghost use Rattle.task_machine.specs.Machines.{IsOrdered, NoDue, rest_of, steps_at, supplied, surrendered, with_mark};
-ghost use Rattle.task_machine.specs.Machines.{amended_at, begun, course_at, made_at};
+ghost use Rattle.task_machine.specs.Machines.{amended_at, begun, course_at, is_to_move, made_at};
 ghost use Rattle.task_machine.specs.Playing.{touches};
 ghost use Rattle.task_machine.specs.Asks.{Asking, BeginsAs, GoesTo, HeldWith, Stands, changed, created, number_of};
 ghost use Rattle.task_machine.specs.Asks.{enters_from, follows, leaves_from, shifts_from};
 ghost use Rattle.task_machine.specs.steps.Standing.{Asked, asking, gives_up, HasRows, IsFresh, IsKept};
-ghost use Rattle.task_machine.specs.steps.Standing.{is_due_anew, last_ask, machine, marks_in, phase_of, RunsOn, TakenAs};
+ghost use Rattle.task_machine.specs.steps.Standing.{is_due_anew, last_ask, machine, marks_in, phase_of, reached, RunsOn, TakenAs};
 ghost use Rattle.task_machine.specs.steps.Surrendering.{IsSurrendered};
 ghost use Rattle.task_machine.specs.declared.frame.Pause.{Pause as PauseOf};
 ghost use Rattle.task_machine.specs.declared.machine.Ask.{Ask as AskOf};
@@ -25,12 +26,15 @@ use crate::entries::{next_amended, next_entry};
 use crate::execution::Execution;
 use crate::frame::Pause;
 use crate::laws::{begins_its_course, begins_its_talk};
-use crate::next::{Phase, is_given_back, next_object};
+use crate::next::{Phase, is_given_back, next_from};
 use access_spec::mode_of;
 use jade_base::{Blame, Content, Memory, Mode, ObjectId, Right, Rights};
 use std::alloc::Global;
 use std::marker::Model;
 use task_code::DecodedCode;
+
+// The first object of all.
+const START: ObjectId = ObjectId(0);
 
 /// What a task asks for.
 #[derive(Clone, Copy, Debug, PartialEq, Eq)]
@@ -55,6 +59,8 @@ pub struct Machine<'c> {
     execution: Execution<'c>,
     due: Vec<bool>,
     phase: Phase,
+    // Below this object nothing is to be taken or given up.
+    from: ObjectId,
     part: u32,
     ask: Option<Ask>,
     asks: u64,
@@ -64,7 +70,7 @@ pub struct Machine<'c> {
 
 impl<'c> Model for Machine<'c> {
     ghost use Rattle.task_machine.specs.Asks.{Asking, coded_asking};
-    ghost use Rattle.task_machine.specs.steps.Standing.{asking, IsKept};
+    ghost use Rattle.task_machine.specs.steps.Standing.{asking, IsSearched};
 
     ghost Value = { Asking };
 
@@ -72,7 +78,7 @@ impl<'c> Model for Machine<'c> {
 
     ghost view = { λ m. asking m.execution m.due.items m.phase m.part m.ask m.asks m.children m.touched };
 
-    ghost invariant = { λ m. IsKept (asking m.execution m.due.items m.phase m.part m.ask m.asks m.children m.touched) };
+    ghost invariant = { λ m. IsSearched m.from.0 (asking m.execution m.due.items m.phase m.part m.ask m.asks m.children m.touched) };
 }
 
 // The take of an object for which there is a mode.
@@ -100,41 +106,68 @@ fn last_ask(phase: Phase) -> Ask
     }
 }
 
-// What is asked for where something may have to be given up first.
-fn give(execution: &Execution, due: &[bool], phase: Phase) -> Ask
-    requires { gives_up phase ≡ true }
-    ensures { (part : ℕ) → Asked result phase (machine execution.now due.now phase part) }
+// The object below which nothing is to be taken or given up, once there is an ask.
+fn reached(ask: Ask, from: ObjectId) -> ObjectId
+    ensures { result.0 ≡ reached ask from.0 }
 {
-    match next_object(execution, due, phase) {
+    match ask {
+        Ask::Take(object, _) => object,
+        Ask::GiveBack(object) => object,
+        Ask::Create => from,
+        Ask::Change => from,
+        Ask::End => from,
+        Ask::Fault(_) => from,
+    }
+}
+
+// The lesser of two objects.
+fn below(from: ObjectId, object: ObjectId) -> ObjectId
+    ensures { (result.0 ≤ from.0) × (result.0 ≤ object.0) }
+{
+    if object.0 < from.0 { object } else { from }
+}
+
+// What is asked for where something may have to be given up first.
+fn give(execution: &Execution, due: &[bool], phase: Phase, from: ObjectId) -> Ask
+    requires gives { gives_up phase ≡ true }
+    requires done { IsNone (is_to_move phase execution.now due.now) from.0 }
+    ensures asks { (part : ℕ) → Asked result phase (machine execution.now due.now phase part) }
+    ensures done { IsNone (is_to_move phase execution.now due.now) (reached result from.0) }
+{
+    match next_from(execution, due, phase, from) {
         Some(object) => Ask::GiveBack(object),
         None => last_ask(phase),
     }
 }
 
 // What is taken next of what is due.
-fn take_due(execution: &Execution, due: &[bool]) -> Option<Ask>
+fn take_due(execution: &Execution, due: &[bool], from: ObjectId) -> Option<Ask>
+    requires done { IsNone (is_to_move Phase.Taking execution.now due.now) from.0 }
     ensures asks { IfSome result (λ ask. (part : ℕ) → IsOrdered (machine execution.now due.now Phase.Taking part)
         → Asked ask Phase.Taking (machine execution.now due.now Phase.Taking part)) }
     ensures none { IfNone result (RunsOn Phase.Taking execution.now due.now) }
+    ensures done { IfSome result (λ ask. IsNone (is_to_move Phase.Taking execution.now due.now) (reached ask from.0)) }
 {
-    match next_object(execution, due, Phase::Taking) {
+    match next_from(execution, due, Phase::Taking, from) {
         Some(object) => Some(take(execution, object)),
         None => None,
     }
 }
 
 // What is asked for before the code is run on.
-fn next_ask(execution: &Execution, due: &[bool], phase: Phase) -> Option<Ask>
+fn next_ask(execution: &Execution, due: &[bool], phase: Phase, from: ObjectId) -> Option<Ask>
+    requires done { IsNone (is_to_move phase execution.now due.now) from.0 }
     ensures asks { IfSome result (λ ask. (part : ℕ) → IsOrdered (machine execution.now due.now phase part)
         → Asked ask phase (machine execution.now due.now phase part)) }
     ensures none { IfNone result (RunsOn phase execution.now due.now) }
+    ensures done { IfSome result (λ ask. IsNone (is_to_move phase execution.now due.now) (reached ask from.0)) }
 {
     match phase {
-        Phase::Taking => take_due(execution, due),
+        Phase::Taking => take_due(execution, due, from),
         Phase::Going => None,
-        Phase::Creating(number) => Some(give(execution, due, Phase::Creating(number))),
-        Phase::Changing => Some(give(execution, due, Phase::Changing)),
-        Phase::Ending(blame) => Some(give(execution, due, Phase::Ending(blame))),
+        Phase::Creating(number) => Some(give(execution, due, Phase::Creating(number), from)),
+        Phase::Changing => Some(give(execution, due, Phase::Changing, from)),
+        Phase::Ending(blame) => Some(give(execution, due, Phase::Ending(blame), from)),
     }
 }
 
@@ -165,10 +198,10 @@ fn pause_ask(execution: &Execution, due: &[bool], pause: Pause) -> Ask
 {
     match pause {
         Pause::Take(object) => take(execution, ObjectId(object as u32)),
-        Pause::End => give(execution, due, Phase::Ending(None)),
-        Pause::Fault(blame) => give(execution, due, Phase::Ending(Some(blame))),
-        Pause::Create(number) => give(execution, due, Phase::Creating(number)),
-        Pause::Change => give(execution, due, Phase::Changing),
+        Pause::End => give(execution, due, Phase::Ending(None), START),
+        Pause::Fault(blame) => give(execution, due, Phase::Ending(Some(blame)), START),
+        Pause::Create(number) => give(execution, due, Phase::Creating(number), START),
+        Pause::Change => give(execution, due, Phase::Changing, START),
         Pause::Declare(_, _) => unreachable!(),
         Pause::Other => unreachable!(),
     }
@@ -339,6 +372,7 @@ fn begun<'c>(execution: Execution<'c>, due: Vec<bool>) -> Machine<'c>
         execution,
         due,
         phase: Phase::Taking,
+        from: START,
         part,
         ask: None,
         asks: 0,
@@ -427,8 +461,9 @@ impl<'c> Machine<'c> {
         ensures refused { OnErr result ((self.new.ask ≡ None) × (self.new.asks ≡ self.old.asks)
             × ((vs : List ℤ) → rest_of self.new.at vs ≡ rest_of self.old.at vs)) }
     {
-        match next_ask(&self.execution, self.due.as_slice(), self.phase) {
+        match next_ask(&self.execution, self.due.as_slice(), self.phase, self.from) {
             Some(ask) => {
+                self.from = reached(ask, self.from);
                 self.touched = 0;
                 self.ask = Some(ask);
                 self.asks = self.asks.wrapping_add(1);
@@ -453,6 +488,7 @@ impl<'c> Machine<'c> {
         let before = self.execution.events();
         settle(&mut self.due, self.phase);
         self.phase = Phase::Going;
+        self.from = START;
         let pause = run(&mut self.execution, alloc)?;
         self.phase = phase_of(pause);
         let ask = pause_ask(&self.execution, self.due.as_slice(), pause);
@@ -470,6 +506,7 @@ impl<'c> Machine<'c> {
     {
         set_mark(&self.execution, &mut self.due, object, false);
         self.execution.supply(object, content);
+        self.from = below(self.from, object);
         self.ask = None;
     }
 
@@ -482,6 +519,7 @@ impl<'c> Machine<'c> {
         ensures given { IsSurrendered object result self.old self.new }
     {
         mark_given(&self.execution, &mut self.due, self.phase, object);
+        self.from = below(self.from, object);
         self.ask = None;
         take_out(&mut self.execution, object)
     }
@@ -494,6 +532,7 @@ impl<'c> Machine<'c> {
     {
         set_mark(&self.execution, &mut self.due, object, false);
         self.execution.supply(object, content);
+        self.from = below(self.from, object);
         self.ask = Some(Ask::GiveBack(object));
     }
 
@@ -528,6 +567,7 @@ impl<'c> Machine<'c> {
         remark(&self.execution, &mut self.due);
         self.execution.change();
         self.phase = Phase::Taking;
+        self.from = START;
         self.ask = None;
     }
 

@@ -4,7 +4,7 @@ ghost use Rattle.std.specs.Prelude.{◌≡◌, ◌<◌, ◌&&◌, not, length, i
 ghost use Rattle.jade_meaning.specs.Specification.{same_hold, yields};
 ghost use Rattle.task_machine.specs.Left.{IsLeast, IsNone};
 ghost use Rattle.task_machine.specs.Machines.{candidates, due_in, is_to_move};
-ghost use Rattle.task_machine.specs.steps.Searching.{ObjectsAscend};
+ghost use Rattle.task_machine.specs.steps.Searching.{IsFirstFrom, ObjectsAscend};
 
 use crate::execution::Execution;
 use access_spec::{gives_way, mode_of};
@@ -114,6 +114,46 @@ fn moves(execution: &Execution, due: &[bool], phase: Phase, object: ObjectId) ->
     }
 }
 
+// The place of the first of these objects that is not below this one, found by halves.
+fn place_from(execution: &Execution, phase: Phase, from: ObjectId) -> usize
+    ensures { IsFirstFrom from.0 result (candidates phase execution.now) }
+{
+    let mut low = 0;
+    let mut high = count(execution, phase);
+    'halves: while low < high {
+        let middle = low + (high - low) / 2;
+        if candidate(execution, phase, middle).0 < from.0 {
+            low = middle + 1;
+        } else {
+            high = middle;
+        }
+    }
+    low
+}
+
+/// The same as `next_object`, where nothing is to be taken or given up below an object: what stands
+/// below it is not looked at. It takes no memory.
+pub(crate) fn next_from(
+    execution: &Execution,
+    due: &[bool],
+    phase: Phase,
+    from: ObjectId,
+) -> Option<ObjectId>
+    requires { IsNone (is_to_move phase execution.now due.now) from.0 }
+    ensures found { IfSome result (λ object.
+        IsLeast (is_to_move phase execution.now due.now) execution.now.stage.objects object.0) }
+    ensures none { IfNone result (IsNone (is_to_move phase execution.now due.now) execution.now.stage.objects) }
+{
+    let first = place_from(execution, phase, from);
+    'objects: for place in first..count(execution, phase) {
+        let object = candidate(execution, phase, place);
+        if moves(execution, due, phase, object) {
+            return Some(object);
+        }
+    }
+    None
+}
+
 /// The least object that is to be taken, where the task takes what is due, or to be given up, where
 /// it creates a child, changes its rights or ends; there is none exactly where nothing is left to
 /// take or to give up. For each row of the execution there is a mark that tells whether its object
@@ -123,11 +163,5 @@ pub fn next_object(execution: &Execution, due: &[bool], phase: Phase) -> Option<
         IsLeast (is_to_move phase execution.now due.now) execution.now.stage.objects object.0) }
     ensures none { IfNone result (IsNone (is_to_move phase execution.now due.now) execution.now.stage.objects) }
 {
-    'objects: for place in 0..count(execution, phase) {
-        let object = candidate(execution, phase, place);
-        if moves(execution, due, phase, object) {
-            return Some(object);
-        }
-    }
-    None
+    next_from(execution, due, phase, ObjectId(0))
 }

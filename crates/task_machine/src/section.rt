@@ -12,6 +12,7 @@ ghost use Rattle.jade_syntax.specs.declared.tree.DeclareWord.{DeclareWord as Wor
 ghost use Rattle.task_machine.specs.steps.Owning.{copy_spread, rights_of, draft_of};
 ghost use Rattle.task_machine.specs.steps.Acting.{KeepsRights, SaidBy};
 
+use crate::entries::place_of;
 use access_spec::{Change, WorkingCopy};
 use jade_base::{Memory, ObjectId, Right, Rights, Spec};
 use jade_meaning::laws::spread_agrees;
@@ -50,18 +51,14 @@ pub enum Said {
     Refused,
 }
 
-// The rights on an object. Where a task has rights on all objects, they are found at once.
+// The rights on an object.
 fn rights_among(spec: &Spec, object: ObjectId) -> Rights
     ensures { result ≡ rights_in spec.now.entries object }
 {
-    let place = object.0 as usize;
-    if place < spec.len() {
-        let (found, rights) = spec.entry(place);
-        if found.0 == object.0 {
-            return rights;
-        }
+    match place_of(spec, object) {
+        None => Rights::NONE,
+        Some(place) => spec.entry(place).1,
     }
-    spec.rights(object)
 }
 
 // The rights of the task on an object.
@@ -89,22 +86,16 @@ pub(crate) fn copied_for(own: &Own, object: ObjectId) -> Rights
     if object.0 >= own.objects {
         return Rights::NONE;
     }
-    copied(&own.spec, object)
+    copied(own.spec.spec(), object)
 }
 
 // The rights on an object in a copy.
-fn copied(spec: &WorkingCopy, object: ObjectId) -> Rights
+fn copied(spec: &Spec, object: ObjectId) -> Rights
     ensures { result ≡ copied spec.now object }
 {
-    match spec.next_change(object) {
-        None => rights_among(spec.spec(), object),
-        Some((found, rights)) => {
-            if found.0 == object.0 {
-                rights
-            } else {
-                rights_among(spec.spec(), object)
-            }
-        }
+    match place_of(spec, object) {
+        None => Rights::NONE,
+        Some(place) => spec.draft_at(place),
     }
 }
 

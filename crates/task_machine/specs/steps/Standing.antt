@@ -87,6 +87,20 @@ pub record IsKept (a : Asking) : Type 0 where
   pub knows : Knows a.at.phase a.at
   pub asked : AskedIf a.ask a.at.phase a.at
 
+-- a machine of which this is known, and which has nothing to take or to give up below an object
+pub record IsSearched (from : ℕ) (a : Asking) : Type 0 where
+  pub kept : IsKept a
+  pub done : IsNone (is_to_move a.at.phase a.at.execution a.at.due) from
+
+-- the object below which nothing is to be taken or given up, once there is an ask
+abbrev pub reached : Ask → (from : ℕ) → ℕ
+reached (ask.Take o mode) from = o.0
+reached (ask.GiveBack o) from = o.0
+reached ask.Create from = from
+reached ask.Change from = from
+reached ask.End from = from
+reached (ask.Fault b) from = from
+
 -- an execution from which a machine begins
 pub record IsFresh (e : Execution) : Type 0 where
   pub rows : e.rows ≡ map without_content e.stage.spec.entries

@@ -1,7 +1,10 @@
 use Rattle.std.proofs.Common.{sym, ◌∙◌, arith}
 use Rattle.task_machine.specs.Machines.{candidates, is_to_move}
 use Rattle.task_machine.proofs.Searching.{first_is_least, none_is_left, is_candidate, is_object}
-use Rattle.task_machine.proofs.next.next_object.Goals as goal
+use Rattle.task_machine.proofs.next.next_from.Goals as goal
+
+pub objects-init : goal.objects-init
+objects-init c i x lt h = c.requires x.0 (c.place_from-first.ensures.below i x lt h)
 
 pub returns-then-moves-clause-found : goal.returns-then-moves-clause-found
 returns-then-moves-clause-found c =

@@ -15,4 +15,5 @@ returns c =
     let w = c.args.own.now in
     let f : ℕ → Rights = λ i. copied w.spec (id i) in
     let z : 0 + c.args.object.0 ≡ c.args.object.0 = omega arith in
-    c.copied.ensures ∙ sym (tab_at f 0 w.objects c.args.object.0 (omega (arith, c.if-object-own.false)) ∙ ap f z)
+    c.copied.ensures ∙ ap (λ s. copied s c.args.object) c.spec.ensures
+    ∙ sym (tab_at f 0 w.objects c.args.object.0 (omega (arith, c.if-object-own.false)) ∙ ap f z)

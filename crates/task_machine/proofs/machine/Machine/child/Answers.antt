@@ -1,9 +1,9 @@
-use Rattle.std.proofs.Common.{List, ap, ap₂, length, map, sym, subst, ◌∙◌, ◌≡◌, true, ℕ}
+use Rattle.std.proofs.Common.{refl, ap, ap₂, length, map, sym, subst, ◌∙◌, true, false}
 use Rattle.std.specs.Prelude.{replicate}
 use Rattle.jade_base.specs.Specification.{Specification as Sparse}
 use Rattle.jade_meaning.specs.Course.{Course}
 use Rattle.jade_meaning.specs.Specification.{Specification}
-use Rattle.jade_meaning.specs.Talk.{Task, talk}
+use Rattle.jade_meaning.specs.Talk.{talk}
 use Rattle.code_meaning.specs.Meaning.{passed}
 use Rattle.task_machine.specs.Playing.{contents_of}
 use Rattle.task_machine.specs.Stages.{slots_of}
@@ -23,8 +23,12 @@ begun-requires-clause-due c =
 pub invariant_of-self-2 : goal.invariant_of-self-2
 invariant_of-self-2 c =
     let m = c.self.inside in
-    create_kept m.execution m.due.items m.phase m.part m.ask m.asks m.children m.touched _ _ _ c.self.invariant
-    (ap (λ (a : Asking). a.ask) c.self.view_is ∙ c.requires) c.in_ok-execution.ensures.moved c.steps_left-self-inside.ensures
+    record {
+      kept =
+          create_kept m.execution m.due.items m.phase m.part m.ask m.asks m.children m.touched _ _ _ c.self.invariant.kept
+          (ap (λ (a : Asking). a.ask) c.self.view_is ∙ c.requires) c.in_ok-execution.ensures.moved c.steps_left-self-inside.ensures;
+      done = λ j lt. refl {a = false};
+    }
 
 pub returns-clause-begins : goal.returns-clause-begins
 returns-clause-begins c =
@@ -32,7 +36,7 @@ returns-clause-begins c =
     let e = c.in_ok-execution.execution in
     let b = c.in_ok-execution.ensures.begun in
     let number = c.number_of-number.result in
-    let is = c.begins_its_course.ensures.child m number e c.self.invariant.objects c.creates.ensures.later c.creates.ensures.there b in
+    let is = c.begins_its_course.ensures.child m number e c.self.invariant.kept.objects c.creates.ensures.later c.creates.ensures.there b in
     let begins : BeginsAs (child_task number m) c.begun.result =
     begins_as e (child_task number m) _ c.begun.ensures
     (λ vs. c.begins_its_talk.ensures m.program m.numbers m.limit number (passed m.numbers (body_at m.program number).call (slots_of m.stage.slots))

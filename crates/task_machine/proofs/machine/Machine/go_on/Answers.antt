@@ -1,4 +1,4 @@
-use Rattle.std.proofs.Common.{Bool, List, None, Option, Some, ap, ap₂, sym, subst, ◌∙◌, ◌≡◌, ◌+◌, ◌-◌, ◌<◌, ◌%◌, ◌^◌, ℕ}
+use Rattle.std.proofs.Common.{Bool, false, List, None, Option, Some, refl, ap, ap₂, sym, subst, ◌∙◌, ◌≡◌, ◌+◌, ◌-◌, ◌<◌, ◌%◌, ◌^◌, ℕ}
 use Rattle.std.specs.Prelude.{ℤ}
 use Rattle.task_machine.specs.declared.next.Phase.TheVariants as phase
 use Rattle.task_machine.specs.declared.machine.Ask.{Ask}
@@ -6,6 +6,7 @@ use Rattle.task_machine.specs.Machines.{IsOrdered, NoDue, rest_of}
 use Rattle.task_machine.specs.Asks.{Asking, GoesTo}
 use Rattle.task_machine.specs.steps.Standing.{Asked, IsKept, RunsOn, asking, machine, phase_of}
 use Rattle.task_machine.proofs.Standing.{good1, goes_to, none1, rows1, stops_kept, stops_rest, went_kept, on_err}
+use Rattle.task_machine.proofs.Sought.{none_below}
 use Rattle.task_machine.proofs.machine.Machine.go_on.Goals as goal
 
 pub invariant_of-self : goal.invariant_of-self
@@ -16,10 +17,14 @@ invariant_of-self c =
     let asked = ap (λ (a : Asking). a.ask) c.self.view_is ∙ c.requires.asked in
     let stops = c.in_err-pause.ensures.refused in
     let kept =
-    stops_kept m.execution f m.due.items m.phase m.part stops.0 stops.1 m.ask m.asks m.children m.touched c.self.invariant runs m.asks m.children
+    stops_kept m.execution f m.due.items m.phase m.part stops.0 stops.1 m.ask m.asks m.children m.touched c.self.invariant.kept runs m.asks m.children
     m.touched in
-    subst (λ (k : Option Ask). IsKept (asking f c.settle.new.due.items phase.Going m.part k m.asks m.children m.touched)) (sym asked)
-    (subst (λ (ds : List Bool). IsKept (asking f ds phase.Going m.part None m.asks m.children m.touched)) (sym c.settle.ensures) kept)
+    record {
+      kept =
+          subst (λ (k : Option Ask). IsKept (asking f c.settle.new.due.items phase.Going m.part k m.asks m.children m.touched)) (sym asked)
+          (subst (λ (ds : List Bool). IsKept (asking f ds phase.Going m.part None m.asks m.children m.touched)) (sym c.settle.ensures) kept);
+      done = λ j lt. refl {a = false};
+    }
 
 pub returns-in_err-pause-clause-refused : goal.returns-in_err-pause-clause-refused
 returns-in_err-pause-clause-refused c =
@@ -29,7 +34,7 @@ returns-in_err-pause-clause-refused c =
     let asked = ap (λ (a : Asking). a.ask) c.self.view_is ∙ c.requires.asked in
     let stops = c.in_err-pause.ensures.refused in
     let rest : (vs : List ℤ) → rest_of (machine f c.settle.new.due.items phase.Going m.part) vs ≡ rest_of c.args.self.now.at vs =
-    λ vs. stops_rest m.execution f m.due.items m.phase m.part stops.0 stops.1 m.ask m.asks m.children m.touched c.self.invariant runs vs
+    λ vs. stops_rest m.execution f m.due.items m.phase m.part stops.0 stops.1 m.ask m.asks m.children m.touched c.self.invariant.kept runs vs
     ∙ ap (λ (a : Asking). rest_of a.at vs) c.self.view_is in
     on_err c.from_residual-in_err-pause.result _ (asked, ap (λ (a : Asking). a.asks) c.self.view_is, rest)
 
@@ -41,7 +46,7 @@ invariant_of-self-2 c =
     let q = c.in_ok-pause.pause in
     let x = c.in_ok-pause.ensures.ran in
     let event = c.in_ok-pause.ensures.event in
-    let kept = c.self.invariant in
+    let kept = c.self.invariant.kept in
     let ds = m.due.items in
     let runs = subst (λ (a : Asking). RunsOn a.at.phase a.at.execution a.at.due) (sym c.self.view_is) c.requires.runs in
     let slice = c.as_slice.ensures.value ∙ c.settle.ensures in
@@ -53,15 +58,19 @@ invariant_of-self-2 c =
     (subst (λ (ds : List Bool). NoDue (machine f ds (phase_of q) m.part)) (sym slice)
     (none1 e f ds m.phase m.part q x event kept.order kept.knows runs))
     (rows1 e f ds m.phase m.part q x event kept.order kept.knows runs kept.rows)) in
-    went_kept e f ds m.phase m.part q x event kept.order kept.knows runs m.ask c.pause_ask-ask.result m.asks _ m.children m.touched _ kept asked
-    c.settle.new.due.items c.phase_of-self-inside.result c.settle.ensures c.phase_of-self-inside.ensures
+    record {
+      kept =
+          went_kept e f ds m.phase m.part q x event kept.order kept.knows runs m.ask c.pause_ask-ask.result m.asks _ m.children m.touched _ kept asked
+          c.settle.new.due.items c.phase_of-self-inside.result c.settle.ensures c.phase_of-self-inside.ensures;
+      done = none_below _ 0 refl;
+    }
 
 pub returns-clause-goes : goal.returns-clause-goes
 returns-clause-goes c =
     let m = c.self.inside in
     let f = c.run.new.execution in
     let q = c.in_ok-pause.pause in
-    let kept = c.self.invariant in
+    let kept = c.self.invariant.kept in
     let runs = subst (λ (a : Asking). RunsOn a.at.phase a.at.execution a.at.due) (sym c.self.view_is) c.requires.runs in
     let counted = ap₂ (λ (y z : ℕ). (y + (2 ^ 64 - z)) % 2 ^ 64) c.events.ensures c.events-before.ensures in
     let ask = Some c.pause_ask-ask.result in
