@@ -17,7 +17,8 @@ pub enroll-requires-clause-next : goal.enroll-requires-clause-next
 enroll-requires-clause-next g c =
     let x = c.args.capsule in (
       child_task (number_of x.machine.at.phase) x.machine.at.execution,
-      enroll_next g.N.RunName.mark g.N.RunName.plan x.pass x.machine x.from x.events x.tied c.requires.asked c.requires.entered c.steps-steps.result c.steps-steps.ensures,
+      enroll_next g.N.RunName.mark g.N.RunName.plan x.pass x.machine x.from x.events x.tied c.requires.asked c.requires.entered c.steps-steps.result
+          c.steps-steps.ensures,
     )
 
 pub split-requires-clause-mark : goal.split-requires-clause-mark
@@ -111,7 +112,10 @@ returns-in-Busy g c =
       wanted = ask.Create;
       asked = c.requires.asked;
       event = Enroll child c.steps-steps.result;
-      next = enroll_next g.N.RunName.mark g.N.RunName.plan x.pass x.machine x.from x.events x.tied c.requires.asked c.requires.entered c.steps-steps.result c.steps-steps.ensures;
-      read = found.after ∙ ap (λ n. found_busy n x.pass.shows) (roll_at g.N.RunName.mark g.N.RunName.plan x.pass x.machine x.from x.events x.tied c.args.table.now.plan c.requires.table.1);
+      next =
+          enroll_next g.N.RunName.mark g.N.RunName.plan x.pass x.machine x.from x.events x.tied c.requires.asked c.requires.entered c.steps-steps.result
+          c.steps-steps.ensures;
+      read = found.after ∙ ap (λ n. found_busy n x.pass.shows)
+          (roll_at g.N.RunName.mark g.N.RunName.plan x.pass x.machine x.from x.events x.tied c.args.table.now.plan c.requires.table.1);
       unmoved = record { machine = refl; from = refl; events = refl; gate = refl };
     }

@@ -68,7 +68,9 @@ returns-in-Busy g c =
       wanted = ask.Create;
       asked = c.requires.asked;
       event = Enter c.args.object.0 c.args.rights;
-      next = enter_next g.N.RunName.mark g.N.RunName.plan x.pass x.machine x.from x.events x.tied c.requires.asked c.args.object.0 c.args.rights c.requires.entry;
+      next =
+          enter_next g.N.RunName.mark g.N.RunName.plan x.pass x.machine x.from x.events x.tied c.requires.asked c.args.object.0 c.args.rights
+          c.requires.entry;
       read = found.after;
       unmoved = record { machine = refl; from = refl; events = refl; gate = refl };
     }

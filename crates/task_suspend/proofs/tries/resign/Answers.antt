@@ -68,6 +68,7 @@ returns g c =
       event = Resign c.args.blame c.steps-steps.result;
       next = resign_next g.N.RunName.mark g.N.RunName.plan x.pass x.machine x.from x.events x.tied c.args.blame (Some (ending c.args.blame)) c.requires.asked
           (ends_so c.args.blame x.machine.at) c.steps-steps.result c.steps-steps.ensures c.requires.over;
-      read = found.after ∙ ap (λ k. found_busy k x.pass.shows) (roll_at g.N.RunName.mark g.N.RunName.plan x.pass x.machine x.from x.events x.tied c.args.table.now.plan c.requires.table.1);
+      read = found.after ∙ ap (λ k. found_busy k x.pass.shows)
+          (roll_at g.N.RunName.mark g.N.RunName.plan x.pass x.machine x.from x.events x.tied c.args.table.now.plan c.requires.table.1);
       unmoved = record { machine = refl; from = refl; events = refl; gate = refl };
     }
