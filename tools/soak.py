@@ -4,9 +4,10 @@
     tools/soak.py [PROGRAMS] [SEED] [JADE]
 
 Each program is made from its number and the seed alone: objects and families, nested tasks with immediate
-and deferred rights, changes of rights, loops, branches, and now and then a task that touches what it did not
-declare, goes past the end of an object or divides by zero. It is run by `serial` and by `run` with 1 to 8
-workers under a limit that stops some of them; text and status must be the same. The first program that
+and deferred rights, changes of rights, loops and branches. Three programs in ten are careless: now and then a
+task of theirs touches what it did not declare, goes past the end of an object or divides by what may be zero,
+and a limit stops some of them; the others end well. Each is run by `serial` and by `run` with 1 to 8 workers;
+text and status must be the same. The first program that
 differs is printed with both answers, and the script ends with 1.
 """
 import os
@@ -20,11 +21,19 @@ class Maker:
 
     def __init__(self, number, seed):
         self.random = random.Random(f"{seed} {number}")
+        self.careless = self.random.random() < 0.3
         self.lines = []
         self.budget = 40
 
     def put(self, depth, line):
         self.lines.append("    " * depth + line)
+
+    def errs(self, chance):
+        """Whether the program does something wrong here."""
+        return self.careless and self.random.random() < chance
+
+    def limit(self):
+        return str(self.random.choice([12, 60, 1000, 100000]) if self.careless else 100000)
 
     def program(self):
         pick = self.random
@@ -47,13 +56,13 @@ class Maker:
 
     def cell(self, name):
         size = self.size(name)
-        if self.random.random() < 0.01:
+        if self.errs(0.01):
             return f"{name}[{size}]"
         return f"{name}[{self.random.randrange(size)}]"
 
     def read(self, now):
         """A cell that may be read, or now and then any."""
-        if self.random.random() < 0.01:
+        if self.errs(0.01):
             return self.cell(self.random.choice(self.objects)[0])
         mine = [n for n, r in now.items() if r in ("both", "read")]
         return self.cell(self.random.choice(mine)) if mine else str(self.random.randint(0, 9))
@@ -67,13 +76,19 @@ class Maker:
         if pick < 0.7:
             return self.read(now)
         left, right = self.value(now, names, depth + 1), self.value(now, names, depth + 1)
-        sign = self.random.choice(["+", "-", "*", "+", "-"] if self.random.random() < 0.95 else ["/", "%"])
-        return f"({left} {sign} {right})"
+        if self.errs(0.05):
+            return f"({left} {self.random.choice('/%')} {right})"
+        if self.random.random() < 0.05:
+            return f"({left} {self.random.choice('/%')} {self.random.randint(2, 9)})"
+        return f"({left} {self.random.choice('+-*+-')} {right})"
 
     def store(self, at, now, names):
         mine = [n for n, r in now.items() if r in ("both", "write")]
-        if not mine or self.random.random() < 0.015:
+        if self.errs(0.015):
             mine = [n for n, _ in self.objects]
+        if not mine:
+            self.put(at, f"int v{len(self.lines)} = {self.value(now, names)};")
+            return
         value = f"({self.value(now, names)}) % 1000"
         self.put(at, f"{self.cell(self.random.choice(mine))} = {value};")
 
@@ -114,7 +129,7 @@ class Maker:
     def task(self, at, depth, now, later, names):
         """A task with a part of its creator's rights."""
         words, mine, deferred = [], {}, {}
-        have = {**later, **now} if self.random.random() < 0.98 else {n: "both" for n, _ in self.objects}
+        have = {n: "both" for n, _ in self.objects} if self.errs(0.02) else {**later, **now}
         for name, right in have.items():
             if self.random.random() < 0.45:
                 continue
@@ -160,8 +175,8 @@ def main():
     jade = sys.argv[3] if len(sys.argv) > 3 else os.path.join(top, "crates/jade/out/jade")
     ends, refused = {}, 0
     for number in range(count):
-        text = Maker(number, seed).program()
-        limit = str(random.Random(f"limit {seed} {number}").choice([12, 60, 1000, 100000]))
+        maker = Maker(number, seed)
+        text, limit = maker.program(), maker.limit()
         wanted = run(jade, ["serial", limit], text)
         ends[wanted[0]] = ends.get(wanted[0], 0) + 1
         workers = str(number % 8 + 1)

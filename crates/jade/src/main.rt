@@ -2,7 +2,7 @@
 #![tactic(auto)]
 
 use jade_base::{StdSink, StdSource, Word};
-use jade_run::{EmptyGate, Status, jade_main};
+use jade_run::{EmptyGate, NoWitness, Status, jade_main};
 use std::alloc::Global;
 use std::env::{Env, FillError};
 use std::process::ExitCode;
@@ -70,7 +70,15 @@ fn main(rt: HostRuntime) -> ExitCode {
         Ok(words) => {
             let mut source = StdSource::new(rt.stdin());
             let mut sink = StdSink::new(rt.stdout());
-            let status = jade_main(&rt, alloc, &words, &mut source, &mut sink, &EmptyGate);
+            let status = jade_main(
+                &rt,
+                alloc,
+                &words,
+                &mut source,
+                &mut sink,
+                &EmptyGate,
+                &mut NoWitness,
+            );
             ExitCode::from(status.number())
         }
         Err(NoWords::Memory) => ExitCode::from(Status::Memory.number()),

@@ -63,11 +63,11 @@ use Rattle.jade_meaning.specs.Answer.{Answer, Faulted, Cells, answer}
 use Rattle.jade_syntax.specs.Image.{program}
 
 -- the bytes that are told, or none
-bytes_of : Option (List ℕ) → List ℕ
+pub bytes_of : Option (List ℕ) → List ℕ
 bytes_of None = []
 bytes_of (Some b) = b
 
-told_bytes : (left : Option (List ℕ)) (b : List ℕ) → left ≡ Some b → bytes_of left ≡ b
+pub told_bytes : (left : Option (List ℕ)) (b : List ℕ) → left ≡ Some b → bytes_of left ≡ b
 unfolding bytes_of
 told_bytes left b e = ap bytes_of e
 
@@ -165,7 +165,7 @@ textless words left before after c (Ok a) asked off h m = drilled_answers words 
 textless words left before after c (Err s) asked off h m = subst (λ z. Stops z before after) (sym m) tt
 
 -- the statuses with which an outcome is written
-Written : Status → Type 0
+unfoldable pub Written : Status → Type 0
 Written Good = Unit {0}
 Written Fault = Unit {0}
 Written Refused = Unit {0}
@@ -202,7 +202,7 @@ unfolding Written
 drilled_written tasks text status (summed tree g n store e t s) = subst Written (sym s) tt
 drilled_written tasks text status (not_summed h bad) = answered_written _ _ _ _ _ h
 
-outcome_written : (words : List (List ℕ)) (bytes text : List ℕ) (status : Status) → IsOutcome words bytes text status → Written status
+pub outcome_written : (words : List (List ℕ)) (bytes text : List ℕ) (status : Status) → IsOutcome words bytes text status → Written status
 unfolding Written
 outcome_written words bytes text status (usage never t s) = subst Written (sym s) tt
 outcome_written words bytes text status (too_long named more t s) = subst Written (sym s) tt

@@ -1,5 +1,5 @@
 -- What a drill comes to.
-use Rattle.std.proofs.Common.{◌≡◌, ℕ, List, [], refl, sym, ◌∙◌, subst}
+use Rattle.std.proofs.Common.{◌≡◌, ℕ, ◌⊎◌, inl, inr, List, [], refl, sym, ◌∙◌, subst}
 use Rattle.std.specs.Prelude.{Result, Ok, Err, IfOk}
 use Rattle.jade_base.specs.declared.failure.Memory.{Memory as NoMemory}
 use Rattle.jade_gen.specs.Drill.{drill_text}
@@ -8,11 +8,21 @@ use Rattle.jade_syntax.specs.Image.{program}
 use Rattle.jade_meaning.specs.Answer.{Answer, Faulted, Cells, answer}
 use Rattle.jade_run.specs.declared.answer.Answer.{Answer as AnswerOf}
 use Rattle.jade_run.specs.declared.status.Status.{Status}
-use Rattle.jade_run.specs.declared.status.Status.TheVariants.{Good, Fault}
+use Rattle.jade_run.specs.declared.status.Status.TheVariants.{Good, Fault, Refused, Numbers}
 use Rattle.jade_run.specs.Outcome.{IsAnswered, IsDrilled, IsGood, Shows}
 use Rattle.jade_run.specs.Outcome.{summed, not_summed, answered, input_count}
 use Rattle.jade_run.specs.steps.Drilling.{ShowsSum}
 use Rattle.jade_run.specs.steps.Preparing.{IsSettled}
+
+refused_is_bad : Refused ≡ Good → ⊥
+refused_is_bad e = absurd (cc)
+
+numbers_is_bad : Numbers ≡ Good → ⊥
+numbers_is_bad e = absurd (cc)
+
+unrun_is_bad : (status : Status) → (status ≡ Refused) ⊎ (status ≡ Numbers) → status ≡ Good → ⊥
+unrun_is_bad status (inl e) g = refused_is_bad (sym e ∙ g)
+unrun_is_bad status (inr e) g = numbers_is_bad (sym e ∙ g)
 
 fault_is_bad : Fault ≡ Good → ⊥
 fault_is_bad e = absurd (cc)
@@ -21,7 +31,7 @@ fault_is_bad e = absurd (cc)
 pub settled_drilled : (tasks : ℕ) (bytes text : List ℕ) (status : Status) → bytes ≡ drill_text tasks → IsSettled bytes [] text status →
     IsDrilled tasks text status
 settled_drilled tasks bytes text status e h =
-    let P : List ℕ → Type 0 = λ b. IsAnswered b [] 4294967295 text status in not_summed (subst P e (h.answered 4294967295)) h.bad
+    let P : List ℕ → Type 0 = λ b. IsAnswered b [] 4294967295 text status in not_summed (subst P e (h.answered 4294967295)) (unrun_is_bad status h.unrun)
 
 told : (tasks : ℕ) (tree : Program) (text : List ℕ) (status : Status) → IsGood (drill_text tasks) tree → input_count tree ≡ 0 → (x : Answer) →
     answer (program tree) [] 4294967295 ≡ x → ShowsSum (program tree) tasks x text status → IsDrilled tasks text status

@@ -9,3 +9,4 @@ pub mod Signed
 pub mod Totals
 pub mod Preparing
 pub mod Running
+pub mod Witnessing

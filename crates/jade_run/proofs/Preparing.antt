@@ -1,26 +1,20 @@
 -- What a text is answered with where it can't be run.
-use Rattle.std.proofs.Common.{◌≡◌, ℕ, List, [], length, refl, sym, ap, ◌∙◌}
+use Rattle.std.proofs.Common.{◌≡◌, ℕ, inl, inr, List, [], length, refl, sym, ap, ◌∙◌}
 use Rattle.std.specs.Prelude.{ℤ}
 use Rattle.jade_syntax.specs.declared.tree.Program.{Program}
 use Rattle.jade_run.specs.declared.answer.ReadError.{ReadError}
 use Rattle.jade_run.specs.declared.answer.ReadError.TheVariants.{Refused as NotRead, Memory as Unread}
 use Rattle.jade_run.specs.declared.status.Status.{Status}
-use Rattle.jade_run.specs.declared.status.Status.TheVariants.{Good, Refused, Numbers}
+use Rattle.jade_run.specs.declared.status.Status.TheVariants.{Refused, Numbers}
 use Rattle.jade_run.specs.Outcome.{IsGood, IsNotRead, OnRefused, RefusedFor}
 use Rattle.jade_run.specs.Outcome.{refused, miscounted, input_count}
 use Rattle.jade_run.specs.Texts.{numbers_text}
 use Rattle.jade_run.specs.steps.Preparing.{IsSettled}
 
-refused_is_bad : Refused ≡ Good → ⊥
-refused_is_bad e = absurd (cc)
-
-numbers_is_bad : Numbers ≡ Good → ⊥
-numbers_is_bad e = absurd (cc)
-
 pub refused_settled : (bytes : List ℕ) (numbers : List ℤ) (e : ReadError) (text : List ℕ) (status : Status) → IsNotRead e text status →
     OnRefused e (RefusedFor bytes) → IsSettled bytes numbers text status
 refused_settled bytes numbers (NotRead place why) text status n h =
-    record { answered = λ limit. refused place why.now h n.0 n.1; bad = λ g. refused_is_bad (sym n.1 ∙ g) }
+    record { answered = λ limit. refused place why.now h n.0 n.1; unrun = inl n.1 }
 refused_settled bytes numbers Unread text status n h = absurd n
 
 pub miscounted_settled : (bytes : List ℕ) (numbers : List ℤ) (wanted got : ℕ) (tree : Program) (text : List ℕ) (status : Status) →
@@ -28,5 +22,5 @@ pub miscounted_settled : (bytes : List ℕ) (numbers : List ℤ) (wanted got : �
     IsSettled bytes numbers text status
 miscounted_settled bytes numbers wanted got tree text status t s g w n differ = record {
   answered = λ limit. miscounted tree g (λ e. differ (n ∙ e ∙ sym w)) (t ∙ ap (λ k. numbers_text k got) w ∙ ap (numbers_text (input_count tree)) n) s;
-  bad = λ h. numbers_is_bad (sym s ∙ h);
+  unrun = inr s;
 }

@@ -5,4 +5,5 @@ pub mod Outcome
 pub mod Sums
 pub mod steps
 pub mod Texts
+pub mod Witnessed
 pub mod Words

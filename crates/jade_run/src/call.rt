@@ -3,6 +3,7 @@
 ghost use Rattle.std.specs.Prelude.{◌≡◌, ◌≤◌, [], length, IfOk, IfErr, MatchResult, codes};
 ghost use Rattle.jade_run.specs.Headline.{Answers, Headline, Stops};
 ghost use Rattle.jade_run.specs.Outcome.{first_place, IsAllowed, IsCommanded};
+ghost use Rattle.jade_run.specs.Witnessed.{Saw, SawCommand, SawOf};
 ghost use Rattle.jade_run.specs.Words.{NeedsNoText};
 ghost use Rattle.jade_run.specs.Texts.{refused_text, usage_text};
 
@@ -11,6 +12,7 @@ use crate::drill::run_drill;
 use crate::run::{run_text, serial_text};
 use crate::status::Status;
 use crate::texts;
+use crate::witness::Witness;
 use crate::words::{Command, WordsError, command_of};
 use jade_base::{Memory, Pos, Sink, Source, TextError, Word, read_text, write_text};
 use std::alloc::Global;
@@ -26,18 +28,21 @@ const FIRST_PLACE: Pos = Pos { line: 1, column: 1 };
 /// the status. For a drill and for refused words nothing is read.
 ///
 /// `run` and `drill` run the tasks on as many workers as the words say, the caller among them; what
-/// they write does not depend on that, nor on the gate.
+/// they write does not depend on that, nor on the gate. The witness is shown what such a run did,
+/// where it comes to an answer, before that is written.
 ///
 /// The words are tested first, then the length of the text, then the text. The whole text of the
 /// answer is built before its first byte is written.
-pub fn jade_main<R: Threads + Wait + Sync, S: Source, K: Sink, G: Gate>(
+pub fn jade_main<R: Threads + Wait + Sync, S: Source, K: Sink, G: Gate, W: Witness>(
     rt: &R,
     alloc: Global,
     words: &[Word],
     source: &mut S,
     sink: &mut K,
     gate: &G,
+    witness: &mut W,
 ) -> Status
+    ensures saw { Saw words.now (S.left source.old) result (W.seen witness.old) (W.seen witness.new) }
     ensures unread { NeedsNoText words.now → (source.new ≡ source.old) × (result ≡ Status.Reading → ⊥) }
     ensures headline { Headline words.now result
         (record {
@@ -55,7 +60,7 @@ pub fn jade_main<R: Threads + Wait + Sync, S: Source, K: Sink, G: Gate>(
           sink_faults = K.faults sink.new;
         }) }
 {
-    match answer(rt, alloc, words, source, gate) {
+    match answer(rt, alloc, words, source, gate, witness) {
         Ok(answer) => match write_text(sink, &answer.text) {
             Ok(()) => answer.status,
             Err(_) => Status::Writing,
@@ -66,13 +71,16 @@ pub fn jade_main<R: Threads + Wait + Sync, S: Source, K: Sink, G: Gate>(
 
 /// What words and a source come to. The error is the status of a failed source, or of want of
 /// memory.
-fn answer<R: Threads + Wait + Sync, S: Source, G: Gate>(
+fn answer<R: Threads + Wait + Sync, S: Source, G: Gate, W: Witness>(
     rt: &R,
     alloc: Global,
     words: &[Word],
     source: &mut S,
     gate: &G,
+    witness: &mut W,
 ) -> Result<Answer, Status>
+    ensures saw { IfOk result (λ a. SawOf words.now (S.left source.old) a.status (W.seen witness.old) (W.seen witness.new)) }
+    ensures still { IfErr result (λ s. s ≡ Status.Reading → W.seen witness.new ≡ W.seen witness.old) }
     ensures unread { NeedsNoText words.now → (source.new ≡ source.old) × IfErr result (λ s. s ≡ Status.Memory) }
     ensures answer { MatchResult result (λ a. Answers words.now (S.left source.old) (S.left source.new) a.text.items a.status)
         (λ s. Stops s (S.faults source.old) (S.faults source.new)) }
@@ -82,10 +90,10 @@ fn answer<R: Threads + Wait + Sync, S: Source, G: Gate>(
         Err(error) => return not_a_command(alloc, error),
     };
     if !command.works_on_text() {
-        return without_text(rt, alloc, &command, gate);
+        return without_text(rt, alloc, &command, gate, witness);
     }
     match read_text(alloc, source) {
-        Ok(text) => match of_text(rt, alloc, &command, &text, gate) {
+        Ok(text) => match of_text(rt, alloc, &command, &text, gate, witness) {
             Ok(answer) => Ok(answer),
             Err(Memory) => Err(Status::Memory),
         },
@@ -99,45 +107,58 @@ fn answer<R: Threads + Wait + Sync, S: Source, G: Gate>(
 }
 
 /// What a command comes to that works on no text. The error is the status of want of memory.
-fn without_text<R: Threads + Wait + Sync, G: Gate>(
+fn without_text<R: Threads + Wait + Sync, G: Gate, W: Witness>(
     rt: &R,
     alloc: Global,
     command: &Command,
     gate: &G,
+    witness: &mut W,
 ) -> Result<Answer, Status>
     requires { IsAllowed command.now }
+    ensures saw { IfOk result (λ a. SawCommand command.now [] a.status (W.seen witness.old) (W.seen witness.new)) }
     ensures answer { IfOk result (λ a. IsCommanded command.now [] a.text.items a.status) }
     ensures memory { IfErr result (λ s. s ≡ Status.Memory) }
 {
-    match of_text(rt, alloc, command, &[], gate) {
+    match of_text(rt, alloc, command, &[], gate, witness) {
         Ok(answer) => Ok(answer),
         Err(Memory) => Err(Status::Memory),
     }
 }
 
 /// What a command comes to on a text of at most 1,048,576 bytes.
-fn of_text<R: Threads + Wait + Sync, G: Gate>(
+fn of_text<R: Threads + Wait + Sync, G: Gate, W: Witness>(
     rt: &R,
     alloc: Global,
     command: &Command,
     text: &[u8],
     gate: &G,
+    witness: &mut W,
 ) -> Result<Answer, Memory>
     requires within { length text.now ≤ 1048576 }
     requires allowed { IsAllowed command.now }
-    ensures { IfOk result (λ a. IsCommanded command.now text.now a.text.items a.status) }
+    ensures saw { IfOk result (λ a. SawCommand command.now text.now a.status (W.seen witness.old) (W.seen witness.new)) }
+    ensures answer { IfOk result (λ a. IsCommanded command.now text.now a.text.items a.status) }
 {
     match command {
         Command::Run(workers, execution) => {
             let numbers = execution.numbers.as_slice();
-            run_text(rt, alloc, text, numbers, *workers, execution.limit, gate)
+            run_text(
+                rt,
+                alloc,
+                text,
+                numbers,
+                *workers,
+                execution.limit,
+                gate,
+                witness,
+            )
         }
         Command::Serial(execution) => {
             serial_text(alloc, text, execution.numbers.as_slice(), execution.limit)
         }
         Command::Check => check_text(alloc, text),
         Command::Show => show_text(alloc, text),
-        Command::Drill(tasks, workers) => run_drill(rt, alloc, *tasks, *workers, gate),
+        Command::Drill(tasks, workers) => run_drill(rt, alloc, *tasks, *workers, gate, witness),
     }
 }
 

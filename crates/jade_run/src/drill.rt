@@ -8,11 +8,14 @@ ghost use Rattle.jade_meaning.specs.Answer.{answer};
 ghost use Rattle.jade_meaning.specs.Report.{Ascends};
 ghost use Rattle.jade_meaning.specs.ReportAnswer.{report_answer};
 ghost use Rattle.jade_run.specs.Outcome.{fault_key, IsCrew, IsDrilled};
+ghost use Rattle.jade_run.specs.Witnessed.{seen_with, SawRun};
 ghost use Rattle.jade_run.specs.steps.Drilling.{ShowsSum};
+ghost use Rattle.jade_gen.specs.Drill.{drill_text};
 
 use crate::answer::{Answer, Ready, prepare};
 use crate::run::{answer_of, fault_of};
 use crate::sums::total;
+use crate::witness::Witness;
 use crate::{Status, texts};
 use jade_base::{Memory, Report};
 use jade_gen::drill_text;
@@ -47,46 +50,54 @@ fn sum_answer(
     }
 }
 
-/// What the program of a drill comes to, where so many workers run its tasks.
-fn drill_checked<R: Threads + Wait + Sync, G: Gate>(
+/// What the program of a drill comes to, where so many workers run its tasks. The witness is shown
+/// what the run did.
+fn drill_checked<R: Threads + Wait + Sync, G: Gate, W: Witness>(
     rt: &R,
     alloc: Global,
     checked: Checked,
     tasks: u32,
     workers: u32,
     gate: &G,
+    witness: &mut W,
 ) -> Result<Answer, Memory>
     requires given { 0 ≡ length (input_names checked.program.items) }
     requires crew { IsCrew workers }
-    ensures { IfOk result
+    ensures saw { IfOk result (λ a. W.seen witness.new
+        ≡ seen_with (W.seen witness.old) (record { program = checked.program; numbers = []; limit = 4294967295 })) }
+    ensures answer { IfOk result
         (λ a. ShowsSum (program checked.program) tasks (answer (program checked.program) [] 4294967295) a.text.items a.status) }
 {
     report_ascends();
     report_tells();
     let compiled = compile(alloc, checked)?;
     let ran = run_tasks(rt, alloc, &compiled, &[], workers, MOST_STEPS, gate)?;
+    witness.see(&ran);
     let seen = compiled.checked();
     let _program = seen.program();
     let answer = sum_answer(alloc, seen, tasks, ran.report())?;
     Ok(answer)
 }
 
-/// What a drill of so many tasks comes to, where so many workers run them.
-pub fn run_drill<R: Threads + Wait + Sync, G: Gate>(
+/// What a drill of so many tasks comes to, where so many workers run them. The witness is shown the
+/// run, where it comes to an answer.
+pub fn run_drill<R: Threads + Wait + Sync, G: Gate, W: Witness>(
     rt: &R,
     alloc: Global,
     tasks: u32,
     workers: u32,
     gate: &G,
+    witness: &mut W,
 ) -> Result<Answer, Memory>
     requires amount { (1 ≤ tasks) × (tasks ≤ 10000) }
     requires crew { IsCrew workers }
-    ensures { IfOk result (λ a. IsDrilled tasks a.text.items a.status) }
+    ensures saw { IfOk result (λ a. SawRun (drill_text tasks) [] 4294967295 a.status (W.seen witness.old) (W.seen witness.new)) }
+    ensures answer { IfOk result (λ a. IsDrilled tasks a.text.items a.status) }
 {
     let text = drill_text(alloc, tasks)?;
     let ready = prepare(alloc, &text, &[])?;
     match ready {
-        Ready::Program(checked) => drill_checked(rt, alloc, checked, tasks, workers, gate),
+        Ready::Program(checked) => drill_checked(rt, alloc, checked, tasks, workers, gate, witness),
         Ready::Answered(answer) => Ok(answer),
     }
 }

@@ -10,9 +10,12 @@ pub mod status;
 pub mod sums;
 pub mod sure;
 pub mod texts;
+pub mod witness;
 pub mod words;
 
 pub use call::jade_main;
+pub use object_table::Ran;
 pub use status::Status;
 pub use steal_workers::{EmptyGate, Gate};
 pub use sure::run_in_memory;
+pub use witness::{NoWitness, Witness};

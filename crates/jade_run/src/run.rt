@@ -9,8 +9,10 @@ ghost use Rattle.jade_meaning.specs.Report.{Ascends};
 ghost use Rattle.jade_meaning.specs.ReportAnswer.{report_answer, first_note, step_over};
 ghost use Rattle.serial_machine.specs.Answers.{told};
 ghost use Rattle.jade_run.specs.Outcome.{fault_key, IsAnswered, IsCrew, Shows};
+ghost use Rattle.jade_run.specs.Witnessed.{seen_with, SawRun};
 
 use crate::answer::{Answer, Ready, prepare};
+use crate::witness::Witness;
 use crate::{Status, texts};
 use fault_order::{first, key_is_before, limit_place};
 use jade_base::{
@@ -108,8 +110,9 @@ fn shown(alloc: Global, checked: &Checked, answer: &RunAnswer) -> Result<Answer,
     }
 }
 
-/// What a program comes to with these numbers, where so many workers run its tasks.
-fn run_by_workers<R: Threads + Wait + Sync, G: Gate>(
+/// What a program comes to with these numbers, where so many workers run its tasks. The witness is
+/// shown what the run did.
+fn run_by_workers<R: Threads + Wait + Sync, G: Gate, W: Witness>(
     rt: &R,
     alloc: Global,
     checked: Checked,
@@ -117,15 +120,19 @@ fn run_by_workers<R: Threads + Wait + Sync, G: Gate>(
     workers: u32,
     limit: u32,
     gate: &G,
+    witness: &mut W,
 ) -> Result<Answer, Memory>
     requires given { length numbers.now ≡ length (input_names checked.program.items) }
     requires crew { IsCrew workers }
-    ensures { IfOk result (λ a. Shows (program checked.program) (answer (program checked.program) numbers.now limit) a.text.items a.status) }
+    ensures saw { IfOk result (λ a. W.seen witness.new
+        ≡ seen_with (W.seen witness.old) (record { program = checked.program; numbers = numbers.now; limit = limit })) }
+    ensures answer { IfOk result (λ a. Shows (program checked.program) (answer (program checked.program) numbers.now limit) a.text.items a.status) }
 {
     report_ascends();
     report_tells();
     let compiled = compile(alloc, checked)?;
     let ran = run_tasks(rt, alloc, &compiled, numbers, workers, limit, gate)?;
+    witness.see(&ran);
     let answer = answer_of(alloc, compiled.checked(), ran.report(), limit)?;
     Ok(answer)
 }
@@ -148,8 +155,8 @@ fn run_serially(
 }
 
 /// What a text of at most 1,048,576 bytes comes to, run by so many workers with these numbers and a
-/// limit.
-pub fn run_text<R: Threads + Wait + Sync, G: Gate>(
+/// limit. The witness is shown the run, where the text comes to an answer.
+pub fn run_text<R: Threads + Wait + Sync, G: Gate, W: Witness>(
     rt: &R,
     alloc: Global,
     text: &[u8],
@@ -157,17 +164,19 @@ pub fn run_text<R: Threads + Wait + Sync, G: Gate>(
     workers: u32,
     limit: u32,
     gate: &G,
+    witness: &mut W,
 ) -> Result<Answer, Memory>
     requires crew { IsCrew workers }
     requires some { 1 ≤ limit }
     requires within { length text.now ≤ 1048576 }
     requires few { length numbers.now ≤ 64 }
-    ensures { IfOk result (λ a. IsAnswered text.now numbers.now limit a.text.items a.status) }
+    ensures saw { IfOk result (λ a. SawRun text.now numbers.now limit a.status (W.seen witness.old) (W.seen witness.new)) }
+    ensures answer { IfOk result (λ a. IsAnswered text.now numbers.now limit a.text.items a.status) }
 {
     let ready = prepare(alloc, text, numbers)?;
     match ready {
         Ready::Program(checked) => {
-            run_by_workers(rt, alloc, checked, numbers, workers, limit, gate)
+            run_by_workers(rt, alloc, checked, numbers, workers, limit, gate, witness)
         }
         Ready::Answered(answer) => Ok(answer),
     }

@@ -8,6 +8,7 @@ ghost use Rattle.jade_run.specs.Words.{NeedsNoText};
 use crate::call::jade_main;
 use crate::laws::one_outcome;
 use crate::status::Status;
+use crate::witness::NoWitness;
 use jade_base::{SureSink, SureSource, Word};
 use std::alloc::Global;
 use std::sync::Wait;
@@ -32,5 +33,5 @@ pub fn run_in_memory<R: Threads + Wait + Sync, G: Gate>(
         (record { left = Some source.new; taken = Some sink.new.taken; room = Some sink.new.room; source_faults = 0; sink_faults = sink.new.faults }) }
 {
     one_outcome();
-    jade_main(rt, alloc, words, source, sink, gate)
+    jade_main(rt, alloc, words, source, sink, gate, &mut NoWitness)
 }

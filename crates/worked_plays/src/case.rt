@@ -9,57 +9,9 @@ use jade_parser::{ParseError, parse};
 use jade_syntax::Checked;
 use jade_types::{TypeError, check};
 use schedule_core::play;
-use std::alloc::{AllocError, AllocFailed, Global};
-use std::num::ParseIntError;
-use std::str::Utf8Error;
-use std::{io, str};
-
-/// Why the cases could not be played to their end.
-#[derive(Clone, Copy, Debug, PartialEq, Eq)]
-pub(crate) enum Stop {
-    /// A line is no line of a case.
-    Line,
-    /// Memory was wanting, or a line could not be written.
-    Failed,
-}
-
-impl From<io::Error> for Stop {
-    fn from(_error: io::Error) -> Stop {
-        Stop::Failed
-    }
-}
-
-impl From<AllocError> for Stop {
-    fn from(_error: AllocError) -> Stop {
-        Stop::Failed
-    }
-}
-
-impl<T: Copy> From<AllocFailed<T>> for Stop {
-    fn from(_error: AllocFailed<T>) -> Stop {
-        Stop::Failed
-    }
-}
-
-impl From<ParseIntError> for Stop {
-    fn from(_error: ParseIntError) -> Stop {
-        Stop::Line
-    }
-}
-
-impl From<Utf8Error> for Stop {
-    fn from(_error: Utf8Error) -> Stop {
-        Stop::Line
-    }
-}
-
-impl From<Memory> for Stop {
-    fn from(_error: Memory) -> Stop
-        ensures { result ≡ Stop.Failed }
-    {
-        Stop::Failed
-    }
-}
+use std::alloc::Global;
+use std::str;
+use worked_case::{CaseText, Stop};
 
 /// What a text is refused for, and where.
 struct Refused {
@@ -73,8 +25,7 @@ pub(crate) struct Case {
     limit: u32,
     numbers: Vec<i64>,
     picks: Vec<u32>,
-    text: Vec<u8>,
-    has_lines: bool,
+    text: CaseText,
 }
 
 impl Case {
@@ -84,8 +35,7 @@ impl Case {
             limit: 0,
             numbers: Vec::new(alloc),
             picks: Vec::new(alloc),
-            text: Vec::new(alloc),
-            has_lines: false,
+            text: CaseText::new(alloc),
         };
         let mut picking = false;
         for word in line.split(' ') {
@@ -114,20 +64,16 @@ impl Case {
 
     /// Puts a line of its text last.
     pub(crate) fn put(&mut self, line: &str) -> Result<(), Stop> {
-        if self.has_lines {
-            self.text.push(b'\n')?;
-        }
-        self.has_lines = true;
-        self.text.extend_from_slice(line.as_bytes())?;
-        Ok(())
+        self.text.put(line)
     }
 
     /// Plays the case, and prints its report, or why its text or its count of numbers is refused.
     pub(crate) fn play(self, rt: &HostRuntime, alloc: Global) -> Result<(), Stop> {
-        if self.text.len() > 1_048_576 || self.limit == 0 {
+        let text = self.text.bytes();
+        if text.len() > 1_048_576 || self.limit == 0 {
             return Err(Stop::Line);
         }
-        let checked = match checked_of(alloc, self.text.as_slice())? {
+        let checked = match checked_of(alloc, text)? {
             Ok(checked) => checked,
             Err(refused) => {
                 let Refused { at, why } = refused;

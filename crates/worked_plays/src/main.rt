@@ -7,11 +7,12 @@
 mod case;
 mod words;
 
-use case::{Case, Stop};
+use case::Case;
 use jade_base::{StdSource, read_text};
 use std::alloc::Global;
 use std::process::ExitCode;
 use std::str;
+use worked_case::Stop;
 
 /// Plays the cases of a text.
 fn play_cases(rt: &HostRuntime, alloc: Global, text: &str) -> Result<(), Stop> {

@@ -1,9 +1,9 @@
 //! The words of reports.
 
-use crate::case::Stop;
 use jade_base::{Blame, FaultKind, Path};
 use jade_syntax::StaticKind;
 use std::alloc::Global;
+use worked_case::Stop;
 
 /// The word of a fault.
 fn kind_word(kind: FaultKind) -> &'static str {

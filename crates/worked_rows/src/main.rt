@@ -2,20 +2,22 @@
 //! its status. A case begins with a line `> WORDS`; the lines up to the next one are its text, with
 //! a line feed between two lines and none at the end. A line `* N PIECE` stands for N times the
 //! piece, with no line feed before or after it. Before the cases it runs one program over a source
-//! and a sink of which a call fails.
+//! and a sink of which a call fails, and other commands, and prints how many runs were shown to the
+//! witness.
 #![tactic(auto)]
+
+ghost use Rattle.std.specs.Prelude.{None};
 
 use jade_base::{
     Memory, MemorySink, MemorySource, StdSource, SureSink, SureSource, Word, read_text,
 };
-use jade_run::{EmptyGate, jade_main, run_in_memory};
-use std::alloc::{AllocError, AllocFailed, Global};
-use std::num::ParseIntError;
+use jade_run::{EmptyGate, Ran, Witness, jade_main, run_in_memory};
+use std::alloc::Global;
 use std::process::ExitCode;
-use std::str::Utf8Error;
+use std::str;
 use std::sync::Wait;
 use std::thread::Threads;
-use std::{io, str};
+use worked_case::{CaseText, Stop};
 
 /// The most bytes that a case writes.
 const ROOM: usize = 65_536;
@@ -23,57 +25,11 @@ const ROOM: usize = 65_536;
 /// A program that writes `s = 7`.
 const SEVEN: &str = "object s : 1; main { withonly { wr(s); } do () { s[0] = 7; } }";
 
-/// Why the cases could not be run to their end.
-#[derive(Clone, Copy, Debug, PartialEq, Eq)]
-enum Stop {
-    /// A line is no line of a case.
-    Line,
-    /// Memory was wanting, or a line could not be written.
-    Failed,
-}
-
-impl From<Memory> for Stop {
-    fn from(_error: Memory) -> Stop {
-        Stop::Failed
-    }
-}
-
-impl From<io::Error> for Stop {
-    fn from(_error: io::Error) -> Stop {
-        Stop::Failed
-    }
-}
-
-impl From<AllocError> for Stop {
-    fn from(_error: AllocError) -> Stop {
-        Stop::Failed
-    }
-}
-
-impl<T: Copy> From<AllocFailed<T>> for Stop {
-    fn from(_error: AllocFailed<T>) -> Stop {
-        Stop::Failed
-    }
-}
-
-impl From<ParseIntError> for Stop {
-    fn from(_error: ParseIntError) -> Stop {
-        Stop::Line
-    }
-}
-
-impl From<Utf8Error> for Stop {
-    fn from(_error: Utf8Error) -> Stop {
-        Stop::Line
-    }
-}
-
 /// A case: the words of its call, and its text so far.
 #[derive(Drop)]
 struct Case {
     words: Vec<Word>,
-    text: Vec<u8>,
-    is_joined: bool,
+    text: CaseText,
 }
 
 impl Case {
@@ -87,42 +43,18 @@ impl Case {
         }
         Ok(Case {
             words,
-            text: Vec::new(alloc),
-            is_joined: true,
+            text: CaseText::new(alloc),
         })
     }
 
     /// Puts a line of its text last.
     fn put(&mut self, line: &str) -> Result<(), Stop> {
-        match line.strip_prefix("* ") {
-            Some(rest) => self.repeat(rest),
-            None => {
-                if !self.is_joined {
-                    self.text.push(b'\n')?;
-                }
-                self.is_joined = false;
-                self.text.extend_from_slice(line.as_bytes())?;
-                Ok(())
-            }
-        }
-    }
-
-    /// Puts so many times a piece last.
-    fn repeat(&mut self, rest: &str) -> Result<(), Stop> {
-        let Some((count, piece)) = rest.split_once(' ') else {
-            return Err(Stop::Line);
-        };
-        let count = count.parse::<u32>()?;
-        for _ in 0..count {
-            self.text.extend_from_slice(piece.as_bytes())?;
-        }
-        self.is_joined = true;
-        Ok(())
+        self.text.put(line)
     }
 
     /// Runs the case, and prints what it writes and its status.
     fn run<R: Threads + Wait + Sync + Print>(self, rt: &R, alloc: Global) -> Result<(), Stop> {
-        let mut source = SureSource::new(self.text);
+        let mut source = SureSource::new(self.text.into_bytes());
         let mut sink = SureSink::new(alloc, ROOM)?;
         let status = run_in_memory(rt, alloc, &self.words, &mut source, &mut sink, &EmptyGate);
         let written = str::from_utf8(sink.taken())?;
@@ -166,6 +98,20 @@ fn finish<R: Threads + Wait + Sync + Print>(
     }
 }
 
+/// Counts the runs that it is shown.
+#[derive(Drop)]
+struct Count {
+    runs: u64,
+}
+
+impl Witness for Count {
+    ghost seen = { λ _. None };
+
+    fn see(&mut self, _ran: &Ran<'_>) {
+        self.runs = self.runs.saturating_add(1);
+    }
+}
+
 /// A list of one call, or of none.
 fn calls(alloc: Global, failing: Option<u64>) -> Result<Vec<u64>, Stop> {
     let mut calls = Vec::new(alloc);
@@ -175,29 +121,52 @@ fn calls(alloc: Global, failing: Option<u64>) -> Result<Vec<u64>, Stop> {
     Ok(calls)
 }
 
-/// Runs `SEVEN` over a source that gives 4 bytes a call and a sink that takes 3, and prints what the
-/// sink took and the status. The calls of these numbers fail.
-fn run_failing<R: Threads + Wait + Sync + Print>(
+/// Calls with these words on `SEVEN`, over a source that gives 4 bytes a call and a sink that takes 3,
+/// and prints what the sink took, the status, and how many runs were shown. The calls of these numbers
+/// fail.
+fn call_failing<R: Threads + Wait + Sync + Print>(
     rt: &R,
     alloc: Global,
+    words: &str,
     read: Option<u64>,
     write: Option<u64>,
 ) -> Result<(), Stop> {
-    let case = Case::of(alloc, "run 4 100")?;
+    let case = Case::of(alloc, words)?;
     let text = Vec::from_slice(alloc, SEVEN.as_bytes())?;
     let mut source = MemorySource::new(text, 4, calls(alloc, read)?);
     let mut sink = MemorySink::new(alloc, 3, calls(alloc, write)?, 1024)?;
-    let status = jade_main(rt, alloc, &case.words, &mut source, &mut sink, &EmptyGate);
+    let mut witness = Count { runs: 0 };
+    let status = jade_main(
+        rt,
+        alloc,
+        &case.words,
+        &mut source,
+        &mut sink,
+        &EmptyGate,
+        &mut witness,
+    );
     let taken = str::from_utf8(sink.taken())?;
-    println!(rt; "{:?} was taken, status {}", taken, status.number())?;
+    println!(rt;
+        "{words}: {:?} was taken, status {}, runs shown: {}",
+        taken,
+        status.number(),
+        witness.runs
+    )?;
     Ok(())
 }
 
-/// Runs over a source that fails, a sink that fails, and over both without a fault.
-fn run_all_failing<R: Threads + Wait + Sync + Print>(rt: &R, alloc: Global) -> Result<(), Stop> {
-    run_failing(rt, alloc, None, None)?;
-    run_failing(rt, alloc, None, Some(1))?;
-    run_failing(rt, alloc, Some(1), None)
+/// Runs over a source that fails, a sink that fails, and over both without a fault; then commands of
+/// which some run nothing by workers.
+fn call_all_failing<R: Threads + Wait + Sync + Print>(rt: &R, alloc: Global) -> Result<(), Stop> {
+    call_failing(rt, alloc, "run 4 100", None, None)?;
+    call_failing(rt, alloc, "run 4 100", None, Some(1))?;
+    call_failing(rt, alloc, "run 4 100", Some(1), None)?;
+    call_failing(rt, alloc, "run 4 1", None, None)?;
+    call_failing(rt, alloc, "run 4 100 5", None, None)?;
+    call_failing(rt, alloc, "serial 100", None, None)?;
+    call_failing(rt, alloc, "check", None, None)?;
+    call_failing(rt, alloc, "drill 3 2", None, None)?;
+    call_failing(rt, alloc, "walk", None, None)
 }
 
 fn main(rt: HostRuntime) -> ExitCode {
@@ -209,7 +178,7 @@ fn main(rt: HostRuntime) -> ExitCode {
     let Ok(text) = str::from_utf8(&bytes) else {
         return ExitCode::from(2);
     };
-    if run_all_failing(&rt, alloc).is_err() {
+    if call_all_failing(&rt, alloc).is_err() {
         return ExitCode::from(1);
     }
     match run_cases(&rt, alloc, text) {

@@ -1,6 +1,5 @@
 //! A case: a program that is run so many times, and what comes of it.
 
-use crate::Stop;
 use crate::holds::{LOOKS, gate_of};
 use jade_base::{Memory, SureSink, SureSource, Word};
 use jade_gen::drill_text;
@@ -10,6 +9,7 @@ use std::str;
 use std::sync::Wait;
 use std::thread::Threads;
 use steal_workers::{EmptyGate, Gate};
+use worked_case::{CaseText, Stop};
 
 /// The most bytes that a call writes.
 const ROOM: usize = 65_536;
@@ -61,8 +61,7 @@ pub struct Case<'t> {
     count: u32,
     words: &'t str,
     holds: &'t str,
-    text: Vec<u8>,
-    is_joined: bool,
+    text: CaseText,
 }
 
 impl<'t> Case<'t> {
@@ -80,37 +79,13 @@ impl<'t> Case<'t> {
             count,
             words,
             holds,
-            text: Vec::new(alloc),
-            is_joined: true,
+            text: CaseText::new(alloc),
         })
     }
 
     /// Puts a line of its text last.
     pub fn put(&mut self, line: &str) -> Result<(), Stop> {
-        match line.strip_prefix("* ") {
-            Some(rest) => self.repeat(rest),
-            None => {
-                if !self.is_joined {
-                    self.text.push(b'\n')?;
-                }
-                self.is_joined = false;
-                self.text.extend_from_slice(line.as_bytes())?;
-                Ok(())
-            }
-        }
-    }
-
-    // Puts so many times a piece last.
-    fn repeat(&mut self, rest: &str) -> Result<(), Stop> {
-        let Some((count, piece)) = rest.split_once(' ') else {
-            return Err(Stop::Line);
-        };
-        let count = count.parse::<u32>()?;
-        for _ in 0..count {
-            self.text.extend_from_slice(piece.as_bytes())?;
-        }
-        self.is_joined = true;
-        Ok(())
+        self.text.put(line)
     }
 
     // What its words write where they run by `serial`, and the status.
@@ -125,7 +100,7 @@ impl<'t> Case<'t> {
                     return Err(Stop::Line);
                 };
                 let words = format!(in alloc; "serial {rest}")?;
-                outcome(rt, alloc, words.as_str(), self.text.as_slice(), &EmptyGate)
+                outcome(rt, alloc, words.as_str(), self.text.bytes(), &EmptyGate)
             }
         }
     }
@@ -158,7 +133,7 @@ impl<'t> Case<'t> {
         let mut missed = 0u64;
         for _ in 0..self.count {
             let gate = gate_of(alloc, self.holds, LOOKS)?;
-            let written = outcome(rt, alloc, self.words, self.text.as_slice(), &gate)?;
+            let written = outcome(rt, alloc, self.words, self.text.bytes(), &gate)?;
             if written == serial {
                 same = same.wrapping_add(1);
             }

@@ -2,10 +2,10 @@
 
 ghost use Rattle.std.specs.Prelude.{◌≤◌, ◌<◌, ◌^◌};
 
-use crate::Stop;
 use jade_base::Path;
 use std::alloc::Global;
 use steal_workers::{Hold, HoldList, StepGate};
+use worked_case::Stop;
 
 /// So many looks are made at a hold.
 pub const LOOKS: u64 = 50_000_000;

@@ -11,59 +11,13 @@ mod holds;
 mod meeting;
 
 use crate::case::Case;
-use jade_base::{Memory, StdSource, read_text};
-use std::alloc::{AllocError, AllocFailed, Global};
-use std::num::ParseIntError;
+use jade_base::{StdSource, read_text};
+use std::alloc::Global;
 use std::process::ExitCode;
-use std::str::Utf8Error;
+use std::str;
 use std::sync::Wait;
 use std::thread::Threads;
-use std::{io, str};
-
-/// Why the cases could not be run to their end.
-#[derive(Clone, Copy, Debug, PartialEq, Eq)]
-pub enum Stop {
-    /// A line is no line of a case.
-    Line,
-    /// Memory was wanting, or a line could not be written.
-    Failed,
-}
-
-impl From<Memory> for Stop {
-    fn from(_error: Memory) -> Stop {
-        Stop::Failed
-    }
-}
-
-impl From<io::Error> for Stop {
-    fn from(_error: io::Error) -> Stop {
-        Stop::Failed
-    }
-}
-
-impl From<AllocError> for Stop {
-    fn from(_error: AllocError) -> Stop {
-        Stop::Failed
-    }
-}
-
-impl<T: Copy> From<AllocFailed<T>> for Stop {
-    fn from(_error: AllocFailed<T>) -> Stop {
-        Stop::Failed
-    }
-}
-
-impl From<ParseIntError> for Stop {
-    fn from(_error: ParseIntError) -> Stop {
-        Stop::Line
-    }
-}
-
-impl From<Utf8Error> for Stop {
-    fn from(_error: Utf8Error) -> Stop {
-        Stop::Line
-    }
-}
+use worked_case::Stop;
 
 /// Runs the cases of a text.
 fn run_cases<R: Threads + Wait + Sync + Print>(

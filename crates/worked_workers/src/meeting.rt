@@ -1,6 +1,5 @@
 //! Two tasks that meet: each waits at its first ask until it has seen the other.
 
-use crate::Stop;
 use crate::case::outcome;
 use crate::holds::{LOOKS, path_of};
 use jade_base::Path;
@@ -10,6 +9,7 @@ use std::sync::Wait;
 use std::sync::atomic::{AtomicBool, AtomicU64, Ordering};
 use std::thread::{Threads, yield_now};
 use steal_workers::Gate;
+use worked_case::Stop;
 
 /// Two tasks that have no object in common.
 const APART: &str =

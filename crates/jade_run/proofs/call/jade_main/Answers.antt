@@ -1,5 +1,6 @@
 use Rattle.std.proofs.Common.{rules, ◌∙◌, sym}
 use Rattle.jade_run.proofs.Calls.{wrote_headline, not_reading}
+use Rattle.jade_run.proofs.Witnessing.{stopped_saw, wrote_saw}
 use Rattle.jade_run.proofs.call.jade_main.Goals as goal
 
 pub returns-in-Ok-write_text-clause-headline : goal.returns-in-Ok-write_text-clause-headline
@@ -14,3 +15,18 @@ returns-in-Ok-clause-unread g c h = ((c.in-Ok.ensures.unread h).0, λ e. absurd 
 
 pub returns-clause-unread : goal.returns-clause-unread
 returns-clause-unread g c h = ((c.in-Err.ensures.unread h).0, λ e. let m = sym e ∙ (c.in-Err.ensures.unread h).1 in absurd (cc))
+
+pub returns-in-Ok-write_text-clause-saw : goal.returns-in-Ok-write_text-clause-saw
+returns-in-Ok-write_text-clause-saw g c =
+    wrote_saw _ _ _ c.in-Ok.answer.text.items _ _ _ c.in-Ok.ensures.answer c.in-Ok.ensures.saw
+
+pub returns-in-Ok-clause-saw : goal.returns-in-Ok-clause-saw
+returns-in-Ok-clause-saw g c = record {
+  text = c.in-Ok.answer.text.items;
+  status = c.in-Ok.answer.status;
+  comes = c.in-Ok.ensures.answer.comes;
+  saw = c.in-Ok.ensures.saw;
+}
+
+pub returns-clause-saw : goal.returns-clause-saw
+returns-clause-saw g c = stopped_saw _ _ _ _ _ _ _ c.in-Err.ensures.answer c.in-Err.ensures.still

@@ -47,8 +47,8 @@ sum_answer-requires-clause-few g c =
     c.in_ok-compiled.ensures)
     c.in_ok-compiled.ensures c.checked-seen.ensures c.program-program.ensures.limits
 
-pub returns : goal.returns
-returns g c =
+pub returns-clause-answer : goal.returns-clause-answer
+returns-clause-answer g c =
     told c.report.result.now c.args.checked c.in_ok-compiled.compiled c.checked-seen.result.now c.args.tasks 4294967295 _ _
     (reported c.report.result.now c.in_ok-ran.ran.plan c.args.checked c.in_ok-compiled.compiled [] 4294967295 c.report.ensures.meaning c.in_ok-ran.ensures
     c.in_ok-compiled.ensures)

@@ -9,8 +9,8 @@ answer_of-requires g c =
     c.in_ok-ran.ensures c.in_ok-compiled.ensures)
     (c.report_ascends.ensures (program c.args.checked.program) c.args.numbers.now c.args.limit).faults
 
-pub returns : goal.returns
-returns g c =
+pub returns-clause-answer : goal.returns-clause-answer
+returns-clause-answer g c =
     shows_answer c.report.result.now c.args.checked c.in_ok-compiled.compiled c.checked.result.now c.args.numbers.now c.args.limit _ _
     (reported c.report.result.now c.in_ok-ran.ran.plan c.args.checked c.in_ok-compiled.compiled c.args.numbers.now c.args.limit c.report.ensures.meaning
     c.in_ok-ran.ensures c.in_ok-compiled.ensures)

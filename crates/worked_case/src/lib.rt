@@ -1,0 +1,121 @@
+//! What the programs share that run cases of standard input.
+#![tactic(auto)]
+
+ghost use Rattle.std.specs.Prelude.{◌≡◌};
+
+use jade_base::Memory;
+use std::alloc::{AllocError, AllocFailed, Global};
+use std::io;
+use std::num::ParseIntError;
+use std::str::Utf8Error;
+
+/// Why the cases could not be run to their end.
+#[derive(Clone, Copy, Debug, PartialEq, Eq)]
+pub enum Stop {
+    /// A line is no line of a case.
+    Line,
+    /// Memory was wanting, or a line could not be written.
+    Failed,
+}
+
+impl From<Memory> for Stop {
+    fn from(_error: Memory) -> Stop
+        ensures { result ≡ Stop.Failed }
+    {
+        Stop::Failed
+    }
+}
+
+impl From<io::Error> for Stop {
+    fn from(_error: io::Error) -> Stop
+        ensures { result ≡ Stop.Failed }
+    {
+        Stop::Failed
+    }
+}
+
+impl From<AllocError> for Stop {
+    fn from(_error: AllocError) -> Stop
+        ensures { result ≡ Stop.Failed }
+    {
+        Stop::Failed
+    }
+}
+
+impl<T: Copy> From<AllocFailed<T>> for Stop {
+    fn from(_error: AllocFailed<T>) -> Stop
+        ensures { result ≡ Stop.Failed }
+    {
+        Stop::Failed
+    }
+}
+
+impl From<ParseIntError> for Stop {
+    fn from(_error: ParseIntError) -> Stop
+        ensures { result ≡ Stop.Line }
+    {
+        Stop::Line
+    }
+}
+
+impl From<Utf8Error> for Stop {
+    fn from(_error: Utf8Error) -> Stop
+        ensures { result ≡ Stop.Line }
+    {
+        Stop::Line
+    }
+}
+
+/// The text of a case so far: its lines with a line feed between two of them and none at the end. A
+/// line `* N PIECE` stands for N times the piece, with no line feed before or after it.
+#[derive(Drop)]
+pub struct CaseText {
+    bytes: Vec<u8>,
+    is_joined: bool,
+}
+
+impl CaseText {
+    /// The text without a line.
+    pub fn new(alloc: Global) -> CaseText {
+        CaseText {
+            bytes: Vec::new(alloc),
+            is_joined: true,
+        }
+    }
+
+    /// Puts a line last.
+    pub fn put(&mut self, line: &str) -> Result<(), Stop> {
+        if let Some(rest) = line.strip_prefix("* ") {
+            return self.repeat(rest);
+        }
+        if !self.is_joined {
+            self.bytes.push(b'\n')?;
+        }
+        self.is_joined = false;
+        self.bytes.extend_from_slice(line.as_bytes())?;
+        Ok(())
+    }
+
+    // Puts so many times a piece last.
+    fn repeat(&mut self, rest: &str) -> Result<(), Stop> {
+        let Some((count, piece)) = rest.split_once(' ') else {
+            return Err(Stop::Line);
+        };
+        let count = count.parse::<u32>()?;
+        for _ in 0..count {
+            self.bytes.extend_from_slice(piece.as_bytes())?;
+        }
+        self.is_joined = true;
+        Ok(())
+    }
+
+    /// The bytes of the text.
+    pub fn bytes(&self) -> &[u8] {
+        self.bytes.as_slice()
+    }
+
+    /// The bytes of the text, as a list.
+    pub fn into_bytes(self) -> Vec<u8> {
+        self.bytes
+    }
+}
