@@ -1,6 +1,6 @@
 //! A task in a worker's hands.
 
-ghost use Rattle.std.specs.Prelude.{◌≡◌, ◌-◌, ◌^◌, ◌+◌, ◌%◌, is_some, length, true};
+ghost use Rattle.std.specs.Prelude.{◌≡◌, IfOk, ◌-◌, ◌^◌, ◌+◌, ◌%◌, is_some, length, true};
 ghost use Rattle.jade_syntax.specs.Objects.{input_names};
 ghost use Rattle.object_table.specs.Rule.{first_view};
 ghost use Rattle.task_suspend.specs.Ties.{Tied};
@@ -20,12 +20,22 @@ use task_machine::Machine;
 #[derive(Drop)]
 pub struct Capsule<'c, N: RunName> {
     pub pass: TaskPass,
-    pub machine: Machine<'c>,
+    pub machine: Box<Machine<'c>>,
     pub from: u32,
     pub events: u64,
     pub passed: bool,
     pub name: PhantomData<N>,
-    pub ghost tied: { Tied N.mark N.plan pass machine from events } by { Tied-prop N.mark N.plan pass machine from events },
+    pub ghost tied: { Tied N.mark N.plan pass machine.value from events } by { Tied-prop N.mark N.plan pass machine.value from events },
+}
+
+/// A machine in a place of its own, so that a capsule is small to move. The error is want of memory.
+pub(crate) fn boxed<'c>(alloc: Global, machine: Machine<'c>) -> Result<Box<Machine<'c>>, Memory>
+    ensures { IfOk result (λ b. b.value ≡ machine.entry) }
+{
+    match Box::new(alloc, machine) {
+        Ok(machine) => Ok(machine),
+        Err(_) => Err(Memory),
+    }
 }
 
 impl<'c, N: RunName> Capsule<'c, N> {
@@ -44,7 +54,8 @@ impl<'c, N: RunName> Capsule<'c, N> {
         requires given { length numbers.now ≡ length (input_names compiled.now.program.items) }
     {
         let _objects = compiled.checked().objects();
-        let machine = Machine::root(alloc, compiled.decoded(), numbers, limit)?;
+        let begun = Machine::root(alloc, compiled.decoded(), numbers, limit)?;
+        let machine = boxed(alloc, begun)?;
         Ok(Capsule {
             pass,
             machine,
@@ -64,7 +75,7 @@ impl<'c, N: RunName> Capsule<'c, N> {
 
     /// Whether an ask stands. It takes no memory.
     pub fn is_asking(&self) -> bool
-        ensures { result ≡ is_some self.now.machine.ask }
+        ensures { result ≡ is_some self.now.machine.value.ask }
     {
         self.machine.asked().is_some()
     }
@@ -72,7 +83,7 @@ impl<'c, N: RunName> Capsule<'c, N> {
     /// The number of the last ask, from 0, modulo 2^64: how many asks were made, less one. It takes no
     /// memory.
     pub fn ask_number(&self) -> u64
-        ensures { result ≡ (self.now.machine.asks + (2 ^ 64 - 1)) % 2 ^ 64 }
+        ensures { result ≡ (self.now.machine.value.asks + (2 ^ 64 - 1)) % 2 ^ 64 }
     {
         self.machine.asks().wrapping_sub(1)
     }

@@ -10,7 +10,7 @@ ghost use Rattle.task_machine.specs.Machines.{made_at, amended_at};
 ghost use Rattle.task_machine.specs.Asks.{enters_from, shifts_from, leaves_from, follows};
 ghost use Rattle.task_suspend.specs.Tries.{WentAs, ending};
 
-use crate::capsule::Capsule;
+use crate::capsule::{Capsule, boxed};
 use crate::name::RunName;
 use crate::went::{Place, Resigned, Went};
 use jade_base::{Blame, Memory, Mode, ObjectId, Rights};
@@ -74,7 +74,7 @@ fn place<N: RunName>(object: ObjectId) -> Place<N>
 
 // No ask stands: the task goes on to the next one, past the cells that it touches on the way.
 fn go_on<'c, N: RunName>(alloc: Global, capsule: Capsule<'c, N>) -> Result<Went<'c, N>, Memory>
-    requires { capsule.machine.ask ≡ None }
+    requires { capsule.machine.value.ask ≡ None }
     ensures { IfOk result (λ went. WentAs capsule.entry went) }
 {
     let Capsule {
@@ -107,7 +107,7 @@ fn take<'c, N: RunName>(
     mode: Mode,
 ) -> Result<Went<'c, N>, Memory>
     requires table { (table.now.mark ≡ N.mark) × (table.now.plan ≡ N.plan) }
-    requires asked { capsule.machine.ask ≡ Some (Ask.Take object mode) }
+    requires asked { capsule.machine.value.ask ≡ Some (Ask.Take object mode) }
     ensures { IfOk result (λ went. WentAs capsule.entry went) }
 {
     capsule.machine.stands();
@@ -134,7 +134,7 @@ fn give_back<'c, N: RunName>(
     object: ObjectId,
 ) -> Result<Went<'c, N>, Memory>
     requires table { (table.now.mark ≡ N.mark) × (table.now.plan ≡ N.plan) }
-    requires asked { capsule.machine.ask ≡ Some (Ask.GiveBack object) }
+    requires asked { capsule.machine.value.ask ≡ Some (Ask.GiveBack object) }
     ensures { IfOk result (λ went. WentAs capsule.entry went) }
 {
     capsule.machine.stands();
@@ -160,7 +160,7 @@ fn create<'c, N: RunName>(
     capsule: Capsule<'c, N>,
 ) -> Result<Went<'c, N>, Memory>
     requires table { (table.now.mark ≡ N.mark) × (table.now.plan ≡ N.plan) }
-    requires asked { capsule.machine.ask ≡ Some Ask.Create }
+    requires asked { capsule.machine.value.ask ≡ Some Ask.Create }
     ensures { IfOk result (λ went. WentAs capsule.entry went) }
 {
     match capsule.machine.next_enter(ObjectId(capsule.from)) {
@@ -178,9 +178,9 @@ fn enter<'c, N: RunName>(
     rights: Rights,
 ) -> Result<Went<'c, N>, Memory>
     requires table { (table.now.mark ≡ N.mark) × (table.now.plan ≡ N.plan) }
-    requires asked { capsule.machine.ask ≡ Some Ask.Create }
-    requires inside { object.0 < capsule.machine.at.execution.stage.objects }
-    requires entry { let made = made_at capsule.machine.at.execution
+    requires asked { capsule.machine.value.ask ≡ Some Ask.Create }
+    requires inside { object.0 < capsule.machine.value.at.execution.stage.objects }
+    requires entry { let made = made_at capsule.machine.value.at.execution
         in enters_from capsule.from made ≡ Enter object.0 rights ∷ enters_from (object.0 + 1) made }
     ensures { IfOk result (λ went. WentAs capsule.entry went) }
 {
@@ -203,8 +203,8 @@ fn enroll<'c, N: RunName>(
     mut capsule: Capsule<'c, N>,
 ) -> Result<Went<'c, N>, Memory>
     requires table { (table.now.mark ≡ N.mark) × (table.now.plan ≡ N.plan) }
-    requires asked { capsule.machine.ask ≡ Some Ask.Create }
-    requires entered { enters_from capsule.from (made_at capsule.machine.at.execution) ≡ [] }
+    requires asked { capsule.machine.value.ask ≡ Some Ask.Create }
+    requires entered { enters_from capsule.from (made_at capsule.machine.value.at.execution) ≡ [] }
     ensures { IfOk result (λ went. WentAs capsule.entry went) }
 {
     let done = more(capsule.events, 1)?;
@@ -213,9 +213,10 @@ fn enroll<'c, N: RunName>(
         Tried::Done => {
             let young = table.split(alloc, &mut capsule.pass)?;
             let theirs = capsule.machine.child(alloc)?;
+            let machine = boxed(alloc, theirs)?;
             let child = Capsule {
                 pass: young,
-                machine: theirs,
+                machine,
                 from: 0,
                 events: 0,
                 passed: false,
@@ -236,7 +237,7 @@ fn change<'c, N: RunName>(
     mut capsule: Capsule<'c, N>,
 ) -> Result<Went<'c, N>, Memory>
     requires table { (table.now.mark ≡ N.mark) × (table.now.plan ≡ N.plan) }
-    requires asked { capsule.machine.ask ≡ Some Ask.Change }
+    requires asked { capsule.machine.value.ask ≡ Some Ask.Change }
     ensures { IfOk result (λ went. WentAs capsule.entry went) }
 {
     match capsule.machine.next_change(ObjectId(capsule.from)) {
@@ -273,9 +274,9 @@ fn follow<'c, N: RunName>(
     rights: Rights,
 ) -> Result<Went<'c, N>, Memory>
     requires table { (table.now.mark ≡ N.mark) × (table.now.plan ≡ N.plan) }
-    requires asked { capsule.machine.ask ≡ Some Ask.Change }
-    requires inside { object.0 < capsule.machine.at.execution.stage.objects }
-    requires change { let old = rights_at capsule.machine.at.execution.stage in let new = amended_at capsule.machine.at.execution
+    requires asked { capsule.machine.value.ask ≡ Some Ask.Change }
+    requires inside { object.0 < capsule.machine.value.at.execution.stage.objects }
+    requires change { let old = rights_at capsule.machine.value.at.execution.stage in let new = amended_at capsule.machine.value.at.execution
         in shifts_from capsule.from old new ≡ follows object.0 rights ∷ shifts_from (object.0 + 1) old new }
     ensures { IfOk result (λ went. WentAs capsule.entry went) }
 {
@@ -298,7 +299,7 @@ fn end<'c, N: RunName>(
     blame: Option<Blame>,
 ) -> Result<Went<'c, N>, Memory>
     requires table { (table.now.mark ≡ N.mark) × (table.now.plan ≡ N.plan) }
-    requires asked { capsule.machine.ask ≡ Some (ending blame) }
+    requires asked { capsule.machine.value.ask ≡ Some (ending blame) }
     ensures { IfOk result (λ went. WentAs capsule.entry went) }
 {
     match capsule.machine.next_leave(ObjectId(capsule.from)) {
@@ -315,9 +316,9 @@ fn leave<'c, N: RunName>(
     object: ObjectId,
 ) -> Result<Went<'c, N>, Memory>
     requires table { (table.now.mark ≡ N.mark) × (table.now.plan ≡ N.plan) }
-    requires asked { capsule.machine.ask ≡ Some (ending blame) }
-    requires inside { object.0 < capsule.machine.at.execution.stage.objects }
-    requires entry { let old = rights_at capsule.machine.at.execution.stage
+    requires asked { capsule.machine.value.ask ≡ Some (ending blame) }
+    requires inside { object.0 < capsule.machine.value.at.execution.stage.objects }
+    requires entry { let old = rights_at capsule.machine.value.at.execution.stage
         in leaves_from capsule.from old ≡ Leave object.0 ∷ leaves_from (object.0 + 1) old }
     ensures { IfOk result (λ went. WentAs capsule.entry went) }
 {
@@ -340,8 +341,8 @@ fn resign<'c, N: RunName>(
     blame: Option<Blame>,
 ) -> Result<Went<'c, N>, Memory>
     requires table { (table.now.mark ≡ N.mark) × (table.now.plan ≡ N.plan) }
-    requires asked { capsule.machine.ask ≡ Some (ending blame) }
-    requires over { leaves_from capsule.from (rights_at capsule.machine.at.execution.stage) ≡ [] }
+    requires asked { capsule.machine.value.ask ≡ Some (ending blame) }
+    requires over { leaves_from capsule.from (rights_at capsule.machine.value.at.execution.stage) ≡ [] }
     ensures { IfOk result (λ went. WentAs capsule.entry went) }
 {
     let steps = capsule.machine.steps();

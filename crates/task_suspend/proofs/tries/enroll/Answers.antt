@@ -16,9 +16,9 @@ enroll-requires-clause-mark g c = c.args.capsule.tied.table ∙ sym c.requires.t
 pub enroll-requires-clause-next : goal.enroll-requires-clause-next
 enroll-requires-clause-next g c =
     let x = c.args.capsule in (
-      child_task (number_of x.machine.at.phase) x.machine.at.execution,
-      enroll_next g.N.RunName.mark g.N.RunName.plan x.pass x.machine x.from x.events x.tied c.requires.asked c.requires.entered c.steps-steps.result
-          c.steps-steps.ensures,
+      child_task (number_of x.machine.value.at.phase) x.machine.value.at.execution,
+      enroll_next g.N.RunName.mark g.N.RunName.plan x.pass x.machine.value x.from x.events x.tied c.requires.asked c.requires.entered c.steps-steps.result
+          (rw c.deref.ensures at c.steps-steps.ensures),
     )
 
 pub split-requires-clause-mark : goal.split-requires-clause-mark
@@ -39,7 +39,7 @@ split-requires-clause-kid g c =
     bore_kid o v w (enrolled_done o v w c.in_ok-enroll.field-0 c.in-Done.is c.in_ok-enroll.ensures.answer)
 
 pub child-requires : goal.child-requires
-child-requires g c = c.requires.asked
+child-requires g c = rw (sym c.deref_mut.ensures.value) at c.requires.asked
 
 pub invariant_of-child : goal.invariant_of-child
 invariant_of-child g c =
@@ -48,10 +48,10 @@ invariant_of-child g c =
     let q = c.in_ok-young-in-Done.young in
     let o = count_of c.args.table.now.plan in
     record {
-      tied = born_so g.N.RunName.mark g.N.RunName.plan x.pass x.machine x.from x.events x.tied c.requires.asked c.requires.entered o w q
-          c.in_ok-theirs-in-Done.theirs (c.in_ok-young-in-Done.ensures.child.0 ∙ c.in_ok-enroll.ensures.mark)
+      tied = born_so g.N.RunName.mark g.N.RunName.plan x.pass x.machine.value x.from x.events x.tied c.requires.asked c.requires.entered o w q
+          c.in_ok-machine-in-Done.machine.value (c.in_ok-young-in-Done.ensures.child.0 ∙ c.in_ok-enroll.ensures.mark)
           (enrolled_done o x.pass.shows w c.in_ok-enroll.field-0 c.in-Done.is c.in_ok-enroll.ensures.answer) c.in_ok-young-in-Done.ensures.child.1
-          c.in_ok-theirs-in-Done.ensures.begins c.in_ok-theirs-in-Done.ensures.objects;
+          (rw (sym c.in_ok-machine-in-Done.ensures) at (rw c.deref_mut.ensures.value at c.in_ok-theirs-in-Done.ensures.begins)) (rw (sym c.in_ok-machine-in-Done.ensures) at (rw c.deref_mut.ensures.value at c.in_ok-theirs-in-Done.ensures.objects));
     }
 
 pub invariant_of-capsule : goal.invariant_of-capsule
@@ -63,10 +63,10 @@ invariant_of-capsule g c =
     let o = count_of c.args.table.now.plan in
     record {
       tied = numbered g.N.RunName.mark g.N.RunName.plan q b x.from (x.events + 1) x.from c.in_ok-done.done
-          (parted g.N.RunName.mark g.N.RunName.plan x.pass x.machine x.from x.events x.tied c.requires.asked c.requires.entered o
-          ((x.machine.children + 1) % 2 ^ 32) w q b (c.in_ok-young-in-Done.ensures.mark ∙ c.in_ok-enroll.ensures.mark)
+          (parted g.N.RunName.mark g.N.RunName.plan x.pass x.machine.value x.from x.events x.tied c.requires.asked c.requires.entered o
+          ((x.machine.value.children + 1) % 2 ^ 32) w q b (c.in_ok-young-in-Done.ensures.mark ∙ c.in_ok-enroll.ensures.mark)
           (enrolled_done o x.pass.shows w c.in_ok-enroll.field-0 c.in-Done.is c.in_ok-enroll.ensures.answer) c.in_ok-young-in-Done.ensures.parent
-          c.in_ok-theirs-in-Done.ensures.created) refl c.in_ok-done.ensures;
+          (rw c.deref_mut.ensures.value at c.in_ok-theirs-in-Done.ensures.created)) refl c.in_ok-done.ensures;
     }
 
 pub invariant_of-capsule-in-Busy : goal.invariant_of-capsule-in-Busy
@@ -76,12 +76,12 @@ invariant_of-capsule-in-Busy g c =
     let o = count_of c.args.table.now.plan in
     let n = c.in-Busy.field-0 in
     record {
-      tied = busy g.N.RunName.mark g.N.RunName.plan x.pass x.machine x.from x.events x.tied q n o c.in_ok-enroll.ensures.mark
+      tied = busy g.N.RunName.mark g.N.RunName.plan x.pass x.machine.value x.from x.events x.tied q n o c.in_ok-enroll.ensures.mark
           (enrolled_busy o x.pass.shows q.shows c.in_ok-enroll.field-0 n c.in-Busy.is c.in_ok-enroll.ensures.answer);
     }
 
-pub returns-in_ok-theirs-in-Done : goal.returns-in_ok-theirs-in-Done
-returns-in_ok-theirs-in-Done g c =
+pub returns-in_ok-machine-in-Done : goal.returns-in_ok-machine-in-Done
+returns-in_ok-machine-in-Done g c =
     let x = c.args.capsule in
     let w = c.enroll.new.pass.shows in
     let o = count_of c.args.table.now.plan in
@@ -90,12 +90,12 @@ returns-in_ok-theirs-in-Done g c =
       asked = c.requires.asked;
       entered = c.requires.entered;
       enrolled = w;
-      bore = subst B (roll_at g.N.RunName.mark g.N.RunName.plan x.pass x.machine x.from x.events x.tied c.args.table.now.plan c.requires.table.1)
+      bore = subst B (roll_at g.N.RunName.mark g.N.RunName.plan x.pass x.machine.value x.from x.events x.tied c.args.table.now.plan c.requires.table.1)
           (enrolled_done o x.pass.shows w c.in_ok-enroll.field-0 c.in-Done.is c.in_ok-enroll.ensures.answer);
       parent = c.in_ok-young-in-Done.ensures.parent;
-      answered = record { machine = c.in_ok-theirs-in-Done.ensures.created; from = refl; events = c.in_ok-done.ensures; gate = refl };
+      answered = record { machine = (rw c.deref_mut.ensures.value at c.in_ok-theirs-in-Done.ensures.created); from = refl; events = c.in_ok-done.ensures; gate = refl };
       young = c.in_ok-young-in-Done.ensures.child.1;
-      begins = c.in_ok-theirs-in-Done.ensures.begins;
+      begins = (rw (sym c.in_ok-machine-in-Done.ensures) at (rw c.deref_mut.ensures.value at c.in_ok-theirs-in-Done.ensures.begins));
       from = refl;
       events = refl;
       gate = refl;
@@ -106,16 +106,16 @@ returns-in-Busy g c =
     let x = c.args.capsule in
     let w = c.enroll.new.pass.shows in
     let o = count_of c.args.table.now.plan in
-    let child = child_task (number_of x.machine.at.phase) x.machine.at.execution in
+    let child = child_task (number_of x.machine.value.at.phase) x.machine.value.at.execution in
     let found = enrolled_busy o x.pass.shows w c.in_ok-enroll.field-0 c.in-Busy.field-0 c.in-Busy.is c.in_ok-enroll.ensures.answer in
     record {
       wanted = ask.Create;
       asked = c.requires.asked;
       event = Enroll child c.steps-steps.result;
       next =
-          enroll_next g.N.RunName.mark g.N.RunName.plan x.pass x.machine x.from x.events x.tied c.requires.asked c.requires.entered c.steps-steps.result
-          c.steps-steps.ensures;
+          enroll_next g.N.RunName.mark g.N.RunName.plan x.pass x.machine.value x.from x.events x.tied c.requires.asked c.requires.entered c.steps-steps.result
+          (rw c.deref.ensures at c.steps-steps.ensures);
       read = found.after ∙ ap (λ n. found_busy n x.pass.shows)
-          (roll_at g.N.RunName.mark g.N.RunName.plan x.pass x.machine x.from x.events x.tied c.args.table.now.plan c.requires.table.1);
+          (roll_at g.N.RunName.mark g.N.RunName.plan x.pass x.machine.value x.from x.events x.tied c.args.table.now.plan c.requires.table.1);
       unmoved = record { machine = refl; from = refl; events = refl; gate = refl };
     }

@@ -16,12 +16,12 @@ enter-requires-clause-declared g c =
     let x = c.args.capsule in
     let P : RunPlan → Type 0 = λ k. c.args.object.0 < count_of k in
     subst P (sym c.requires.table.1)
-    (inside g.N.RunName.mark g.N.RunName.plan x.pass x.machine x.from x.events x.tied c.args.object.0 c.requires.inside)
+    (inside g.N.RunName.mark g.N.RunName.plan x.pass x.machine.value x.from x.events x.tied c.args.object.0 c.requires.inside)
 
 pub enter-requires-clause-next : goal.enter-requires-clause-next
 enter-requires-clause-next g c =
     let x = c.args.capsule in
-    enter_next g.N.RunName.mark g.N.RunName.plan x.pass x.machine x.from x.events x.tied c.requires.asked c.args.object.0 c.args.rights c.requires.entry
+    enter_next g.N.RunName.mark g.N.RunName.plan x.pass x.machine.value x.from x.events x.tied c.requires.asked c.args.object.0 c.args.rights c.requires.entry
 
 pub invariant_of-capsule : goal.invariant_of-capsule
 invariant_of-capsule g c =
@@ -30,8 +30,8 @@ invariant_of-capsule g c =
     let q = c.enter.new.pass in
     let did = tried_done o x.pass.shows q.shows c.in_ok-enter.field-0 c.in-Done.is c.in_ok-enter.ensures.answer in
     record {
-      tied = numbered g.N.RunName.mark g.N.RunName.plan q x.machine (o + 1) (x.events + 1) c.in_ok-next.next c.in_ok-done.done
-          (entered g.N.RunName.mark g.N.RunName.plan x.pass x.machine x.from x.events x.tied c.requires.asked o c.args.rights c.requires.entry q
+      tied = numbered g.N.RunName.mark g.N.RunName.plan q x.machine.value (o + 1) (x.events + 1) c.in_ok-next.next c.in_ok-done.done
+          (entered g.N.RunName.mark g.N.RunName.plan x.pass x.machine.value x.from x.events x.tied c.requires.asked o c.args.rights c.requires.entry q
           c.in_ok-enter.ensures.mark did) c.in_ok-next.ensures c.in_ok-done.ensures;
     }
 
@@ -42,7 +42,7 @@ invariant_of-capsule-in-Busy g c =
     let q = c.enter.new.pass in
     let n = c.in-Busy.field-0 in
     record {
-      tied = busy g.N.RunName.mark g.N.RunName.plan x.pass x.machine x.from x.events x.tied q n o c.in_ok-enter.ensures.mark
+      tied = busy g.N.RunName.mark g.N.RunName.plan x.pass x.machine.value x.from x.events x.tied q n o c.in_ok-enter.ensures.mark
           (tried_busy o x.pass.shows q.shows c.in_ok-enter.field-0 n c.in-Busy.is c.in_ok-enter.ensures.answer);
     }
 
@@ -69,7 +69,7 @@ returns-in-Busy g c =
       asked = c.requires.asked;
       event = Enter c.args.object.0 c.args.rights;
       next =
-          enter_next g.N.RunName.mark g.N.RunName.plan x.pass x.machine x.from x.events x.tied c.requires.asked c.args.object.0 c.args.rights
+          enter_next g.N.RunName.mark g.N.RunName.plan x.pass x.machine.value x.from x.events x.tied c.requires.asked c.args.object.0 c.args.rights
           c.requires.entry;
       read = found.after;
       unmoved = record { machine = refl; from = refl; events = refl; gate = refl };

@@ -18,22 +18,22 @@ try_follow-requires-clause-declared g c =
     let x = c.args.capsule in
     let P : RunPlan → Type 0 = λ k. c.args.object.0 < count_of k in
     subst P (sym c.requires.table.1)
-    (inside g.N.RunName.mark g.N.RunName.plan x.pass x.machine x.from x.events x.tied c.args.object.0 c.requires.inside)
+    (inside g.N.RunName.mark g.N.RunName.plan x.pass x.machine.value x.from x.events x.tied c.args.object.0 c.requires.inside)
 
 pub try_follow-requires-clause-shifts : goal.try_follow-requires-clause-shifts
 try_follow-requires-clause-shifts g c =
     let x = c.args.capsule in
-    shift_next g.N.RunName.mark g.N.RunName.plan x.pass x.machine x.from x.events x.tied c.requires.asked c.args.object.0 c.args.rights c.requires.change
+    shift_next g.N.RunName.mark g.N.RunName.plan x.pass x.machine.value x.from x.events x.tied c.requires.asked c.args.object.0 c.args.rights c.requires.change
 
 pub try_follow-requires-clause-leaves : goal.try_follow-requires-clause-leaves
 try_follow-requires-clause-leaves g c =
     let x = c.args.capsule in
-    leave_next g.N.RunName.mark g.N.RunName.plan x.pass x.machine x.from x.events x.tied c.requires.asked c.args.object.0 c.args.rights c.requires.change
+    leave_next g.N.RunName.mark g.N.RunName.plan x.pass x.machine.value x.from x.events x.tied c.requires.asked c.args.object.0 c.args.rights c.requires.change
 
 pub place-requires : goal.place-requires
 place-requires g c =
     let x = c.args.capsule in
-    inside g.N.RunName.mark g.N.RunName.plan x.pass x.machine x.from x.events x.tied c.args.object.0 c.requires.inside
+    inside g.N.RunName.mark g.N.RunName.plan x.pass x.machine.value x.from x.events x.tied c.args.object.0 c.requires.inside
 
 pub invariant_of-capsule : goal.invariant_of-capsule
 invariant_of-capsule g c =
@@ -42,8 +42,8 @@ invariant_of-capsule g c =
     let q = c.try_follow.new.pass in
     let did = tried_done o x.pass.shows q.shows c.try_follow.result c.in-Done.is c.try_follow.ensures.answer in
     record {
-      tied = numbered g.N.RunName.mark g.N.RunName.plan q x.machine (o + 1) (x.events + 1) c.in_ok-next.next c.in_ok-done.done
-          (followed g.N.RunName.mark g.N.RunName.plan x.pass x.machine x.from x.events x.tied c.requires.asked o c.args.rights c.requires.change q
+      tied = numbered g.N.RunName.mark g.N.RunName.plan q x.machine.value (o + 1) (x.events + 1) c.in_ok-next.next c.in_ok-done.done
+          (followed g.N.RunName.mark g.N.RunName.plan x.pass x.machine.value x.from x.events x.tied c.requires.asked o c.args.rights c.requires.change q
           c.try_follow.ensures.mark did) c.in_ok-next.ensures c.in_ok-done.ensures;
     }
 
@@ -54,7 +54,7 @@ invariant_of-capsule-in-Busy g c =
     let q = c.try_follow.new.pass in
     let n = c.in-Busy.field-0 in
     record {
-      tied = busy g.N.RunName.mark g.N.RunName.plan x.pass x.machine x.from x.events x.tied q n o c.try_follow.ensures.mark
+      tied = busy g.N.RunName.mark g.N.RunName.plan x.pass x.machine.value x.from x.events x.tied q n o c.try_follow.ensures.mark
           (tried_busy o x.pass.shows q.shows c.try_follow.result n c.in-Busy.is c.try_follow.ensures.answer);
     }
 
@@ -63,7 +63,7 @@ returns-in-Done g c =
     let x = c.args.capsule in
     let q = c.try_follow.new.pass in
     let F : ObjectId → Type 0 = λ o. Frees o (carried x)
-    (record { pass = q; machine = x.machine; from = c.in_ok-next.next; events = c.in_ok-done.done; gate = x.passed }) in
+    (record { pass = q; machine = x.machine.value; from = c.in_ok-next.next; events = c.in_ok-done.done; gate = x.passed }) in
     subst F (sym c.place.ensures) (follows_on (record {
       asked = c.requires.asked;
       rights = c.args.rights;
@@ -82,7 +82,7 @@ returns-in-Busy g c =
       wanted = ask.Change;
       asked = c.requires.asked;
       event = follows o c.args.rights;
-      next = follow_next g.N.RunName.mark g.N.RunName.plan x.pass x.machine x.from x.events x.tied c.requires.asked o c.args.rights c.requires.change;
+      next = follow_next g.N.RunName.mark g.N.RunName.plan x.pass x.machine.value x.from x.events x.tied c.requires.asked o c.args.rights c.requires.change;
       read = found.after ∙ ap (λ n. found_busy n x.pass.shows) (follows_at (count_of x.pass.shows.key) o c.args.rights);
       unmoved = record { machine = refl; from = refl; events = refl; gate = refl };
     }

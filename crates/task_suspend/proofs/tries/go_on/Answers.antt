@@ -9,23 +9,23 @@ pub pass_on-requires : goal.pass_on-requires
 pass_on-requires g c =
     let x = c.args.capsule in
     let b = c.advance.new.self in
-    let sum : c.in_ok-done.done ≡ x.events + b.touched = c.in_ok-done.ensures ∙ ap (λ n. x.events + n) c.touched.ensures in
+    let sum : c.in_ok-done.done ≡ x.events + b.touched = c.in_ok-done.ensures ∙ ap (λ n. x.events + n) (rw c.deref-2.ensures at c.touched.ensures) in
     let P : ℕ → Type 0 = λ n. Comes b.touched n x.pass.shows in
-    (b.touched, subst P (sym sum) (comes g.N.RunName.mark g.N.RunName.plan x.pass x.machine x.from x.events x.tied b c.requires c.in_ok-_ask.ensures.goes))
+    (b.touched, subst P (sym sum) (comes g.N.RunName.mark g.N.RunName.plan x.pass x.machine.value x.from x.events x.tied b c.requires (rw c.deref_mut.ensures.value at c.in_ok-_ask.ensures.goes)))
 
 pub invariant_of-result : goal.invariant_of-result
 invariant_of-result g c =
     let x = c.args.capsule in
     let b = c.advance.new.self in
     let q = c.pass_on.new.self in
-    let sum : c.in_ok-done.done ≡ x.events + b.touched = c.in_ok-done.ensures ∙ ap (λ n. x.events + n) c.touched.ensures in
+    let sum : c.in_ok-done.done ≡ x.events + b.touched = c.in_ok-done.ensures ∙ ap (λ n. x.events + n) (rw c.deref-2.ensures at c.touched.ensures) in
     let P : ℕ → Type 0 = λ n. Comes b.touched n x.pass.shows in
-    let touches = subst P (sym sum) (comes g.N.RunName.mark g.N.RunName.plan x.pass x.machine x.from x.events x.tied b c.requires c.in_ok-_ask.ensures.goes) in
+    let touches = subst P (sym sum) (comes g.N.RunName.mark g.N.RunName.plan x.pass x.machine.value x.from x.events x.tied b c.requires (rw c.deref_mut.ensures.value at c.in_ok-_ask.ensures.goes)) in
     let Q : ℕ → Type 0 = λ n. Tied g.N.RunName.mark g.N.RunName.plan q b 0 n in
     record {
       tied = subst Q (sym sum)
-          (advanced g.N.RunName.mark g.N.RunName.plan x.pass x.machine x.from x.events x.tied b c.in_ok-_ask._ask q c.requires c.in_ok-_ask.ensures.goes
-          c.in_ok-_ask.ensures.asks (c.stands.ensures c.in_ok-_ask._ask c.in_ok-_ask.ensures.asks) c.pass_on.ensures.mark
+          (advanced g.N.RunName.mark g.N.RunName.plan x.pass x.machine.value x.from x.events x.tied b c.in_ok-_ask._ask q c.requires (rw c.deref_mut.ensures.value at c.in_ok-_ask.ensures.goes)
+          c.in_ok-_ask.ensures.asks ((rw c.deref.ensures at c.stands.ensures) c.in_ok-_ask._ask c.in_ok-_ask.ensures.asks) c.pass_on.ensures.mark
           (c.pass_on.ensures.shows b.touched touches));
     }
 
@@ -33,16 +33,16 @@ pub returns : goal.returns
 returns g c =
     let x = c.args.capsule in
     let b = c.advance.new.self in
-    let sum : c.in_ok-done.done ≡ x.events + b.touched = c.in_ok-done.ensures ∙ ap (λ n. x.events + n) c.touched.ensures in
+    let sum : c.in_ok-done.done ≡ x.events + b.touched = c.in_ok-done.ensures ∙ ap (λ n. x.events + n) (rw c.deref-2.ensures at c.touched.ensures) in
     let P : ℕ → Type 0 = λ n. Comes b.touched n x.pass.shows in
-    let touches = subst P (sym sum) (comes g.N.RunName.mark g.N.RunName.plan x.pass x.machine x.from x.events x.tied b c.requires c.in_ok-_ask.ensures.goes) in
+    let touches = subst P (sym sum) (comes g.N.RunName.mark g.N.RunName.plan x.pass x.machine.value x.from x.events x.tied b c.requires (rw c.deref_mut.ensures.value at c.in_ok-_ask.ensures.goes)) in
     advances (record {
       idle = c.requires;
       next = c.in_ok-_ask._ask;
       asks = c.in_ok-_ask.ensures.asks;
-      goes = c.in_ok-_ask.ensures.goes;
-      count = c.in_ok-_ask.ensures.count;
-      children = c.advance.ensures.children;
+      goes = (rw c.deref_mut.ensures.value at c.in_ok-_ask.ensures.goes);
+      count = (rw c.deref_mut.ensures.value at c.in_ok-_ask.ensures.count);
+      children = (rw c.deref_mut.ensures.value at c.advance.ensures.children);
       pass = c.pass_on.ensures.shows b.touched touches;
       from = refl;
       events = sum;

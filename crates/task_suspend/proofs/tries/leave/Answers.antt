@@ -16,18 +16,18 @@ leave-requires-clause-declared g c =
     let x = c.args.capsule in
     let P : RunPlan → Type 0 = λ k. c.args.object.0 < count_of k in
     subst P (sym c.requires.table.1)
-    (inside g.N.RunName.mark g.N.RunName.plan x.pass x.machine x.from x.events x.tied c.args.object.0 c.requires.inside)
+    (inside g.N.RunName.mark g.N.RunName.plan x.pass x.machine.value x.from x.events x.tied c.args.object.0 c.requires.inside)
 
 pub leave-requires-clause-next : goal.leave-requires-clause-next
 leave-requires-clause-next g c =
     let x = c.args.capsule in
-    last_next g.N.RunName.mark g.N.RunName.plan x.pass x.machine x.from x.events x.tied c.args.blame (Some (ending c.args.blame)) c.requires.asked
-    (ends_so c.args.blame x.machine.at) c.args.object.0 c.requires.entry
+    last_next g.N.RunName.mark g.N.RunName.plan x.pass x.machine.value x.from x.events x.tied c.args.blame (Some (ending c.args.blame)) c.requires.asked
+    (ends_so c.args.blame x.machine.value.at) c.args.object.0 c.requires.entry
 
 pub place-requires : goal.place-requires
 place-requires g c =
     let x = c.args.capsule in
-    inside g.N.RunName.mark g.N.RunName.plan x.pass x.machine x.from x.events x.tied c.args.object.0 c.requires.inside
+    inside g.N.RunName.mark g.N.RunName.plan x.pass x.machine.value x.from x.events x.tied c.args.object.0 c.requires.inside
 
 pub invariant_of-capsule : goal.invariant_of-capsule
 invariant_of-capsule g c =
@@ -36,9 +36,9 @@ invariant_of-capsule g c =
     let q = c.leave.new.pass in
     let did = tried_done o x.pass.shows q.shows c.leave.result c.in-Done.is c.leave.ensures.answer in
     record {
-      tied = numbered g.N.RunName.mark g.N.RunName.plan q x.machine (o + 1) (x.events + 1) c.in_ok-next.next c.in_ok-done.done
-          (left_last g.N.RunName.mark g.N.RunName.plan x.pass x.machine x.from x.events x.tied c.args.blame (Some (ending c.args.blame)) c.requires.asked
-          (ends_so c.args.blame x.machine.at) o c.requires.entry q c.leave.ensures.mark did) c.in_ok-next.ensures c.in_ok-done.ensures;
+      tied = numbered g.N.RunName.mark g.N.RunName.plan q x.machine.value (o + 1) (x.events + 1) c.in_ok-next.next c.in_ok-done.done
+          (left_last g.N.RunName.mark g.N.RunName.plan x.pass x.machine.value x.from x.events x.tied c.args.blame (Some (ending c.args.blame)) c.requires.asked
+          (ends_so c.args.blame x.machine.value.at) o c.requires.entry q c.leave.ensures.mark did) c.in_ok-next.ensures c.in_ok-done.ensures;
     }
 
 pub invariant_of-capsule-in-Busy : goal.invariant_of-capsule-in-Busy
@@ -48,7 +48,7 @@ invariant_of-capsule-in-Busy g c =
     let q = c.leave.new.pass in
     let n = c.in-Busy.field-0 in
     record {
-      tied = busy g.N.RunName.mark g.N.RunName.plan x.pass x.machine x.from x.events x.tied q n o c.leave.ensures.mark
+      tied = busy g.N.RunName.mark g.N.RunName.plan x.pass x.machine.value x.from x.events x.tied q n o c.leave.ensures.mark
           (tried_busy o x.pass.shows q.shows c.leave.result n c.in-Busy.is c.leave.ensures.answer);
     }
 
@@ -57,7 +57,7 @@ returns-in-Done g c =
     let x = c.args.capsule in
     let q = c.leave.new.pass in
     let F : ObjectId → Type 0 = λ o. Frees o (carried x)
-    (record { pass = q; machine = x.machine; from = c.in_ok-next.next; events = c.in_ok-done.done; gate = x.passed }) in
+    (record { pass = q; machine = x.machine.value; from = c.in_ok-next.next; events = c.in_ok-done.done; gate = x.passed }) in
     subst F (sym c.place.ensures) (departs (record {
       fault = c.args.blame;
       asked = c.requires.asked;
@@ -75,8 +75,8 @@ returns-in-Busy g c =
       wanted = ending c.args.blame;
       asked = c.requires.asked;
       event = Leave c.args.object.0;
-      next = last_next g.N.RunName.mark g.N.RunName.plan x.pass x.machine x.from x.events x.tied c.args.blame (Some (ending c.args.blame)) c.requires.asked
-          (ends_so c.args.blame x.machine.at) c.args.object.0 c.requires.entry;
+      next = last_next g.N.RunName.mark g.N.RunName.plan x.pass x.machine.value x.from x.events x.tied c.args.blame (Some (ending c.args.blame)) c.requires.asked
+          (ends_so c.args.blame x.machine.value.at) c.args.object.0 c.requires.entry;
       read = found.after;
       unmoved = record { machine = refl; from = refl; events = refl; gate = refl };
     }

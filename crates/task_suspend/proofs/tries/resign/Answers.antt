@@ -15,8 +15,8 @@ resign-requires-clause-mark g c = c.args.capsule.tied.table ∙ sym c.requires.t
 pub resign-requires-clause-next : goal.resign-requires-clause-next
 resign-requires-clause-next g c =
     let x = c.args.capsule in
-    resign_next g.N.RunName.mark g.N.RunName.plan x.pass x.machine x.from x.events x.tied c.args.blame (Some (ending c.args.blame)) c.requires.asked
-    (ends_so c.args.blame x.machine.at) c.steps-steps.result c.steps-steps.ensures c.requires.over
+    resign_next g.N.RunName.mark g.N.RunName.plan x.pass x.machine.value x.from x.events x.tied c.args.blame (Some (ending c.args.blame)) c.requires.asked
+    (ends_so c.args.blame x.machine.value.at) c.steps-steps.result (rw c.deref.ensures at c.steps-steps.ensures) c.requires.over
 
 pub invariant_of-result : goal.invariant_of-result
 invariant_of-result g c =
@@ -24,7 +24,7 @@ invariant_of-result g c =
     let q = c.resign.new.pass in
     let o = count_of c.args.table.now.plan in
     record {
-      of = gone g.N.RunName.mark g.N.RunName.plan x.pass x.machine x.from x.events x.tied o c.steps-steps.result c.args.blame q c.resign.ensures.mark
+      of = gone g.N.RunName.mark g.N.RunName.plan x.pass x.machine.value x.from x.events x.tied o c.steps-steps.result c.args.blame q c.resign.ensures.mark
           (resigned_done o x.pass.shows q.shows c.resign.result c.args.blame c.steps-steps.result c.in-Done.is c.resign.ensures.answer);
     }
 
@@ -35,7 +35,7 @@ invariant_of-capsule g c =
     let o = count_of c.args.table.now.plan in
     let n = c.in-Busy.field-0 in
     record {
-      tied = busy g.N.RunName.mark g.N.RunName.plan x.pass x.machine x.from x.events x.tied q n o c.resign.ensures.mark
+      tied = busy g.N.RunName.mark g.N.RunName.plan x.pass x.machine.value x.from x.events x.tied q n o c.resign.ensures.mark
           (resigned_busy o x.pass.shows q.shows c.resign.result c.args.blame c.steps-steps.result n c.in-Busy.is c.resign.ensures.answer);
     }
 
@@ -44,14 +44,14 @@ returns-in-Done g c =
     let x = c.args.capsule in
     let q = c.resign.new.pass in
     let o = count_of c.args.table.now.plan in
-    let E : ℕ → Type 0 = λ n. Ended n c.args.blame (steps_at x.machine.at) x.pass.shows q.shows in
+    let E : ℕ → Type 0 = λ n. Ended n c.args.blame (steps_at x.machine.value.at) x.pass.shows q.shows in
     let S : ℕ → Type 0 = λ n. Ended o c.args.blame n x.pass.shows q.shows in
     record {
       fault = c.args.blame;
       asked = c.requires.asked;
       left = c.requires.over;
-      ended = subst E (roll_at g.N.RunName.mark g.N.RunName.plan x.pass x.machine x.from x.events x.tied c.args.table.now.plan c.requires.table.1)
-          (subst S c.steps-steps.ensures
+      ended = subst E (roll_at g.N.RunName.mark g.N.RunName.plan x.pass x.machine.value x.from x.events x.tied c.args.table.now.plan c.requires.table.1)
+          (subst S (rw c.deref.ensures at c.steps-steps.ensures)
           (resigned_done o x.pass.shows q.shows c.resign.result c.args.blame c.steps-steps.result c.in-Done.is c.resign.ensures.answer));
     }
 
@@ -66,9 +66,9 @@ returns g c =
       wanted = ending c.args.blame;
       asked = c.requires.asked;
       event = Resign c.args.blame c.steps-steps.result;
-      next = resign_next g.N.RunName.mark g.N.RunName.plan x.pass x.machine x.from x.events x.tied c.args.blame (Some (ending c.args.blame)) c.requires.asked
-          (ends_so c.args.blame x.machine.at) c.steps-steps.result c.steps-steps.ensures c.requires.over;
+      next = resign_next g.N.RunName.mark g.N.RunName.plan x.pass x.machine.value x.from x.events x.tied c.args.blame (Some (ending c.args.blame)) c.requires.asked
+          (ends_so c.args.blame x.machine.value.at) c.steps-steps.result (rw c.deref.ensures at c.steps-steps.ensures) c.requires.over;
       read = found.after ∙ ap (λ k. found_busy k x.pass.shows)
-          (roll_at g.N.RunName.mark g.N.RunName.plan x.pass x.machine x.from x.events x.tied c.args.table.now.plan c.requires.table.1);
+          (roll_at g.N.RunName.mark g.N.RunName.plan x.pass x.machine.value x.from x.events x.tied c.args.table.now.plan c.requires.table.1);
       unmoved = record { machine = refl; from = refl; events = refl; gate = refl };
     }

@@ -17,20 +17,20 @@ take-requires-clause-declared g c =
     let x = c.args.capsule in
     let P : RunPlan → Type 0 = λ k. c.args.object.0 < count_of k in
     subst P (sym c.requires.table.1)
-    (take_inside g.N.RunName.mark g.N.RunName.plan x.pass x.machine x.from x.events x.tied c.args.object c.args.mode c.requires.asked
-    (c.stands.ensures (ask.Take c.args.object c.args.mode) c.requires.asked))
+    (take_inside g.N.RunName.mark g.N.RunName.plan x.pass x.machine.value x.from x.events x.tied c.args.object c.args.mode c.requires.asked
+    ((rw c.deref.ensures at c.stands.ensures) (ask.Take c.args.object c.args.mode) c.requires.asked))
 
 pub take-requires-clause-next : goal.take-requires-clause-next
 take-requires-clause-next g c =
     let x = c.args.capsule in
-    take_next g.N.RunName.mark g.N.RunName.plan x.pass x.machine x.from x.events x.tied c.args.object c.args.mode c.requires.asked
-    (c.stands.ensures (ask.Take c.args.object c.args.mode) c.requires.asked)
+    take_next g.N.RunName.mark g.N.RunName.plan x.pass x.machine.value x.from x.events x.tied c.args.object c.args.mode c.requires.asked
+    ((rw c.deref.ensures at c.stands.ensures) (ask.Take c.args.object c.args.mode) c.requires.asked)
 
 pub place-requires : goal.place-requires
 place-requires g c =
     let x = c.args.capsule in
-    take_inside g.N.RunName.mark g.N.RunName.plan x.pass x.machine x.from x.events x.tied c.args.object c.args.mode c.requires.asked
-    (c.stands.ensures (ask.Take c.args.object c.args.mode) c.requires.asked)
+    take_inside g.N.RunName.mark g.N.RunName.plan x.pass x.machine.value x.from x.events x.tied c.args.object c.args.mode c.requires.asked
+    ((rw c.deref.ensures at c.stands.ensures) (ask.Take c.args.object c.args.mode) c.requires.asked)
 
 pub take-requires-clause-mark : goal.take-requires-clause-mark
 take-requires-clause-mark g c = c.args.capsule.tied.table ∙ sym c.requires.table.0
@@ -40,8 +40,9 @@ supply-requires g c =
     let x = c.args.capsule in
     let q = c.take.new.pass in
     let P : Taken → Type 0 = λ r. TakenAs c.args.object.0 c.args.mode x.pass.shows (Ok r) q.shows in
-    supply_asks g.N.RunName.mark g.N.RunName.plan x.pass x.machine x.from x.events x.tied c.args.object c.args.mode c.requires.asked
-    (c.stands.ensures (ask.Take c.args.object c.args.mode) c.requires.asked) c.in-Got.content q.shows (subst P c.in-Got.is c.in_ok-content.ensures.answer)
+    rw (sym c.deref_mut.ensures.value) at (supply_asks g.N.RunName.mark g.N.RunName.plan x.pass x.machine.value x.from x.events x.tied c.args.object
+    c.args.mode c.requires.asked ((rw c.deref.ensures at c.stands.ensures) (ask.Take c.args.object c.args.mode) c.requires.asked) c.in-Got.content q.shows
+    (subst P c.in-Got.is c.in_ok-content.ensures.answer))
 
 pub invariant_of-capsule : goal.invariant_of-capsule
 invariant_of-capsule g c =
@@ -52,9 +53,9 @@ invariant_of-capsule g c =
     let Q : ℕ → Type 0 = λ n. Tied g.N.RunName.mark g.N.RunName.plan q b x.from n in
     record {
       tied = subst Q (sym c.in_ok-done.ensures)
-          (took g.N.RunName.mark g.N.RunName.plan x.pass x.machine x.from x.events x.tied c.args.object c.args.mode c.requires.asked
-          (c.stands.ensures (ask.Take c.args.object c.args.mode) c.requires.asked) c.in-Got.content q b c.in_ok-content.ensures.mark
-          (subst P c.in-Got.is c.in_ok-content.ensures.answer) c.supply.ensures.supplied c.supply.ensures.held);
+          (took g.N.RunName.mark g.N.RunName.plan x.pass x.machine.value x.from x.events x.tied c.args.object c.args.mode c.requires.asked
+          ((rw c.deref.ensures at c.stands.ensures) (ask.Take c.args.object c.args.mode) c.requires.asked) c.in-Got.content q b c.in_ok-content.ensures.mark
+          (subst P c.in-Got.is c.in_ok-content.ensures.answer) (rw c.deref_mut.ensures.value at c.supply.ensures.supplied) (rw c.deref_mut.ensures.value at c.supply.ensures.held));
     }
 
 pub invariant_of-capsule-in-NotYet : goal.invariant_of-capsule-in-NotYet
@@ -63,7 +64,7 @@ invariant_of-capsule-in-NotYet g c =
     let q = c.take.new.pass in
     let P : Taken → Type 0 = λ r. TakenAs c.args.object.0 c.args.mode x.pass.shows (Ok r) q.shows in
     record {
-      tied = kept_by g.N.RunName.mark g.N.RunName.plan x.pass x.machine x.from x.events x.tied q c.in-NotYet.keeper c.args.object.0 c.args.mode
+      tied = kept_by g.N.RunName.mark g.N.RunName.plan x.pass x.machine.value x.from x.events x.tied q c.in-NotYet.keeper c.args.object.0 c.args.mode
           c.in_ok-content.ensures.mark (subst P c.in-NotYet.is c.in_ok-content.ensures.answer);
     }
 
@@ -73,7 +74,7 @@ invariant_of-capsule-in-Busy g c =
     let q = c.take.new.pass in
     let P : Taken → Type 0 = λ r. TakenAs c.args.object.0 c.args.mode x.pass.shows (Ok r) q.shows in
     record {
-      tied = busy g.N.RunName.mark g.N.RunName.plan x.pass x.machine x.from x.events x.tied q c.in-Busy.field-0 c.args.object.0
+      tied = busy g.N.RunName.mark g.N.RunName.plan x.pass x.machine.value x.from x.events x.tied q c.in-Busy.field-0 c.args.object.0
           c.in_ok-content.ensures.mark (subst P c.in-Busy.is c.in_ok-content.ensures.answer);
     }
 
@@ -88,7 +89,7 @@ returns-in-Got g c =
       asked = c.requires.asked;
       content = c.in-Got.content;
       took = subst P c.in-Got.is c.in_ok-content.ensures.answer;
-      answered = record { machine = c.supply.ensures.supplied; from = refl; events = c.in_ok-done.ensures; gate = refl };
+      answered = record { machine = (rw c.deref_mut.ensures.value at c.supply.ensures.supplied); from = refl; events = c.in_ok-done.ensures; gate = refl };
     })
 
 pub returns-in-NotYet : goal.returns-in-NotYet
@@ -97,7 +98,7 @@ returns-in-NotYet g c =
     let q = c.take.new.pass in
     let P : Taken → Type 0 = λ r. TakenAs c.args.object.0 c.args.mode x.pass.shows (Ok r) q.shows in
     let a : Carried = carried x in
-    let W : ObjectId → Type 0 = λ o. Waits o a (record { pass = q; machine = x.machine; from = x.from; events = x.events; gate = x.passed }) in
+    let W : ObjectId → Type 0 = λ o. Waits o a (record { pass = q; machine = x.machine.value; from = x.from; events = x.events; gate = x.passed }) in
     subst W (sym c.place.ensures) (record {
       mode = c.args.mode;
       asked = c.requires.asked;
@@ -116,8 +117,8 @@ returns-in-Busy g c =
       wanted = ask.Take c.args.object c.args.mode;
       asked = c.requires.asked;
       event = Take c.args.object.0 c.args.mode;
-      next = take_next g.N.RunName.mark g.N.RunName.plan x.pass x.machine x.from x.events x.tied c.args.object c.args.mode c.requires.asked
-          (c.stands.ensures (ask.Take c.args.object c.args.mode) c.requires.asked);
+      next = take_next g.N.RunName.mark g.N.RunName.plan x.pass x.machine.value x.from x.events x.tied c.args.object c.args.mode c.requires.asked
+          ((rw c.deref.ensures at c.stands.ensures) (ask.Take c.args.object c.args.mode) c.requires.asked);
       read = busy_so.after;
       unmoved = record { machine = refl; from = refl; events = refl; gate = refl };
     }
