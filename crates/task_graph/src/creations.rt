@@ -1,11 +1,11 @@
 //! The lines on which the tasks of a serial run are created.
 
-use crate::stop::Stop;
 use crate::store::Store;
 use access_spec::mode_of;
 use code_meaning::Body;
 use code_meaning::code::Instruction;
 use jade_base::ObjectId;
+use picture_base::Stop;
 use std::alloc::Global;
 use std::mem;
 use task_codegen::Compiled;

@@ -4,47 +4,24 @@
 #![tactic(auto)]
 
 mod creations;
-mod stop;
 mod store;
 mod told;
 mod walk;
-mod words;
 
 use crate::creations::lines_of_creations;
-use crate::stop::Stop;
 use crate::told::tell_objects;
 use crate::walk::tell_tasks;
-use crate::words::{Words, given};
-use jade_base::{StdSource, read_text};
-use jade_lexer::tokens;
-use jade_parser::parse;
-use jade_syntax::Checked;
-use jade_types::check;
-use std::alloc::Global;
+use jade_base::StdSource;
+use picture_base::{Stop, count_at, numbers_from, read_program};
 use std::process::ExitCode;
 use task_codegen::compile;
-
-/// The checked program of a text; nothing where it is refused, or for want of memory.
-fn checked(alloc: Global, text: &[u8]) -> Option<Checked> {
-    if text.len() > 1_048_576 {
-        return None;
-    }
-    let tokens = tokens(alloc, text).ok()?;
-    let program = parse(alloc, &tokens).ok()?;
-    check(alloc, program).ok()
-}
 
 /// Prints all of the program on standard input.
 fn tell_all(rt: &HostRuntime) -> Result<(), Stop> {
     let alloc = rt.alloc();
-    let Words { limit, numbers } = given(rt, alloc)?;
-    let mut source = StdSource::new(rt.stdin());
-    let Ok(text) = read_text(alloc, &mut source) else {
-        return Err(Stop::Text);
-    };
-    let Some(checked) = checked(alloc, &text) else {
-        return Err(Stop::Text);
-    };
+    let limit = count_at(rt, alloc, 1)?;
+    let numbers = numbers_from(rt, alloc, 2)?;
+    let checked = read_program(alloc, &mut StdSource::new(rt.stdin()))?;
     tell_objects(rt, &checked)?;
     let compiled = compile(alloc, checked)?;
     let lines = lines_of_creations(alloc, &compiled, &numbers, limit)?;

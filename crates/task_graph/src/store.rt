@@ -2,9 +2,9 @@
 
 ghost use Rattle.std.specs.Prelude.{◌≡◌, IfOk};
 
-use crate::stop::Stop;
 use jade_base::{Content, Memory, Mode, ObjectId};
 use jade_syntax::Checked;
+use picture_base::Stop;
 use std::alloc::Global;
 use task_machine::holdings::Holdings;
 

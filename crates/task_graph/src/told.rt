@@ -1,32 +1,20 @@
 //! The lines that are printed.
 
-use crate::stop::Stop;
 use jade_base::{Mode, ObjectId, Right, Rights};
 use jade_syntax::Checked;
+use picture_base::{Stop, labels};
 use std::alloc::Global;
-use std::str;
 use task_machine::{Ask, Machine};
 
 /// The most objects of a program.
 const MOST_OBJECTS: u32 = 4096;
 
-/// The name of an object's item.
-fn name_of(name: &[u8]) -> &str {
-    match str::from_utf8(name) {
-        Ok(name) => name,
-        Err(_) => "?",
-    }
-}
-
 /// Prints the objects by their numbers.
 pub(crate) fn tell_objects(rt: &HostRuntime, checked: &Checked) -> Result<(), Stop> {
-    for number in 0..checked.objects() {
-        let (name, member) = checked.label(ObjectId(number));
-        let name = name_of(name.bytes());
-        match member {
-            Some(index) => println!(rt; "object {number} {name}[{index}]")?,
-            None => println!(rt; "object {number} {name}")?,
-        }
+    let labels = labels(rt.alloc(), checked)?;
+    for number in 0..labels.len() {
+        let label = &labels[number];
+        println!(rt; "object {number} {label}")?;
     }
     Ok(())
 }

@@ -1,8 +1,8 @@
 //! The tasks of a serial run, ask by ask.
 
-use crate::stop::Stop;
 use crate::store::Store;
 use crate::told::{tell_ask, tell_declarations};
+use picture_base::Stop;
 use std::alloc::Global;
 use std::mem;
 use task_codegen::Compiled;

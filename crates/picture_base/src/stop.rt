@@ -6,12 +6,12 @@ use std::io;
 
 /// Why not all is printed.
 #[derive(Clone, Copy, Debug, PartialEq, Eq)]
-pub(crate) enum Stop {
+pub enum Stop {
     /// A task faults.
     Fault,
     /// The text is no program, or could not be read.
     Text,
-    /// The words are not LIMIT NUMBER*, with a number for each input.
+    /// The words are not those of the program, with a number for each input.
     Words,
     /// Memory was wanting, or a line could not be printed.
     Failed,
@@ -19,7 +19,7 @@ pub(crate) enum Stop {
 
 impl Stop {
     /// The status with which the program ends.
-    pub(crate) fn number(self) -> u8 {
+    pub fn number(self) -> u8 {
         match self {
             Stop::Fault => 1,
             Stop::Text => 2,
