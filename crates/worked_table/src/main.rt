@@ -1,0 +1,64 @@
+//! Runs one program by three schedules on the table of objects, one try after another at what a
+//! task asks for. It prints of each try the task, how many events it has done, what it asks for, and
+//! what came of the try; then the report. The schedules differ, the reports don't.
+#![tactic(auto)]
+
+mod run;
+mod schedules;
+mod stop;
+mod tasks;
+mod words;
+
+use crate::run::run_by;
+use crate::schedules::{SCHEDULES, Schedule, TEXT};
+use crate::stop::Stop;
+use jade_lexer::tokens;
+use jade_parser::parse;
+use jade_syntax::Checked;
+use jade_types::check;
+use std::alloc::Global;
+use std::process::ExitCode;
+use task_codegen::{Compiled, compile};
+
+/// The checked program of a text; nothing where it is refused, or for want of memory.
+fn checked(alloc: Global, text: &[u8]) -> Option<Checked> {
+    if text.len() > 1_048_576 {
+        return None;
+    }
+    let tokens = tokens(alloc, text).ok()?;
+    let program = parse(alloc, &tokens).ok()?;
+    check(alloc, program).ok()
+}
+
+/// Runs the program by a schedule, and prints the tries and the report, which is answered.
+fn show(rt: &HostRuntime, compiled: &Compiled, schedule: &Schedule) -> Result<String, Stop> {
+    println!(rt; "# {}", schedule.title)?;
+    if compiled.checked().inputs() != 0 {
+        return Err(Stop::Program);
+    }
+    let report = run_by(rt, compiled, schedule.moves)?;
+    print!(rt; "{report}")?;
+    Ok(report)
+}
+
+/// Runs the program by all schedules, and says whether the reports are the same.
+fn show_all(rt: &HostRuntime) -> Result<(), Stop> {
+    let Some(checked) = checked(rt.alloc(), TEXT.as_bytes()) else {
+        return Err(Stop::Program);
+    };
+    let compiled = compile(rt.alloc(), checked)?;
+    let [serial, ahead, vain] = &SCHEDULES;
+    let first = show(rt, &compiled, serial)?;
+    let second = show(rt, &compiled, ahead)?;
+    let third = show(rt, &compiled, vain)?;
+    let same = first == second && first == third;
+    println!(rt; "the reports are the same: {same}")?;
+    Ok(())
+}
+
+fn main(rt: HostRuntime) -> ExitCode {
+    match show_all(&rt) {
+        Ok(()) => ExitCode::SUCCESS,
+        Err(stop) => ExitCode::from(stop.number()),
+    }
+}

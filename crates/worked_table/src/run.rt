@@ -1,0 +1,128 @@
+//! The run of the program by a schedule.
+
+ghost use Rattle.std.specs.Prelude.{◌≡◌, [], length};
+ghost use Rattle.jade_syntax.specs.Objects.{input_names};
+ghost use Rattle.object_table.specs.Rule.{first_view};
+
+use crate::schedules::Move;
+use crate::stop::Stop;
+use crate::tasks::{Answer, Tasks};
+use crate::words::{answer_word, report_text};
+use jade_meaning::Plan;
+use object_table::{ObjectTable, Ran, TaskPass};
+use std::alloc::Global;
+use std::marker::Brand;
+use task_codegen::Compiled;
+use task_suspend::{Capsule, Resigned, RunName, attempt};
+
+/// The most steps of a part of a task.
+const LIMIT: u32 = 1000;
+
+/// The plan of a program without inputs.
+fn plan_of<'c>(compiled: &'c Compiled) -> Plan<'c>
+    ensures { result ≡ record { program = compiled.now.program; numbers = []; limit = 1000 } }
+{
+    Plan::of(compiled.checked(), &[], LIMIT)
+}
+
+/// Runs the program by these moves, and prints each try; the text of the report.
+pub(crate) fn run_by(rt: &HostRuntime, compiled: &Compiled, moves: &[Move]) -> Result<String, Stop>
+    requires { 0 ≡ length (input_names compiled.now.program.items) }
+{
+    let (table, pass) = ObjectTable::start(rt.alloc(), &plan_of(compiled))?;
+    let ran = run_named::<Brand>(rt, table, pass, compiled, moves)?;
+    report_text(rt.alloc(), ran.report())
+}
+
+/// The run of a table, under a name.
+fn run_named<'c, N: RunName>(
+    rt: &HostRuntime,
+    table: ObjectTable<'c>,
+    pass: TaskPass,
+    compiled: &'c Compiled,
+    moves: &[Move],
+) -> Result<Ran<'c>, Stop>
+    requires table { (table.mark ≡ N.mark) × (table.plan ≡ N.plan) }
+    requires pass { (pass.mark ≡ N.mark) × (pass.shows ≡ first_view N.plan) }
+    requires plan { N.plan ≡ record { program = compiled.now.program; numbers = []; limit = 1000 } }
+    requires given { 0 ≡ length (input_names compiled.now.program.items) }
+{
+    let root: Capsule<'c, N> = Capsule::root(rt.alloc(), pass, compiled, &[], LIMIT)?;
+    match play(rt, &table, root, moves)? {
+        Some(last) => closed(rt.alloc(), table, compiled, last),
+        None => Err(Stop::Schedule),
+    }
+}
+
+/// The tries of a run, from its root on; the pass of the task that ended last, if one did.
+fn play<'c, N: RunName>(
+    rt: &HostRuntime,
+    table: &ObjectTable,
+    root: Capsule<'c, N>,
+    moves: &[Move],
+) -> Result<Option<Resigned<N>>, Stop>
+    requires { (table.now.mark ≡ N.mark) × (table.now.plan ≡ N.plan) }
+{
+    let mut tasks = Tasks::none(rt.alloc());
+    tasks.put(root)?;
+    for step in moves {
+        go(rt, table, &mut tasks, step)?;
+    }
+    Ok(tasks.last())
+}
+
+/// A task's next tries.
+fn go<'c, N: RunName>(
+    rt: &HostRuntime,
+    table: &ObjectTable,
+    tasks: &mut Tasks<'c, N>,
+    step: &Move,
+) -> Result<(), Stop>
+    requires { (table.now.mark ≡ N.mark) × (table.now.plan ≡ N.plan) }
+{
+    let Move(path, tries) = step;
+    for _ in 0..*tries {
+        let asked = tasks.word(rt.alloc(), path)?;
+        let answer = one_try(rt.alloc(), table, tasks, path)?;
+        tell(rt, asked.as_str(), answer)?;
+    }
+    Ok(())
+}
+
+/// One try at what the task of a path asks for.
+fn one_try<'c, N: RunName>(
+    alloc: Global,
+    table: &ObjectTable,
+    tasks: &mut Tasks<'c, N>,
+    path: &[u32],
+) -> Result<Answer, Stop>
+    requires { (table.now.mark ≡ N.mark) × (table.now.plan ≡ N.plan) }
+{
+    let task = tasks.take(path)?;
+    let went = attempt(alloc, table, task);
+    tasks.settle(went)
+}
+
+/// Prints a try and what came of it.
+fn tell(rt: &HostRuntime, asked: &str, answer: Answer) -> Result<(), Stop> {
+    let came = answer_word(rt.alloc(), answer)?;
+    println!(rt; "{asked}: {came}")?;
+    Ok(())
+}
+
+/// What the run did, where all is over.
+fn closed<'c, N: RunName>(
+    alloc: Global,
+    table: ObjectTable<'c>,
+    compiled: &'c Compiled,
+    last: Resigned<N>,
+) -> Result<Ran<'c>, Stop>
+    requires table { (table.mark ≡ N.mark) × (table.plan ≡ N.plan) }
+    requires plan { N.plan ≡ record { program = compiled.now.program; numbers = []; limit = 1000 } }
+{
+    if !last.pass.over() {
+        return Err(Stop::Schedule);
+    }
+    let Resigned { pass, .. } = last;
+    Ok(table.finish(alloc, plan_of(compiled), pass)?)
+}
