@@ -8,7 +8,8 @@ as `explain` tells it, with its status, and no picture is written. TIME_LINE, th
 crates/time_line, runs it again and prints, in the order of the notes:
 
     note PATH ASK TIME THREAD      a task is about to carry out its ask of this number, by a thread
-    LABEL = NUMBER*                after the notes, an object and its cells
+    over TIME                      the run has ended
+    LABEL = NUMBER*                an object and its cells
 
 ASK counts from 0 for each task, and TIME is in nanoseconds. TASK_GRAPH, the program of crates/task_graph,
 tells what these asks are. `./jade timeline WORKERS LIMIT NUMBER*` calls this. docs/GUIDE.md says how to read
@@ -61,7 +62,7 @@ class Times:
             self.had[task, ask] = self.had_at(task, ask)
             if task.asks[ask][0] == "create":
                 self.created[task.asks[ask][1]] = self.came[task, ask]
-        self.over = max(self.came.values())
+        self.over = next(int(line.split(" ")[1]) for line in lines if line.startswith("over ")) - first
         self.bars, self.last, free, threads = [], {}, {}, {}
         for path, ask, _, thread in notes:
             worker = threads.setdefault(thread, len(threads) + 1)
