@@ -2,15 +2,16 @@
 
 ghost use Rattle.std.specs.Prelude.{◌≡◌, ◌≤◌, length};
 
-use crate::words::{blame, key, static_word};
-use jade_base::{Memory, ObjectId, Pos, Report};
+use crate::serial::agrees;
+use crate::text::report_text;
+use crate::words::static_word;
+use jade_base::Pos;
 use jade_lexer::{LexError, tokens};
 use jade_parser::{ParseError, parse};
 use jade_syntax::Checked;
 use jade_types::{TypeError, check};
 use schedule_core::play;
 use std::alloc::Global;
-use std::str;
 use worked_case::{CaseText, Stop};
 
 /// What a text is refused for, and where.
@@ -67,7 +68,8 @@ impl Case {
         self.text.put(line)
     }
 
-    /// Plays the case, and prints its report, or why its text or its count of numbers is refused.
+    /// Plays the case, and prints its report, or why its text or its count of numbers is refused. Where
+    /// a serial run comes to something else, it says so.
     pub(crate) fn play(self, rt: &HostRuntime, alloc: Global) -> Result<(), Stop> {
         let text = self.text.bytes();
         if text.len() > 1_048_576 || self.limit == 0 {
@@ -88,7 +90,11 @@ impl Case {
         }
         let numbers = self.numbers.as_slice();
         let report = play(alloc, &checked, numbers, self.limit, self.picks.as_slice())?;
-        print(rt, alloc, &checked, &report)
+        print!(rt; "{}", report_text(alloc, &checked, &report)?)?;
+        if !agrees(alloc, checked, numbers, self.limit, &report)? {
+            println!(rt; "the serial runs differ")?;
+        }
+        Ok(())
     }
 }
 
@@ -117,44 +123,4 @@ fn checked_of(alloc: Global, text: &[u8]) -> Result<Result<Checked, Refused>, St
         })),
         Err(TypeError::Memory) => Err(Stop::Failed),
     }
-}
-
-/// Prints an object's name and its cells.
-fn print_object(
-    rt: &HostRuntime,
-    checked: &Checked,
-    report: &Report,
-    object: u32,
-) -> Result<(), Stop> {
-    if object >= checked.objects() || object as usize >= report.objects.len() {
-        return Ok(());
-    }
-    let (name, member) = checked.label(ObjectId(object));
-    let name = str::from_utf8(name.bytes())?;
-    match member {
-        Some(member) => print!(rt; "{name}[{member}] ="),
-        None => print!(rt; "{name} ="),
-    }?;
-    for cell in report.objects.at(object as usize).as_slice() {
-        print!(rt; " {cell}")?;
-    }
-    println!(rt;)?;
-    Ok(())
-}
-
-/// Prints the objects, the faults and the steps of a report.
-fn print(rt: &HostRuntime, alloc: Global, checked: &Checked, report: &Report) -> Result<(), Stop> {
-    for object in 0..checked.objects() {
-        print_object(rt, checked, report, object)?;
-    }
-    for fault in report.faults.as_slice() {
-        let key = key(alloc, &fault.path, fault.children)?;
-        let blame = blame(alloc, fault.blame)?;
-        println!(rt; "fault {key} {blame}")?;
-    }
-    for part in report.steps.as_slice() {
-        let key = key(alloc, &part.path, part.children)?;
-        println!(rt; "steps {key} {}", part.steps)?;
-    }
-    Ok(())
 }

@@ -1,10 +1,13 @@
 //! Plays each case of standard input by the core, and prints its report. A case begins with a line
 //! `> play LIMIT NUMBER* : PICK*`; the lines up to the next one are its program's text, with a line
 //! feed between two lines and none at the end. Where the text or the count of numbers is refused, it
-//! prints what `run` would write.
+//! prints what `run` would write. Both serial runs, the plain one and that of the code, must come to
+//! the same: where one does not, it prints a line that says so.
 #![tactic(auto)]
 
 mod case;
+mod serial;
+mod text;
 mod words;
 
 use case::Case;
