@@ -119,3 +119,34 @@ impl CaseText {
         self.bytes
     }
 }
+
+/// A case: its first line without the mark, and its text.
+#[derive(Drop)]
+pub struct CaseLines<'t> {
+    pub head: &'t str,
+    pub text: CaseText,
+}
+
+/// The cases of a text. Each begins with a line that begins with the mark, and the lines up to the next
+/// such line are its text.
+pub fn cases_of<'t>(alloc: Global, text: &'t str, mark: &str) -> Result<Vec<CaseLines<'t>>, Stop> {
+    let mut cases: Vec<CaseLines<'t>> = Vec::new(alloc);
+    for line in text.lines() {
+        match line.strip_prefix(mark) {
+            Some(head) => begin(&mut cases, head, CaseText::new(alloc))?,
+            None => match cases.last_mut() {
+                Some(case) => case.text.put(line)?,
+                None => return Err(Stop::Line),
+            },
+        }
+    }
+    Ok(cases)
+}
+
+// One case more.
+fn begin<'t>(cases: &mut Vec<CaseLines<'t>>, head: &'t str, text: CaseText) -> Result<(), Stop> {
+    match cases.push(CaseLines { head, text }) {
+        Ok(()) => Ok(()),
+        Err(_) => Err(Stop::Failed),
+    }
+}

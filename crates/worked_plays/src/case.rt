@@ -20,7 +20,7 @@ struct Refused {
     why: &'static str,
 }
 
-/// A case, and its text so far.
+/// A case, and its text.
 #[derive(Drop)]
 pub(crate) struct Case {
     limit: u32,
@@ -30,13 +30,13 @@ pub(crate) struct Case {
 }
 
 impl Case {
-    /// The case of a line's words: the limit and the numbers, a colon, and the picks.
-    pub(crate) fn of(alloc: Global, line: &str) -> Result<Case, Stop> {
+    /// The case of a line's words, the limit and the numbers, a colon, and the picks; and its text.
+    pub(crate) fn of(alloc: Global, line: &str, text: CaseText) -> Result<Case, Stop> {
         let mut case = Case {
             limit: 0,
             numbers: Vec::new(alloc),
             picks: Vec::new(alloc),
-            text: CaseText::new(alloc),
+            text,
         };
         let mut picking = false;
         for word in line.split(' ') {
@@ -61,11 +61,6 @@ impl Case {
             self.numbers.push(number)?;
         }
         Ok(())
-    }
-
-    /// Puts a line of its text last.
-    pub(crate) fn put(&mut self, line: &str) -> Result<(), Stop> {
-        self.text.put(line)
     }
 
     /// Plays the case, and prints its report, or why its text or its count of numbers is refused. Where

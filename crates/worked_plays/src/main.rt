@@ -15,33 +15,16 @@ use jade_base::{StdSource, read_text};
 use std::alloc::Global;
 use std::process::ExitCode;
 use std::str;
-use worked_case::Stop;
+use worked_case::{Stop, cases_of};
 
 /// Plays the cases of a text.
 fn play_cases(rt: &HostRuntime, alloc: Global, text: &str) -> Result<(), Stop> {
-    let mut open = None;
-    for line in text.lines() {
-        match line.strip_prefix("> play ") {
-            Some(words) => {
-                finish(rt, alloc, open)?;
-                println!(rt; "> play {words}")?;
-                open = Some(Case::of(alloc, words)?);
-            }
-            None => match &mut open {
-                Some(case) => case.put(line)?,
-                None => return Err(Stop::Line),
-            },
-        }
+    for lines in cases_of(alloc, text, "> play ")? {
+        println!(rt; "> play {}", lines.head)?;
+        let case = Case::of(alloc, lines.head, lines.text)?;
+        case.play(rt, alloc)?;
     }
-    finish(rt, alloc, open)
-}
-
-/// Plays a case that is complete, if there is one.
-fn finish(rt: &HostRuntime, alloc: Global, case: Option<Case>) -> Result<(), Stop> {
-    match case {
-        Some(case) => case.play(rt, alloc),
-        None => Ok(()),
-    }
+    Ok(())
 }
 
 fn main(rt: HostRuntime) -> ExitCode {

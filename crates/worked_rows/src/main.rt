@@ -17,7 +17,7 @@ use std::process::ExitCode;
 use std::str;
 use std::sync::Wait;
 use std::thread::Threads;
-use worked_case::{CaseText, Stop};
+use worked_case::{CaseText, Stop, cases_of};
 
 /// The most bytes that a case writes.
 const ROOM: usize = 65_536;
@@ -25,7 +25,7 @@ const ROOM: usize = 65_536;
 /// A program that writes `s = 7`.
 const SEVEN: &str = "object s : 1; main { withonly { wr(s); } do () { s[0] = 7; } }";
 
-/// A case: the words of its call, and its text so far.
+/// A case: the words of its call, and its text.
 #[derive(Drop)]
 struct Case {
     words: Vec<Word>,
@@ -33,23 +33,15 @@ struct Case {
 }
 
 impl Case {
-    /// The case of a line of words.
-    fn of(alloc: Global, line: &str) -> Result<Case, Memory> {
+    /// The case of a line of words, and its text.
+    fn of(alloc: Global, line: &str, text: CaseText) -> Result<Case, Memory> {
         let mut words = Vec::new(alloc);
         for piece in line.split(' ') {
             if !piece.is_empty() {
                 words.push(Word::of(alloc, piece.as_bytes())?)?;
             }
         }
-        Ok(Case {
-            words,
-            text: CaseText::new(alloc),
-        })
-    }
-
-    /// Puts a line of its text last.
-    fn put(&mut self, line: &str) -> Result<(), Stop> {
-        self.text.put(line)
+        Ok(Case { words, text })
     }
 
     /// Runs the case, and prints what it writes and its status.
@@ -69,33 +61,12 @@ fn run_cases<R: Threads + Wait + Sync + Print>(
     alloc: Global,
     text: &str,
 ) -> Result<(), Stop> {
-    let mut open = None;
-    for line in text.lines() {
-        match line.strip_prefix("> ") {
-            Some(words) => {
-                finish(rt, alloc, open)?;
-                println!(rt; "> {words}")?;
-                open = Some(Case::of(alloc, words)?);
-            }
-            None => match &mut open {
-                Some(case) => case.put(line)?,
-                None => return Err(Stop::Line),
-            },
-        }
+    for lines in cases_of(alloc, text, "> ")? {
+        println!(rt; "> {}", lines.head)?;
+        let case = Case::of(alloc, lines.head, lines.text)?;
+        case.run(rt, alloc)?;
     }
-    finish(rt, alloc, open)
-}
-
-/// Runs a case that is complete, if there is one.
-fn finish<R: Threads + Wait + Sync + Print>(
-    rt: &R,
-    alloc: Global,
-    case: Option<Case>,
-) -> Result<(), Stop> {
-    match case {
-        Some(case) => case.run(rt, alloc),
-        None => Ok(()),
-    }
+    Ok(())
 }
 
 /// Counts the runs that it is shown.
@@ -131,7 +102,7 @@ fn call_failing<R: Threads + Wait + Sync + Print>(
     read: Option<u64>,
     write: Option<u64>,
 ) -> Result<(), Stop> {
-    let case = Case::of(alloc, words)?;
+    let case = Case::of(alloc, words, CaseText::new(alloc))?;
     let text = Vec::from_slice(alloc, SEVEN.as_bytes())?;
     let mut source = MemorySource::new(text, 4, calls(alloc, read)?);
     let mut sink = MemorySink::new(alloc, 3, calls(alloc, write)?, 1024)?;

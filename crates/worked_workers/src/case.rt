@@ -55,7 +55,7 @@ fn sum_of(written: &str) -> Result<i64, Stop> {
     Ok(sum)
 }
 
-/// A case: how often it is run, its words, its holds, and its text so far.
+/// A case: how often it is run, its words, its holds, and its text.
 #[derive(Drop)]
 pub struct Case<'t> {
     count: u32,
@@ -65,8 +65,8 @@ pub struct Case<'t> {
 }
 
 impl<'t> Case<'t> {
-    /// The case that begins with a line.
-    pub fn of(alloc: Global, head: &'t str) -> Result<Case<'t>, Stop> {
+    /// The case that begins with a line, and its text.
+    pub fn of(head: &'t str, text: CaseText) -> Result<Case<'t>, Stop> {
         let Some((count, rest)) = head.split_once(" times ") else {
             return Err(Stop::Line);
         };
@@ -79,13 +79,8 @@ impl<'t> Case<'t> {
             count,
             words,
             holds,
-            text: CaseText::new(alloc),
+            text,
         })
-    }
-
-    /// Puts a line of its text last.
-    pub fn put(&mut self, line: &str) -> Result<(), Stop> {
-        self.text.put(line)
     }
 
     // What its words write where they run by `serial`, and the status.

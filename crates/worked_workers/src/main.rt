@@ -17,7 +17,7 @@ use std::process::ExitCode;
 use std::str;
 use std::sync::Wait;
 use std::thread::Threads;
-use worked_case::Stop;
+use worked_case::{Stop, cases_of};
 
 /// Runs the cases of a text.
 fn run_cases<R: Threads + Wait + Sync + Print>(
@@ -25,33 +25,12 @@ fn run_cases<R: Threads + Wait + Sync + Print>(
     alloc: Global,
     text: &str,
 ) -> Result<(), Stop> {
-    let mut open = None;
-    for line in text.lines() {
-        match line.strip_prefix("> ") {
-            Some(head) => {
-                finish(rt, alloc, open)?;
-                println!(rt; "> {head}")?;
-                open = Some(Case::of(alloc, head)?);
-            }
-            None => match &mut open {
-                Some(case) => case.put(line)?,
-                None => return Err(Stop::Line),
-            },
-        }
+    for lines in cases_of(alloc, text, "> ")? {
+        println!(rt; "> {}", lines.head)?;
+        let case = Case::of(lines.head, lines.text)?;
+        case.run(rt, alloc)?;
     }
-    finish(rt, alloc, open)
-}
-
-/// Runs a case that is complete, if there is one.
-fn finish<R: Threads + Wait + Sync + Print>(
-    rt: &R,
-    alloc: Global,
-    case: Option<Case>,
-) -> Result<(), Stop> {
-    match case {
-        Some(case) => case.run(rt, alloc),
-        None => Ok(()),
-    }
+    Ok(())
 }
 
 fn main(rt: HostRuntime) -> ExitCode {
