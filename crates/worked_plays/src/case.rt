@@ -1,11 +1,12 @@
 //! A case: the limit, the numbers, the picks, and the text.
 
 ghost use Rattle.std.specs.Prelude.{◌≡◌, ◌≤◌, length};
+ghost use Rattle.jade_syntax.specs.Objects.{input_names};
 
 use crate::serial::agrees;
 use crate::text::report_text;
 use crate::words::static_word;
-use jade_base::Pos;
+use jade_base::{Pos, Report};
 use jade_lexer::{LexError, tokens};
 use jade_parser::{ParseError, parse};
 use jade_syntax::Checked;
@@ -66,31 +67,55 @@ impl Case {
     /// Plays the case, and prints its report, or why its text or its count of numbers is refused. Where
     /// a serial run comes to something else, it says so.
     pub(crate) fn play(self, rt: &HostRuntime, alloc: Global) -> Result<(), Stop> {
+        let told = self.told(alloc)?;
+        print!(rt; "{told}")?;
+        Ok(())
+    }
+
+    // What is printed of the case.
+    fn told(&self, alloc: Global) -> Result<String, Stop> {
         let text = self.text.bytes();
         if text.len() > 1_048_576 || self.limit == 0 {
             return Err(Stop::Line);
         }
-        let checked = match checked_of(alloc, text)? {
-            Ok(checked) => checked,
-            Err(refused) => {
-                let Refused { at, why } = refused;
-                println!(rt; "refused {}:{} {why}", at.line, at.column)?;
-                return Ok(());
+        match checked_of(alloc, text)? {
+            Ok(checked) => self.played(alloc, checked),
+            Err(Refused { at, why }) => {
+                Ok(format!(in alloc; "refused {}:{} {why}\n", at.line, at.column)?)
             }
-        };
+        }
+    }
+
+    // The report of its program, or why its count of numbers is refused.
+    fn played(&self, alloc: Global, checked: Checked) -> Result<String, Stop>
+        requires { 1 ≤ self.now.limit }
+    {
         let (want, got) = (checked.inputs() as usize, self.numbers.len());
         if want != got {
-            println!(rt; "numbers: want {want}, got {got}")?;
-            return Ok(());
+            return Ok(format!(in alloc; "numbers: want {want}, got {got}\n")?);
         }
-        let numbers = self.numbers.as_slice();
-        let report = play(alloc, &checked, numbers, self.limit, self.picks.as_slice())?;
-        print!(rt; "{}", report_text(alloc, &checked, &report)?)?;
-        if !agrees(alloc, checked, numbers, self.limit, &report)? {
-            println!(rt; "the serial runs differ")?;
-        }
-        Ok(())
+        let (numbers, picks) = (self.numbers.as_slice(), self.picks.as_slice());
+        let report = play(alloc, &checked, numbers, self.limit, picks)?;
+        compared(alloc, checked, numbers, self.limit, &report)
     }
+}
+
+/// The text of a report, and whether a serial run comes to something else.
+fn compared(
+    alloc: Global,
+    checked: Checked,
+    numbers: &[i64],
+    limit: u32,
+    report: &Report,
+) -> Result<String, Stop>
+    requires given { length numbers.now ≡ length (input_names checked.program.items) }
+    requires limit { 1 ≤ limit }
+{
+    let mut text = report_text(alloc, &checked, report)?;
+    if !agrees(alloc, checked, numbers, limit, report)? {
+        text.push_str("the serial runs differ\n")?;
+    }
+    Ok(text)
 }
 
 /// The checked program of a text, or what the text is refused for. The error is want of memory.

@@ -10,7 +10,7 @@ use jade_meaning::serial_run;
 use jade_syntax::Checked;
 use serial_machine::{RunAnswer, run_serial};
 use std::alloc::Global;
-use task_codegen::compile;
+use task_codegen::{Compiled, compile};
 use worked_case::Stop;
 
 /// The blame of a task whose part passes the limit.
@@ -40,7 +40,7 @@ fn told_text(
     }
 }
 
-/// The answer to which the code was run.
+/// An answer.
 fn answer_text(alloc: Global, checked: &Checked, answer: &RunAnswer) -> Result<String, Stop> {
     match answer {
         RunAnswer::Fault(path, blame) => fault_text(alloc, path, *blame),
@@ -60,13 +60,33 @@ pub(crate) fn agrees(
     requires given { length numbers.now ≡ length (input_names checked.program.items) }
     requires limit { 1 ≤ limit }
 {
-    let plain = serial_run(alloc, &checked, numbers, limit)?;
-    let reported = report_text(alloc, &checked, &plain)?;
+    let reported = plain_text(alloc, &checked, numbers, limit)?;
     if reported != report_text(alloc, &checked, report)? {
         return Ok(false);
     }
     let compiled = compile(alloc, checked)?;
-    let answer = run_serial(alloc, &compiled, numbers, limit)?;
-    let answered = answer_text(alloc, compiled.checked(), &answer)?;
+    let answered = code_text(alloc, &compiled, numbers, limit)?;
     Ok(answered == told_text(alloc, compiled.checked(), report, limit)?)
+}
+
+/// The text of what the plain serial run reports.
+fn plain_text(alloc: Global, checked: &Checked, numbers: &[i64], limit: u32) -> Result<String, Stop>
+    requires given { length numbers.now ≡ length (input_names checked.now.program.items) }
+    requires limit { 1 ≤ limit }
+{
+    let report = serial_run(alloc, checked, numbers, limit)?;
+    report_text(alloc, checked, &report)
+}
+
+/// The text of the answer to which the code was run.
+fn code_text(
+    alloc: Global,
+    compiled: &Compiled,
+    numbers: &[i64],
+    limit: u32,
+) -> Result<String, Stop>
+    requires { length numbers.now ≡ length (input_names compiled.now.program.items) }
+{
+    let answer = run_serial(alloc, compiled, numbers, limit)?;
+    answer_text(alloc, compiled.checked(), &answer)
 }
