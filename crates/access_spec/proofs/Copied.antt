@@ -7,9 +7,9 @@ use Rattle.std.specs.List.{position_from}
 use Rattle.jade_base.specs.declared.place.ObjectId.{ObjectId}
 use Rattle.jade_base.specs.declared.rights.Rights.{Rights}
 use Rattle.jade_base.specs.Rights.{no_rights}
-use Rattle.jade_base.specs.Specification.{Specification}
+use Rattle.jade_base.specs.Specification.{Specification, is_of}
 use Rattle.access_spec.proofs.Places.{MatchOption-weaker}
-use Rattle.access_spec.specs.Copies.{copied, copied_in, is_of, rewritten, with_copied}
+use Rattle.access_spec.specs.Copies.{copied, copied_in, rewritten, with_copied}
 
 -- the object has no entry, so the copy has no rights on it, and none can be written
 pub record IsMissing (es : List (ObjectId × Rights)) (ds : List Rights) (o : ObjectId) : Type 0 where

@@ -1,6 +1,5 @@
 -- Lists from a place on.
-use Rattle.std.proofs.Common.{◌≡◌, ℕ, zero, suc, ◌+◌, List, [], ◌∷◌, drop, ap, arith, Bool, cond, Option, None, MatchOption}
-use Rattle.std.specs.List.{position_from}
+use Rattle.std.proofs.Common.{◌≡◌, ℕ, zero, suc, ◌+◌, List, [], ◌∷◌, drop, arith, Option, None, MatchOption}
 use Rattle.std.specs.Prelude.{slice_get, Some}
 
 -- what is left from a place on begins with the item there
@@ -8,11 +7,6 @@ pub drop-slice_get : {X : Type 0} (xs : List X) (i : ℕ) (x : X) → slice_get 
 drop-slice_get [] i x h = absurd (cc)
 drop-slice_get (y ∷ xs) zero x h = grind arith
 drop-slice_get (y ∷ xs) (suc i) x h = grind (arith, drop-slice_get xs i x h)
-
--- a search that has come to a place
-pub position_from-turn : {X : Type 0} (t : X → Bool) (xs : List X) (i : ℕ) (x : X) → slice_get xs i ≡ Some x → position_from t i (drop i xs) ≡ cond (t x)
-    (Some i) (position_from t (i + 1) (drop (i + 1) xs))
-position_from-turn t xs i x h = ap (λ ys. position_from t i ys) (drop-slice_get xs i x h)
 
 pub MatchOption-weaker : {X : Type 0} {P P' : Type 0} {Q Q' : X → Type 0} (o : Option X) → MatchOption o P Q → (P → P') → ((x : X) → Q x → Q' x)
     → MatchOption o P' Q'

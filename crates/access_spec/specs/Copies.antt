@@ -1,5 +1,5 @@
 -- The working copy of a specification, which is its draft.
-use Rattle.std.specs.Prelude.{◌≡◌, ◌≢◌, ℕ, ◌<◌, ◌≤◌, ◌==◌, nat_le, Bool, not, ◌&&◌, List, [], ◌∷◌, Option, Some, None, if◌then◌else◌}
+use Rattle.std.specs.Prelude.{◌≡◌, ◌≢◌, ℕ, ◌<◌, ◌≤◌, ◌==◌, nat_le, not, ◌&&◌, List, [], ◌∷◌, Option, Some, None, if◌then◌else◌}
 use Rattle.jade_base.specs.declared.place.ObjectId.{ObjectId}
 use Rattle.jade_base.specs.declared.rights.Rights.{Rights}
 use Rattle.jade_base.specs.Rights.{no_rights, same_rights}
@@ -44,7 +44,3 @@ IsSameBetween s from to = (o : ObjectId) → from ≤ o.0 → o.0 < to → copie
 -- from this number on the copy has the same rights as there were
 abbrev pub IsSameFrom : Specification → ℕ → Type 0
 IsSameFrom s from = (o : ObjectId) → from ≤ o.0 → copied s o ≡ rights_in s.entries o
-
--- an entry is that of the object
-abbrev pub is_of : ObjectId → ObjectId × Rights → Bool
-is_of o e = e.0.0 == o.0

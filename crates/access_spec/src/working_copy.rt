@@ -1,9 +1,8 @@
 ghost use Rattle.std.specs.Prelude.{◌≡◌, ◌<◌, ◌≤◌, length, IfOk, OnErr, IfSome, IfNone, IsSomeAnd, MatchResult, None, Some};
-ghost use Rattle.std.specs.List.{position_from};
 ghost use Rattle.jade_base.specs.Rights.{same_rights};
 ghost use Rattle.jade_base.specs.Specification.{IsAscending, kept, settled};
 ghost use Rattle.access_spec.specs.Amended.{amended};
-ghost use Rattle.access_spec.specs.Copies.{IsChange, IsSameBetween, IsSameFrom, copied, is_of, next_changed, with_copied};
+ghost use Rattle.access_spec.specs.Copies.{IsChange, IsSameBetween, IsSameFrom, copied, next_changed, with_copied};
 
 use crate::change::{Change, NoRight};
 use jade_base::{ObjectId, Rights, Spec};
@@ -47,7 +46,7 @@ impl WorkingCopy {
             self.new ≡ with_copied self.old object rights)) }
         ensures refused { OnErr result ((amended change (copied self.old object) ≡ None) × (self.new ≡ self.old)) }
     {
-        match place_of(&self.spec, object) {
+        match self.spec.place_of(object) {
             Some(place) => {
                 let rights = change.amend(self.spec.draft_at(place))?;
                 self.spec.set_draft(place, rights);
@@ -93,19 +92,6 @@ fn same(left: Rights, right: Rights) -> bool
     ensures { result ≡ same_rights left right }
 {
     left == right
-}
-
-// The place of an object among the entries.
-fn place_of(spec: &Spec, object: ObjectId) -> Option<usize>
-    ensures place { result ≡ position_from (is_of object) 0 spec.now.entries }
-    ensures drafted { length spec.now.draft ≡ length spec.now.entries }
-{
-    for place in 0..spec.len() {
-        if spec.entry(place).0.0 == object.0 {
-            return Some(place);
-        }
-    }
-    None
 }
 
 // The first object, from a number on, whose rights in the draft are not those it has.

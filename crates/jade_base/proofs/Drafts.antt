@@ -1,12 +1,12 @@
 -- What becomes of the entries of a specification when its draft is kept or dropped.
-use Rattle.std.proofs.Common.{◌≡◌, ℕ, zero, suc, ◌<◌, ◌≤◌, true, false, cond, List, [], ◌∷◌, ◌++◌, length, get_or, set, take, drop, map, refl, ap, ◌∙◌, arith}
+use Rattle.std.proofs.Common.{◌≡◌, ℕ, zero, suc, ◌<◌, ◌≤◌, true, false, cond, List, [], ◌∷◌, ◌++◌, length, get_or, set, take, drop, map, refl, sym, ap, ◌∙◌, arith}
 use Rattle.std.proofs.lemmas.List.{append-nil, take_all, drop_all, map-set}
 use Rattle.std.specs.List.{filter}
 use Rattle.jade_base.specs.declared.place.ObjectId.{ObjectId}
 use Rattle.jade_base.specs.declared.rights.Rights.{Rights}
 use Rattle.jade_base.specs.declared.spec.Entry.{Entry}
 use Rattle.jade_base.specs.Rights.{has_rights}
-use Rattle.jade_base.specs.Specification.{AllAbove, IsAscending, kept, settled, shown, shown_all, specification}
+use Rattle.jade_base.specs.Specification.{AllAbove, IsAscending, IsSettled, kept, settled, shown, shown_all, specification}
 
 -- an entry whose draft says what it says
 abbrev pub with_same_draft : Entry → Entry
@@ -88,3 +88,17 @@ draft-set xs i x r h q = rw (shown-set xs i x r h q, map-set (λ e. e.draft) xs 
 -- a loop that changes each item, at its end
 pub changed-all : (f : Entry → Entry) (xs ys : List Entry) (i : ℕ) → ys ≡ map f (take i xs) ++ drop i xs → length xs ≤ i → ys ≡ map f xs
 changed-all f xs ys i q h = q ∙ rw (take_all i xs h, drop_all i xs h) (append-nil (map f xs))
+
+rights-shown : (xs : List Entry) → map (λ e. e.1) (shown_all xs) ≡ map (λ e. e.rights) xs
+rights-shown [] = refl
+rights-shown (x ∷ xs) = ap (λ t. x.rights ∷ t) (rights-shown xs)
+
+-- entries whose drafts are their rights, seen as a specification
+pub settled-is : (xs : List Entry) → IsSettled xs → specification xs ≡ settled (shown_all xs)
+settled-is xs h = rw (rights-shown xs, h) refl
+
+-- and such entries as one
+pub is-settled : (xs : List Entry) (es : List (ObjectId × Rights)) → specification xs ≡ settled es → IsSettled xs
+is-settled xs es h =
+    let entries = ap (λ s. s.entries) h in
+    ap (λ s. s.draft) h ∙ (ap (λ t. map (λ e. e.1) t) (sym entries) ∙ rights-shown xs)

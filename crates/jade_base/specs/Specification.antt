@@ -1,5 +1,5 @@
 -- What a task may do with which objects, and a draft of it.
-use Rattle.std.specs.Prelude.{◌≡◌, ◌≢◌, ℕ, suc, ◌<◌, ◌≤◌, ◌==◌, nat_lt, List, [], ◌∷◌, length, map, IsTrue, if◌then◌else◌, slice_index_or}
+use Rattle.std.specs.Prelude.{◌≡◌, ◌≢◌, ℕ, suc, ◌<◌, ◌≤◌, ◌==◌, nat_lt, Bool, List, [], ◌∷◌, length, map, IsTrue, if◌then◌else◌, slice_index_or}
 use Rattle.jade_base.specs.declared.place.ObjectId.{ObjectId}
 use Rattle.jade_base.specs.declared.rights.Rights.{Rights}
 use Rattle.jade_base.specs.declared.spec.Entry.{Entry}
@@ -46,6 +46,10 @@ kept (e ∷ es) (d ∷ ds) = if has_rights d then (e.0, d) ∷ kept es ds else k
 abbrev pub settled : List (ObjectId × Rights) → Specification
 settled es = record { entries = es; draft = map (λ e. e.1) es }
 
+-- whether these are the rights on the object
+abbrev pub is_of : ObjectId → ObjectId × Rights → Bool
+is_of o e = e.0.0 == o.0
+
 -- an entry without its draft
 abbrev pub shown : Entry → ObjectId × Rights
 shown e = (e.object, e.rights)
@@ -57,6 +61,10 @@ shown_all xs = map shown xs
 -- the specification that these entries are
 abbrev pub specification : List Entry → Specification
 specification xs = record { entries = shown_all xs; draft = map (λ e. e.draft) xs }
+
+-- each draft is the rights
+abbrev pub IsSettled : List Entry → Type 0
+IsSettled xs = map (λ e. e.draft) xs ≡ map (λ e. e.rights) xs
 
 -- how many entries stand before the place of the object
 abbrev pub place_in : List Entry → ObjectId → ℕ

@@ -1,10 +1,10 @@
-ghost use Rattle.std.specs.Prelude.{◌≡◌, ◌≢◌, ◌<◌, [], length, map, filter, IfOk, OnOk, OnErr, MatchResult, Some, slice_get, slice_set};
+ghost use Rattle.std.specs.Prelude.{◌≡◌, ◌≢◌, ◌<◌, [], length, map, filter, false, IfOk, OnOk, OnErr, MatchResult, Some, slice_get, slice_set};
+ghost use Rattle.std.specs.List.{position_from};
 ghost use Rattle.jade_base.specs.Rights.{no_rights, has_rights, join};
-ghost use Rattle.jade_base.specs.Specification.{IsAscending, joined_in, kept, IsAbsent, IsThere, rights_in, settled, shown_all, specification};
+ghost use Rattle.jade_base.specs.Specification.{IsAscending, joined_in, kept, IsAbsent, IsSettled, IsThere, is_of, rights_in, settled, shown_all, specification};
 
 use crate::{Memory, ObjectId, Rights};
 use std::alloc::Global;
-use std::cmp::Ordering;
 use std::marker::Model;
 
 /// What a task may do with which objects, by ascending number of the object, and beside it a draft
@@ -12,6 +12,8 @@ use std::marker::Model;
 #[derive(Debug, Drop)]
 pub struct Spec {
     entries: Vec<Entry>,
+    // Whether the draft may differ from the rights: where it can't, nothing is to be done to drop it.
+    drafted: bool,
 }
 
 // The rights on an object, and those in the draft.
@@ -23,13 +25,14 @@ struct Entry {
 }
 
 impl Model for Spec {
-    ghost use Rattle.jade_base.specs.Specification.{IsAscending, Specification, shown_all, specification};
+    ghost use Rattle.std.specs.Prelude.{◌≡◌, false};
+    ghost use Rattle.jade_base.specs.Specification.{IsAscending, IsSettled, Specification, shown_all, specification};
 
     ghost Value = { Specification };
 
     ghost view = { λ s. specification s.entries.items };
 
-    ghost invariant = { λ s. IsAscending (shown_all s.entries.items) };
+    ghost invariant = { λ s. IsAscending (shown_all s.entries.items) × (s.drafted ≡ false → IsSettled s.entries.items) };
 }
 
 impl Spec {
@@ -39,6 +42,7 @@ impl Spec {
     {
         Spec {
             entries: Vec::new(alloc),
+            drafted: false,
         }
     }
 
@@ -57,7 +61,8 @@ impl Spec {
             → rights_in self.new.entries other ≡ rights_in self.old.entries other) }
     {
         declare_among(&mut self.entries, object, rights)?;
-        drop_drafts(&mut self.entries);
+        settle(&mut self.entries, self.drafted);
+        self.drafted = false;
         Ok(())
     }
 
@@ -65,12 +70,18 @@ impl Spec {
     pub fn rights(&self, object: ObjectId) -> Rights
         ensures { result ≡ rights_in self.now.entries object }
     {
-        for entry in &self.entries {
-            if entry.object.0 == object.0 {
-                return entry.rights;
-            }
+        match place_of(&self.entries, object) {
+            Ok(place) => self.entries[place].rights,
+            Err(_) => Rights::NONE,
         }
-        Rights::NONE
+    }
+
+    /// The place of an object, counted from 0 by ascending number; `None` where it has no rights.
+    pub fn place_of(&self, object: ObjectId) -> Option<usize>
+        ensures place { result ≡ position_from (is_of object) 0 self.now.entries }
+        ensures drafted { length self.now.draft ≡ length self.now.entries }
+    {
+        place_of(&self.entries, object).ok()
     }
 
     /// The number of objects with rights.
@@ -105,6 +116,7 @@ impl Spec {
         ensures { self.new ≡ record self.old { draft = slice_set self.old.draft place rights } }
     {
         self.entries[place].draft = rights;
+        self.drafted = true;
     }
 
     /// Makes the draft the rights; an object for which it has none has no entry then.
@@ -112,13 +124,15 @@ impl Spec {
         ensures { self.new ≡ settled (kept self.old.entries self.old.draft) }
     {
         keep_drafts(&mut self.entries);
+        self.drafted = false;
     }
 
     /// Makes the draft equal to the rights.
     pub fn drop_draft(&mut self)
         ensures { self.new ≡ settled self.old.entries }
     {
-        drop_drafts(&mut self.entries);
+        settle(&mut self.entries, self.drafted);
+        self.drafted = false;
     }
 
     /// The same specification with the same draft once more. The error is want of memory.
@@ -126,48 +140,69 @@ impl Spec {
         ensures { IfOk result (λ copy. copy ≡ self.now) }
     {
         let entries = Vec::from_slice(alloc, self.entries.as_slice())?;
-        Ok(Spec { entries })
+        Ok(Spec {
+            entries,
+            drafted: self.drafted,
+        })
     }
 }
 
-// The place of an object among the entries; the error is the place where it would be.
+// The place of an object among the entries, found by halves; the error is the place where it would
+// be.
 fn place_of(entries: &[Entry], object: ObjectId) -> Result<usize, usize>
+    requires { IsAscending (shown_all entries.now) }
     ensures { MatchResult result (IsThere entries.now object) (IsAbsent entries.now object) }
 {
-    for (place, entry) in entries.iter().enumerate() {
-        match entry.object.0.cmp(&object.0) {
-            Ordering::Less => {}
-            Ordering::Equal => return Ok(place),
-            Ordering::Greater => return Err(place),
-        }
+    let place = entries.partition_point(|entry| entry.object.0 < object.0);
+    if place < entries.len() && entries[place].object.0 == object.0 {
+        Ok(place)
+    } else {
+        Err(place)
     }
-    Err(entries.len())
 }
 
-// Joins rights to those of an object, which gets an entry where it has none.
+// Joins rights to those of an object, which gets an entry where it has none. Its draft is then its
+// rights, and the other drafts stand as they were.
 fn declare_among(entries: &mut Vec<Entry>, object: ObjectId, rights: Rights) -> Result<(), Memory>
-    ensures { MatchResult result
+    requires { IsAscending (shown_all entries.old.items) }
+    ensures joined { MatchResult result
         (λ _. shown_all entries.new.items ≡ joined_in (shown_all entries.old.items) object rights)
         (λ _. entries.new.items ≡ entries.old.items) }
+    ensures settled { IsSettled entries.old.items → IsSettled entries.new.items }
 {
     match place_of(entries, object) {
         Ok(place) => {
-            let entry = entries[place];
-            let rights = entry.rights.join(rights);
-            entries[place] = Entry { rights, ..entry };
+            let rights = entries[place].rights.join(rights);
+            entries[place] = settled_entry(object, rights);
         }
         Err(place) => {
             if rights.any() {
-                let entry = Entry {
-                    object,
-                    rights,
-                    draft: rights,
-                };
-                entries.insert(place, entry)?;
+                entries.insert(place, settled_entry(object, rights))?;
             }
         }
     }
     Ok(())
+}
+
+// An entry whose draft is its rights.
+fn settled_entry(object: ObjectId, rights: Rights) -> Entry
+    ensures { result ≡ record { object = object; rights = rights; draft = rights } }
+{
+    Entry {
+        object,
+        rights,
+        draft: rights,
+    }
+}
+
+// Makes each draft equal to the rights, where it may differ from them.
+fn settle(entries: &mut Vec<Entry>, drafted: bool)
+    requires { drafted ≡ false → IsSettled entries.old.items }
+    ensures { specification entries.new.items ≡ settled (shown_all entries.old.items) }
+{
+    if drafted {
+        drop_drafts(entries);
+    }
 }
 
 // Makes each draft equal to the rights.

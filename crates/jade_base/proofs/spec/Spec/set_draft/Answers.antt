@@ -9,7 +9,7 @@ invariant_of-self c =
     let xs = c.self.inside.entries.items in
     let within : c.args.place < length xs = omega (arith, c.requires, ap (λ s. length s.entries) c.self.view_is, length-map xs shown) in
     let e = draft-set xs c.args.place c.index_mut.result.now c.args.rights within c.index_mut.ensures.value in
-    subst (λ es. IsAscending es) (sym (ap (λ s. s.entries) e)) c.self.invariant
+    (subst (λ es. IsAscending es) (sym (ap (λ s. s.entries) e)) c.self.invariant.0, λ q. absurd (cc))
 
 pub returns : goal.returns
 returns c =
