@@ -6,6 +6,7 @@ ghost use Rattle.steal_workers.specs.steps.Facts.{Of-prop};
 
 use crate::signals::Signals;
 use crate::worker::Worker;
+use crossbeam_utils::CachePadded;
 use fair_deque::Thief;
 use object_table::ObjectTable;
 use std::sync::Mutex;
@@ -25,7 +26,7 @@ pub(crate) struct Board<'c, N: RunName> {
     pub table: ObjectTable<'c>,
     pub objects: u32,
     pub rooms: Rooms<'c, N>,
-    pub freed: Vec<AtomicU64>,
+    pub freed: Vec<CachePadded<AtomicU64>>,
     pub held_back: Mutex<CapsuleList<'c, N>>,
     pub others: Vec<OtherDeque<'c, N>>,
     pub signals: Signals,

@@ -9,8 +9,9 @@ use crate::board::{Board, OtherDeque};
 use crate::crew::{crew, seen_out};
 use crate::gate::Gate;
 use crate::keeper::Over;
-use crate::signals::Signals;
+use crate::signals::{Signals, padded_count};
 use crate::worker::Worker;
+use crossbeam_utils::CachePadded;
 use fair_deque::{Owner, Thief, empty, put_task, thief_of};
 use jade_base::Memory;
 use jade_meaning::Plan;
@@ -175,13 +176,13 @@ fn board_of<'c, N: RunName>(
     })
 }
 
-// So many counters, each at 0.
-fn counters(alloc: Global, count: u32) -> Result<Vec<AtomicU64>, Memory>
+// So many counters, each at 0 and with a cache line of its own.
+fn counters(alloc: Global, count: u32) -> Result<Vec<CachePadded<AtomicU64>>, Memory>
     ensures { IfOk result (λ counters. vec_len counters ≡ count) }
 {
     let mut counters = Vec::new(alloc);
     for _ in 0..count {
-        if counters.push(AtomicU64::new(0)).is_err() {
+        if counters.push(padded_count()).is_err() {
             return Err(Memory);
         }
     }

@@ -135,7 +135,8 @@ fn part<'c, N: RunName, R: Wait>(
     }
 }
 
-// The object was freed: the tasks that wait for it are ready.
+// The object was freed: the tasks that wait for it are ready. Where no task waits at all, none lies in
+// its room, or the one that comes there just now sees that the object was freed meanwhile.
 fn free<'c, N: RunName, R: Wait>(
     rt: &R,
     board: &Board<'c, N>,
@@ -143,6 +144,9 @@ fn free<'c, N: RunName, R: Wait>(
     place: Place<N>,
 ) -> Result<(), Memory> {
     board.count_freed(&place);
+    if !board.signals.has_waiting() {
+        return Ok(());
+    }
     let tasks = board.rooms.drain(rt, place.object);
     requeue(board, worker, tasks)
 }

@@ -1,5 +1,6 @@
 //! What workers tell one another. All of it is advice: nothing is claimed of it.
 
+use crossbeam_utils::CachePadded;
 use std::sync::Wait;
 use std::sync::atomic::{AtomicBool, AtomicU64, Ordering};
 use std::time::Duration;
@@ -7,7 +8,8 @@ use std::time::Duration;
 /// So many tasks may wait in the rooms before those that create more are held back.
 const WAITING_TASKS: u64 = 16;
 
-/// Flags, counts and a bell.
+/// Flags, counts and a bell. What is written in a run has a cache line of its own, since all workers
+/// read the flags before each try.
 #[derive(Drop)]
 pub(crate) struct Signals {
     workers: u64,
@@ -16,13 +18,18 @@ pub(crate) struct Signals {
     // A worker has seen the end.
     done: AtomicBool,
     // How many tasks wait in the rooms, and how many are held back.
-    waiting: AtomicU64,
-    held_back: AtomicU64,
+    waiting: CachePadded<AtomicU64>,
+    held_back: CachePadded<AtomicU64>,
     // How many workers have no task, and how many of these sleep or are about to.
-    idle: AtomicU64,
-    asleep: AtomicU64,
+    idle: CachePadded<AtomicU64>,
+    asleep: CachePadded<AtomicU64>,
     // How often those that sleep were called.
-    bell: AtomicU64,
+    bell: CachePadded<AtomicU64>,
+}
+
+/// A count that stands at 0, with a cache line of its own.
+pub(crate) fn padded_count() -> CachePadded<AtomicU64> {
+    CachePadded::new(AtomicU64::new(0))
 }
 
 impl Signals {
@@ -32,11 +39,11 @@ impl Signals {
             workers,
             stopped: AtomicBool::new(false),
             done: AtomicBool::new(false),
-            waiting: AtomicU64::new(0),
-            held_back: AtomicU64::new(0),
-            idle: AtomicU64::new(0),
-            asleep: AtomicU64::new(0),
-            bell: AtomicU64::new(0),
+            waiting: padded_count(),
+            held_back: padded_count(),
+            idle: padded_count(),
+            asleep: padded_count(),
+            bell: padded_count(),
         }
     }
 
