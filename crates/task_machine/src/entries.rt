@@ -6,15 +6,17 @@ ghost use Rattle.jade_base.specs.Specification.{IsAscending};
 ghost use Rattle.access_spec.specs.Copies.{IsSameBetween};
 ghost use Rattle.task_machine.specs.steps.Finding.{HasNoEntry, IsFreeBetween, IsNextChange, IsNextEntry, IsNotAt, IsPlaceFrom, IsPlaceOf};
 
+use crate::halves::FEW;
 use jade_base::{ObjectId, Rights, Spec};
 
-// The place of the first entry whose object is not below this one, found by halves.
+// The place of the first entry whose object is not below this one, found by halves, and one by one
+// among the few that are left.
 fn place_from(spec: &Spec, from: ObjectId) -> usize
     ensures { IsPlaceFrom from.0 result spec.now.entries }
 {
     let mut low = 0;
     let mut high = spec.len();
-    'halves: while low < high {
+    'halves: while high - low > FEW {
         let middle = low + (high - low) / 2;
         let (object, _) = spec.entry(middle);
         if object.0 < from.0 {
@@ -23,7 +25,13 @@ fn place_from(spec: &Spec, from: ObjectId) -> usize
             high = middle;
         }
     }
-    low
+    'few: for place in low..high {
+        let (object, _) = spec.entry(place);
+        if object.0 >= from.0 {
+            return place;
+        }
+    }
+    high
 }
 
 // Whether the entry at a place is that of an object.

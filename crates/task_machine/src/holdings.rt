@@ -10,6 +10,7 @@ ghost use Rattle.task_machine.specs.Executions.{objects_in, with_content, withou
 ghost use Rattle.task_machine.specs.steps.Holding.{RowsAscend, contents_of, row_from, cell_in, Written, WrittenIn, whole_from};
 ghost use Rattle.task_machine.specs.steps.Searching.{IsFirstFrom};
 
+use crate::halves::FEW;
 use jade_base::{Content, Memory, Mode, Numbers, ObjectId, Spec};
 use jade_syntax::Checked;
 use std::alloc::Global;
@@ -155,14 +156,15 @@ fn take_among(rows: &mut [Row], object: usize) -> Option<Content>
     }
 }
 
-// The place of the first row whose object is not below this one, found by halves.
+// The place of the first row whose object is not below this one, found by halves, and one by one
+// among the few that are left.
 fn place_from(rows: &[Row], object: usize) -> usize
     requires { RowsAscend rows.now }
     ensures { IsFirstFrom object result (objects_in rows.now) }
 {
     let mut low = 0;
     let mut high = rows.len();
-    'halves: while low < high {
+    'halves: while high - low > FEW {
         let middle = low + (high - low) / 2;
         if (rows[middle].object.0 as usize) < object {
             low = middle + 1;
@@ -170,7 +172,12 @@ fn place_from(rows: &[Row], object: usize) -> usize
             high = middle;
         }
     }
-    low
+    'few: for place in low..high {
+        if rows[place].object.0 as usize >= object {
+            return place;
+        }
+    }
+    high
 }
 
 // The place of an object's row. Where all objects of a program are there, it is the object's number.

@@ -4,6 +4,7 @@
 mod entries;
 pub mod execution;
 pub mod frame;
+mod halves;
 pub mod holdings;
 pub mod laws;
 pub mod machine;

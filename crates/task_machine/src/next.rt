@@ -7,6 +7,7 @@ ghost use Rattle.task_machine.specs.Machines.{candidates, due_in, is_to_move};
 ghost use Rattle.task_machine.specs.steps.Searching.{IsFirstFrom, ObjectsAscend};
 
 use crate::execution::Execution;
+use crate::halves::FEW;
 use access_spec::{gives_way, mode_of};
 use jade_base::{Blame, Mode, ObjectId, Rights};
 
@@ -114,13 +115,14 @@ fn moves(execution: &Execution, due: &[bool], phase: Phase, object: ObjectId) ->
     }
 }
 
-// The place of the first of these objects that is not below this one, found by halves.
+// The place of the first of these objects that is not below this one, found by halves, and one by
+// one among the few that are left.
 fn place_from(execution: &Execution, phase: Phase, from: ObjectId) -> usize
     ensures { IsFirstFrom from.0 result (candidates phase execution.now) }
 {
     let mut low = 0;
     let mut high = count(execution, phase);
-    'halves: while low < high {
+    'halves: while high - low > FEW {
         let middle = low + (high - low) / 2;
         if candidate(execution, phase, middle).0 < from.0 {
             low = middle + 1;
@@ -128,7 +130,12 @@ fn place_from(execution: &Execution, phase: Phase, from: ObjectId) -> usize
             high = middle;
         }
     }
-    low
+    'few: for place in low..high {
+        if candidate(execution, phase, place).0 >= from.0 {
+            return place;
+        }
+    }
+    high
 }
 
 /// The same as `next_object`, where nothing is to be taken or given up below an object: what stands

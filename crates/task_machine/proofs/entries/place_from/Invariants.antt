@@ -7,3 +7,6 @@ invariant-halves l = IsHalved l.from.0 l.low l.high l.spec.entries
 
 abbrev pub decreases-halves : goal.decreases-halves
 decreases-halves l = l.high - l.low
+
+abbrev pub invariant-few : goal.invariant-few
+invariant-few l = IsHalved l.from.0 l.place l.high l.spec.entries

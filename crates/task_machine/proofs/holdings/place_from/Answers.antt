@@ -9,7 +9,7 @@ pub halves-preserved-then-rows-middle : goal.halves-preserved-then-rows-middle
 halves-preserved-then-rows-middle c =
     let rs = c.args.rows.now in
     let m = c.halves.low + (c.halves.high - c.halves.low) / 2 in
-    let less : c.halves.low < c.halves.high = c.halves-test.true in
+    let less : c.halves.low < c.halves.high = omega (arith, c.halves-test.true) in
     let next : m + 1 ≤ c.halves.high = omega (arith, less) in
     let count = rows_count rs in
     let there = row_object rs m c.index-rows-middle.result (omega (arith, next, count, c.halves.invariant.within)) in
@@ -24,7 +24,7 @@ pub halves-preserved : goal.halves-preserved
 halves-preserved c =
     let rs = c.args.rows.now in
     let m = c.halves.low + (c.halves.high - c.halves.low) / 2 in
-    let less : c.halves.low < c.halves.high = c.halves-test.true in
+    let less : c.halves.low < c.halves.high = omega (arith, c.halves-test.true) in
     let next : m + 1 ≤ c.halves.high = omega (arith, less) in
     let count = rows_count rs in
     let there = row_object rs m c.index-rows-middle.result (omega (arith, next, count, c.halves.invariant.within)) in
@@ -34,4 +34,31 @@ halves-preserved c =
       within = omega (arith, next, c.halves.invariant.within);
       below = c.halves.invariant.below;
       above = upper_half c.args.object (objects_in rs) m _ (rows_ascend rs c.requires) there far;
+    }
+
+pub returns-then-rows-place : goal.returns-then-rows-place
+returns-then-rows-place c =
+    let rs = c.args.rows.now in
+    let row = slice_index_or rs c.few.place c.index-rows-place.result in
+    let less : c.few.place < c.halves.high = c.few-test.true in
+    let there = row_object rs c.few.place c.index-rows-place.result (omega (arith, less, rows_count rs, c.few.invariant.within)) in
+    let far : c.args.object ≤ row.object.0 = omega (arith, c.if-rows-place.true) in
+    record {
+      within = omega (arith, less, c.few.invariant.within);
+      below = c.few.invariant.below;
+      above = upper_half c.args.object (objects_in rs) c.few.place _ (rows_ascend rs c.requires) there far;
+    }
+
+pub few-preserved : goal.few-preserved
+few-preserved c =
+    let rs = c.args.rows.now in
+    let row = slice_index_or rs c.few.place c.index-rows-place.result in
+    let less : c.few.place < c.halves.high = c.few-test.true in
+    let there = row_object rs c.few.place c.index-rows-place.result (omega (arith, less, rows_count rs, c.few.invariant.within)) in
+    let near : row.object.0 < c.args.object = omega (arith, c.if-rows-place.false) in
+    record {
+      order = omega (arith, less);
+      within = c.few.invariant.within;
+      below = lower_half c.args.object (objects_in rs) c.few.place _ (rows_ascend rs c.requires) there near;
+      above = c.few.invariant.above;
     }

@@ -8,3 +8,6 @@ invariant-halves l = ObjectsHalved l.object l.low l.high (objects_in l.rows)
 
 abbrev pub decreases-halves : goal.decreases-halves
 decreases-halves l = l.high - l.low
+
+abbrev pub invariant-few : goal.invariant-few
+invariant-few l = ObjectsHalved l.object l.place l.high (objects_in l.rows)

@@ -8,3 +8,6 @@ invariant-halves l = ObjectsHalved l.from.0 l.low l.high (candidates l.phase l.e
 
 abbrev pub decreases-halves : goal.decreases-halves
 decreases-halves l = l.high - l.low
+
+abbrev pub invariant-few : goal.invariant-few
+invariant-few l = ObjectsHalved l.from.0 l.place l.high (candidates l.phase l.execution)
