@@ -20,8 +20,8 @@ pub fn report_of(alloc: Global, objects: CellLists, notes: Vec<PartNote>) -> Res
 {
     let in_order = in_key_order(notes)?;
     let turns = no_turns(alloc, objects.len())?;
-    let steps = steps_of(alloc, in_order.as_slice())?;
     let faults = faults_of(alloc, in_order.as_slice())?;
+    let steps = steps_of(alloc, in_order)?;
     Ok(Report {
         objects,
         faults,
