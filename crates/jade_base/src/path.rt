@@ -37,7 +37,9 @@ impl Path {
     pub fn child(&self, alloc: Global, number: u32) -> Result<Path, Memory>
         ensures { IfOk result (λ path. path ≡ self.now ++ number ∷ []) }
     {
-        let mut numbers = Vec::from_slice(alloc, self.numbers.as_slice())?;
+        let count = self.numbers.len().saturating_add(1);
+        let mut numbers = Vec::with_capacity(alloc, count)?;
+        numbers.extend_from_slice(self.numbers.as_slice())?;
         numbers.push(number)?;
         Ok(Path { numbers })
     }
