@@ -7,8 +7,12 @@ use std::hint::spin_loop;
 use std::sync::Wait;
 use task_suspend::{Capsule, CapsuleList, Place, Resigned, RunName, Went};
 
-/// So often a task is tried again where another has a turn.
-const BUSY_TRIES: u32 = 6;
+/// So often a task is tried again where another has a turn. A turn is short, so it pays to stay.
+const BUSY_TRIES: u32 = 40;
+
+/// The longest pause before a try, in hints to the processor, is 2 to this: about as long as a word
+/// takes from one processor to another.
+const LONGEST_PAUSE: u32 = 3;
 
 /// The tries in vain since the task last went on: how often another had a turn, and whether it was
 /// seen to wait, and how often its object was freed before.
@@ -217,7 +221,7 @@ fn pause<'c, N: RunName>(
         make_ready(board, worker, task)?;
         return Ok(None);
     }
-    for _ in 0..(1u32 << tries.busy) {
+    for _ in 0..(1u32 << tries.busy.min(LONGEST_PAUSE)) {
         spin_loop();
     }
     let tries = Tries {
