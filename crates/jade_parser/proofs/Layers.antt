@@ -1,9 +1,11 @@
 -- Each layer of a tree runs.
-use Rattle.std.proofs.Common.{◌≡◌, ℕ, suc, ◌+◌, ◌<◌, List, [], ◌∷◌, ◌++◌, refl, ap, length, arith, append_assoc, append-nil, length-append, ℤ}
+use Rattle.std.proofs.Common.{◌≡◌, ℕ, suc, ◌+◌, ◌<◌, Bool, true, false, List, [], ◌∷◌, ◌++◌, refl, ap, length, arith, ℤ}
+use Rattle.std.proofs.Common.{append_assoc, append-nil, length-append}
 use Rattle.std.proofs.lemmas.List.{map-append}
 use Rattle.std.specs.List.{flat_map}
-use Rattle.jade_parser.specs.declared.Sign.TheVariants.{TrueWord, FalseWord, LeftParen, RightParen, RightBracket}
-use Rattle.jade_parser.specs.Spelled.{Tokens, Fixed, Called, Counted, Parts, tokens_of, marked, fixed, bracketed, relation_sign, unary_sign}
+use Rattle.jade_parser.specs.declared.Sign.TheVariants.{LeftParen, RightParen, RightBracket}
+use Rattle.jade_parser.specs.Spelled.{Tokens, Fixed, Called, Counted, Parts, tokens_of, marked, fixed, bracketed}
+use Rattle.jade_parser.specs.Spelled.{relation_sign, unary_sign, truth_word, sign_part}
 use Rattle.jade_parser.specs.steps.Machine.{Need, Rest, First, Second, Must, Stack, rank, asks, goes, unary_in, sum_in, compare_in, expr_in}
 use Rattle.jade_base.specs.declared.place.Pos.{Pos}
 use Rattle.jade_syntax.specs.declared.tree.Relation.{Relation}
@@ -15,11 +17,9 @@ use Rattle.jade_parser.proofs.Running.{Runs, Follows, follows_less, pass, takes,
 pub counted_runs : (v : ℤ) (p : Pos) → Runs unary_in 0 (marked (Counted v) p ∷ [])
 counted_runs v p = record { by = λ st rest f. refl }
 
-pub true_runs : (p : Pos) → Runs unary_in 0 (marked (Fixed TrueWord) p ∷ [])
-true_runs p = record { by = λ st rest f. refl }
-
-pub false_runs : (p : Pos) → Runs unary_in 0 (marked (Fixed FalseWord) p ∷ [])
-false_runs p = record { by = λ st rest f. refl }
+pub truth_runs : (b : Bool) (p : Pos) → Runs unary_in 0 (marked (truth_word b) p ∷ [])
+truth_runs true p = record { by = λ st rest f. refl }
+truth_runs false p = record { by = λ st rest f. refl }
 
 past_first : (st : Stack) (rest : Tokens) → Follows 0 rest → goes rest (First ∷ st) ≡ goes rest st
 past_first st [] f = refl
@@ -71,10 +71,9 @@ member_runs n p us ts q r = record {
       omega (arith, a, b, e, length-append (bracketed us) (bracketed ts));
 }
 
-pub signs_run : {A : Type 0} (op : A → UnaryOp) (at : A → Pos) (xs : List A) (atom : Parts) → Runs unary_in 0 atom
-    → Runs unary_in 0 (flat_map (λ x. marked (unary_sign (op x)) (at x) ∷ []) xs ++ atom)
-signs_run op at [] atom r = r
-signs_run op at (x ∷ xs) atom r = record { by = λ st rest f. sign_step (op x) _ _ st rest ((signs_run op at xs atom r).by st rest f) }
+pub signs_run : (xs : List (UnaryOp × Pos)) (atom : Parts) → Runs unary_in 0 atom → Runs unary_in 0 (flat_map sign_part xs ++ atom)
+signs_run [] atom r = r
+signs_run (x ∷ xs) atom r = record { by = λ st rest f. sign_step x.0 _ _ st rest ((signs_run xs atom r).by st rest f) }
   where
     sign_step : (o : UnaryOp) (ts : Tokens) (k : ℕ) (st : Stack) (rest : Tokens) → goes ts (Need ∷ st) ≡ k + goes rest st
         → goes (unary_sign o ∷ ts) (Need ∷ st)
