@@ -1,6 +1,7 @@
-//! Runs one program by three schedules on the table of objects, one try after another at what a
-//! task asks for. It prints of each try the task, how many events it has done, what it asks for, and
-//! what came of the try; then the report. The schedules differ, the reports don't.
+//! Runs one program by four schedules on the table of objects, one try after another at what a
+//! task asks for. It prints of each try the task, how many events it has done, what it asks for,
+//! what came of the try, and which tasks come out of a room; then the report. The schedules differ,
+//! the reports don't.
 #![tactic(auto)]
 
 mod run;
@@ -18,6 +19,7 @@ use jade_syntax::Checked;
 use jade_types::check;
 use std::alloc::Global;
 use std::process::ExitCode;
+use std::sync::Wait;
 use task_codegen::{Compiled, compile};
 
 /// The checked program of a text; nothing where it is refused, or for want of memory.
@@ -31,33 +33,39 @@ fn checked(alloc: Global, text: &[u8]) -> Option<Checked> {
 }
 
 /// Runs the program by a schedule, and prints the tries and the report, which is answered.
-fn show(rt: &HostRuntime, compiled: &Compiled, schedule: &Schedule) -> Result<String, Stop> {
+fn show<R: Wait + Print>(
+    rt: &R,
+    alloc: Global,
+    compiled: &Compiled,
+    schedule: &Schedule,
+) -> Result<String, Stop> {
     println!(rt; "# {}", schedule.title)?;
     if compiled.checked().inputs() != 0 {
         return Err(Stop::Program);
     }
-    let report = run_by(rt, compiled, schedule.moves)?;
+    let report = run_by(rt, alloc, compiled, schedule)?;
     print!(rt; "{report}")?;
     Ok(report)
 }
 
 /// Runs the program by all schedules, and says whether the reports are the same.
-fn show_all(rt: &HostRuntime) -> Result<(), Stop> {
-    let Some(checked) = checked(rt.alloc(), TEXT.as_bytes()) else {
+fn show_all<R: Wait + Print>(rt: &R, alloc: Global) -> Result<(), Stop> {
+    let Some(checked) = checked(alloc, TEXT.as_bytes()) else {
         return Err(Stop::Program);
     };
-    let compiled = compile(rt.alloc(), checked)?;
-    let [serial, ahead, vain] = &SCHEDULES;
-    let first = show(rt, &compiled, serial)?;
-    let second = show(rt, &compiled, ahead)?;
-    let third = show(rt, &compiled, vain)?;
-    let same = first == second && first == third;
+    let compiled = compile(alloc, checked)?;
+    let [serial, ahead, vain, rooms] = &SCHEDULES;
+    let first = show(rt, alloc, &compiled, serial)?;
+    let second = show(rt, alloc, &compiled, ahead)?;
+    let third = show(rt, alloc, &compiled, vain)?;
+    let fourth = show(rt, alloc, &compiled, rooms)?;
+    let same = first == second && first == third && first == fourth;
     println!(rt; "the reports are the same: {same}")?;
     Ok(())
 }
 
 fn main(rt: HostRuntime) -> ExitCode {
-    match show_all(&rt) {
+    match show_all(&rt, rt.alloc()) {
         Ok(()) => ExitCode::SUCCESS,
         Err(stop) => ExitCode::from(stop.number()),
     }

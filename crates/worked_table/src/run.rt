@@ -4,7 +4,7 @@ ghost use Rattle.std.specs.Prelude.{◌≡◌, [], length};
 ghost use Rattle.jade_syntax.specs.Objects.{input_names};
 ghost use Rattle.object_table.specs.Rule.{first_view};
 
-use crate::schedules::Move;
+use crate::schedules::{Move, Schedule};
 use crate::stop::Stop;
 use crate::tasks::{Answer, Tasks};
 use crate::words::{answer_word, report_text};
@@ -12,6 +12,7 @@ use jade_meaning::Plan;
 use object_table::{ObjectTable, Ran, TaskPass};
 use std::alloc::Global;
 use std::marker::Brand;
+use std::sync::Wait;
 use task_codegen::Compiled;
 use task_suspend::{Capsule, Resigned, RunName, attempt};
 
@@ -25,55 +26,63 @@ fn plan_of<'c>(compiled: &'c Compiled) -> Plan<'c>
     Plan::of(compiled.checked(), &[], LIMIT)
 }
 
-/// Runs the program by these moves, and prints each try; the text of the report.
-pub(crate) fn run_by(rt: &HostRuntime, compiled: &Compiled, moves: &[Move]) -> Result<String, Stop>
+/// Runs the program by a schedule, and prints each try; the text of the report.
+pub(crate) fn run_by<R: Wait + Print>(
+    rt: &R,
+    alloc: Global,
+    compiled: &Compiled,
+    schedule: &Schedule,
+) -> Result<String, Stop>
     requires { 0 ≡ length (input_names compiled.now.program.items) }
 {
-    let (table, pass) = ObjectTable::start(rt.alloc(), &plan_of(compiled))?;
-    let ran = run_named::<Brand>(rt, table, pass, compiled, moves)?;
-    report_text(rt.alloc(), ran.report())
+    let (table, pass) = ObjectTable::start(alloc, &plan_of(compiled))?;
+    let ran = run_named::<Brand, R>(rt, alloc, table, pass, compiled, schedule)?;
+    report_text(alloc, ran.report())
 }
 
 /// The run of a table, under a name.
-fn run_named<'c, N: RunName>(
-    rt: &HostRuntime,
+fn run_named<'c, N: RunName, R: Wait + Print>(
+    rt: &R,
+    alloc: Global,
     table: ObjectTable<'c>,
     pass: TaskPass,
     compiled: &'c Compiled,
-    moves: &[Move],
+    schedule: &Schedule,
 ) -> Result<Ran<'c>, Stop>
     requires table { (table.mark ≡ N.mark) × (table.plan ≡ N.plan) }
     requires pass { (pass.mark ≡ N.mark) × (pass.shows ≡ first_view N.plan) }
     requires plan { N.plan ≡ record { program = compiled.now.program; numbers = []; limit = 1000 } }
     requires given { 0 ≡ length (input_names compiled.now.program.items) }
 {
-    let root: Capsule<'c, N> = Capsule::root(rt.alloc(), pass, compiled, &[], LIMIT)?;
-    match play(rt, &table, root, moves)? {
-        Some(last) => closed(rt.alloc(), table, compiled, last),
+    let root: Capsule<'c, N> = Capsule::root(alloc, pass, compiled, &[], LIMIT)?;
+    match play(rt, alloc, &table, root, schedule)? {
+        Some(last) => closed(alloc, table, compiled, last),
         None => Err(Stop::Schedule),
     }
 }
 
 /// The tries of a run, from its root on; the pass of the task that ended last, if one did.
-fn play<'c, N: RunName>(
-    rt: &HostRuntime,
+fn play<'c, N: RunName, R: Wait + Print>(
+    rt: &R,
+    alloc: Global,
     table: &ObjectTable,
     root: Capsule<'c, N>,
-    moves: &[Move],
+    schedule: &Schedule,
 ) -> Result<Option<Resigned<N>>, Stop>
     requires { (table.now.mark ≡ N.mark) × (table.now.plan ≡ N.plan) }
 {
-    let mut tasks = Tasks::none(rt.alloc());
+    let mut tasks = Tasks::with_rooms(alloc, schedule.rooms)?;
     tasks.put(root)?;
-    for step in moves {
-        go(rt, table, &mut tasks, step)?;
+    for step in schedule.moves {
+        go(rt, alloc, table, &mut tasks, step)?;
     }
     Ok(tasks.last())
 }
 
 /// A task's next tries.
-fn go<'c, N: RunName>(
-    rt: &HostRuntime,
+fn go<'c, N: RunName, R: Wait + Print>(
+    rt: &R,
+    alloc: Global,
     table: &ObjectTable,
     tasks: &mut Tasks<'c, N>,
     step: &Move,
@@ -82,15 +91,17 @@ fn go<'c, N: RunName>(
 {
     let Move(path, tries) = step;
     for _ in 0..*tries {
-        let asked = tasks.word(rt.alloc(), path)?;
-        let answer = one_try(rt.alloc(), table, tasks, path)?;
-        tell(rt, asked.as_str(), answer)?;
+        let asked = tasks.word(alloc, path)?;
+        let answer = one_try(rt, alloc, table, tasks, path)?;
+        tell(rt, alloc, asked.as_str(), answer)?;
+        drain(rt, alloc, tasks, answer)?;
     }
     Ok(())
 }
 
 /// One try at what the task of a path asks for.
-fn one_try<'c, N: RunName>(
+fn one_try<'c, N: RunName, R: Wait>(
+    rt: &R,
     alloc: Global,
     table: &ObjectTable,
     tasks: &mut Tasks<'c, N>,
@@ -100,13 +111,29 @@ fn one_try<'c, N: RunName>(
 {
     let task = tasks.take(path)?;
     let went = attempt(alloc, table, task);
-    tasks.settle(went)
+    tasks.settle(rt, went)
 }
 
 /// Prints a try and what came of it.
-fn tell(rt: &HostRuntime, asked: &str, answer: Answer) -> Result<(), Stop> {
-    let came = answer_word(rt.alloc(), answer)?;
+fn tell<R: Print>(rt: &R, alloc: Global, asked: &str, answer: Answer) -> Result<(), Stop> {
+    let came = answer_word(alloc, answer)?;
     println!(rt; "{asked}: {came}")?;
+    Ok(())
+}
+
+/// Drains the room of an object that was freed, and prints which tasks come out.
+fn drain<'c, N: RunName, R: Wait + Print>(
+    rt: &R,
+    alloc: Global,
+    tasks: &mut Tasks<'c, N>,
+    answer: Answer,
+) -> Result<(), Stop> {
+    let Answer::Freed(object) = answer else {
+        return Ok(());
+    };
+    let before = tasks.drain(rt, object)?;
+    let given = tasks.given(alloc, object, before)?;
+    print!(rt; "{given}")?;
     Ok(())
 }
 

@@ -3,9 +3,11 @@
 /// The task of a path has so many tries.
 pub(crate) struct Move(pub(crate) &'static [u32], pub(crate) u32);
 
-/// What is tried, in this order.
+/// What is tried, in this order. A task that waits for an object lies in the object's room until
+/// that is drained; where there are fewer rooms, it is kept at hand.
 pub(crate) struct Schedule {
     pub(crate) title: &'static str,
+    pub(crate) rooms: u32,
     pub(crate) moves: &'static [Move],
 }
 
@@ -31,10 +33,13 @@ main {
 
 /// The schedules. In the third one the second child asks three times for object 0: before the first
 /// child has taken it, when that one has given it back but may take it again, and when that one has
-/// left it. Then it goes on, and ends while the first child is still at work.
-pub(crate) const SCHEDULES: [Schedule; 3] = [
+/// left it. Then it goes on, and ends while the first child is still at work. In the fourth one
+/// the second child and the root lie in rooms while they wait. Each comes out twice: when the first
+/// child gives the object back, which is too early, and when it has left the object.
+pub(crate) const SCHEDULES: [Schedule; 4] = [
     Schedule {
         title: "serial order: a child goes on before its parent",
+        rooms: 0,
         moves: &[
             Move(ROOT, 12),
             Move(FIRST, 14),
@@ -45,6 +50,7 @@ pub(crate) const SCHEDULES: [Schedule; 3] = [
     },
     Schedule {
         title: "the parent goes on before its children, where it may",
+        rooms: 0,
         moves: &[
             Move(ROOT, 17),
             Move(FIRST, 13),
@@ -55,6 +61,7 @@ pub(crate) const SCHEDULES: [Schedule; 3] = [
     },
     Schedule {
         title: "a task asks in vain, and again when the object is left to it",
+        rooms: 0,
         moves: &[
             Move(ROOT, 15),
             Move(SECOND, 2),
@@ -64,6 +71,22 @@ pub(crate) const SCHEDULES: [Schedule; 3] = [
             Move(SECOND, 6),
             Move(ROOT, 2),
             Move(FIRST, 6),
+            Move(ROOT, 7),
+        ],
+    },
+    Schedule {
+        title: "a task that waits lies in the object's room until the object is freed",
+        rooms: 2,
+        moves: &[
+            Move(ROOT, 17),
+            Move(SECOND, 2),
+            Move(FIRST, 6),
+            Move(SECOND, 1),
+            Move(FIRST, 2),
+            Move(SECOND, 6),
+            Move(FIRST, 3),
+            Move(ROOT, 1),
+            Move(FIRST, 3),
             Move(ROOT, 7),
         ],
     },

@@ -3,10 +3,11 @@
 ghost use Rattle.std.specs.Prelude.{◌<◌, length, IfSome};
 
 use crate::stop::Stop;
-use crate::words::try_word;
+use crate::words::{given_word, try_word};
 use jade_base::{Memory, ObjectId};
 use std::alloc::Global;
-use task_suspend::{Capsule, Resigned, RunName, Went};
+use std::sync::Wait;
+use task_suspend::{Capsule, Resigned, Rooms, RunName, Went};
 
 /// What came of a try.
 #[derive(Clone, Copy)]
@@ -17,6 +18,8 @@ pub(crate) enum Answer {
     Busy,
     /// An earlier task keeps the object.
     Waits(ObjectId),
+    /// An earlier task keeps the object, and the task lies in the object's room.
+    Lies(ObjectId),
     /// It is done, and who waits for the object may go on.
     Freed(ObjectId),
     /// A child begins.
@@ -27,10 +30,12 @@ pub(crate) enum Answer {
     Over,
 }
 
-/// The live tasks of a run, and the pass of the one that ended last, if one did.
+/// The live tasks of a run, at hand or in the rooms of the objects that they wait for, and the pass
+/// of the one that ended last, if one did.
 #[derive(Drop)]
 pub(crate) struct Tasks<'c, N: RunName> {
     live: Vec<Capsule<'c, N>>,
+    rooms: Rooms<'c, N>,
     last: Option<Resigned<N>>,
 }
 
@@ -47,15 +52,17 @@ fn place_of<'c, N: RunName>(live: &[Capsule<'c, N>], path: &[u32]) -> Option<usi
 }
 
 impl<'c, N: RunName> Tasks<'c, N> {
-    /// No task.
-    pub fn none(alloc: Global) -> Tasks<'c, N> {
-        Tasks {
+    /// No task, and so many rooms.
+    pub fn with_rooms(alloc: Global, objects: u32) -> Result<Tasks<'c, N>, Stop> {
+        let rooms = Rooms::new(alloc, objects)?;
+        Ok(Tasks {
             live: Vec::new(alloc),
+            rooms,
             last: None,
-        }
+        })
     }
 
-    /// Puts a live task among the others.
+    /// Puts a task among those at hand.
     pub fn put(&mut self, task: Capsule<'c, N>) -> Result<(), Stop> {
         match self.live.push(task) {
             Ok(()) => Ok(()),
@@ -80,11 +87,15 @@ impl<'c, N: RunName> Tasks<'c, N> {
     }
 
     /// Puts back what came of a try, and answers what it was.
-    pub fn settle(&mut self, went: Result<Went<'c, N>, Memory>) -> Result<Answer, Stop> {
+    pub fn settle<R: Wait>(
+        &mut self,
+        rt: &R,
+        went: Result<Went<'c, N>, Memory>,
+    ) -> Result<Answer, Stop> {
         match went {
             Ok(Went::Ready(task)) => self.keep(task, Answer::Done),
             Ok(Went::Busy(task)) => self.keep(task, Answer::Busy),
-            Ok(Went::Waits(place, task)) => self.keep(task, Answer::Waits(place.object)),
+            Ok(Went::Waits(place, task)) => self.wait(rt, place.object, task),
             Ok(Went::Freed(place, task)) => self.keep(task, Answer::Freed(place.object)),
             Ok(Went::Parted(parent, child)) => self.part(parent, child),
             Ok(Went::Ended(resigned)) => Ok(self.end(resigned)),
@@ -96,6 +107,45 @@ impl<'c, N: RunName> Tasks<'c, N> {
     fn keep(&mut self, task: Capsule<'c, N>, answer: Answer) -> Result<Answer, Stop> {
         self.put(task)?;
         Ok(answer)
+    }
+
+    /// Puts a task that waits into the object's room, or back where there is none.
+    fn wait<R: Wait>(
+        &mut self,
+        rt: &R,
+        object: ObjectId,
+        task: Capsule<'c, N>,
+    ) -> Result<Answer, Stop> {
+        if object.0 as usize >= self.rooms.len() {
+            return self.keep(task, Answer::Waits(object));
+        }
+        match self.rooms.put(rt, object, task) {
+            Ok(()) => Ok(Answer::Lies(object)),
+            Err(_) => Err(Stop::Failed),
+        }
+    }
+
+    /// Takes all tasks out of the object's room, and puts them behind those at hand; how many were
+    /// at hand before.
+    pub fn drain<R: Wait>(&mut self, rt: &R, object: ObjectId) -> Result<usize, Stop> {
+        let before = self.live.len();
+        if (object.0 as usize) < self.rooms.len() {
+            let mut list = self.rooms.drain(rt, object);
+            while let Some(task) = list.pop() {
+                self.put(task)?;
+            }
+        }
+        Ok(before)
+    }
+
+    /// The words for the tasks at hand from a place on, which the object's room gave.
+    pub fn given(&self, alloc: Global, object: ObjectId, from: usize) -> Result<String, Stop> {
+        let mut text = String::new(alloc);
+        for place in from..self.live.len() {
+            let line = given_word(alloc, object, self.live[place].path())?;
+            text.push_str(line.as_str())?;
+        }
+        Ok(text)
     }
 
     /// Puts a task and its new child among the others.

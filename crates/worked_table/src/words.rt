@@ -87,12 +87,19 @@ pub(crate) fn answer_word(alloc: Global, answer: Answer) -> Result<String, Stop>
         Answer::Done => format!(in alloc; "done"),
         Answer::Busy => format!(in alloc; "another has a turn"),
         Answer::Waits(object) => format!(in alloc; "waits for object {}", object.0),
+        Answer::Lies(object) => format!(in alloc; "waits in the room of object {}", object.0),
         Answer::Freed(object) => format!(in alloc; "done, frees object {}", object.0),
         Answer::Parted => format!(in alloc; "done, the child begins"),
         Answer::Ended => format!(in alloc; "done"),
         Answer::Over => format!(in alloc; "done, all is over"),
     };
     Ok(text?)
+}
+
+/// A task that came out of an object's room.
+pub(crate) fn given_word(alloc: Global, object: ObjectId, path: &Path) -> Result<String, Stop> {
+    let path = path_word(alloc, path)?;
+    Ok(format!(in alloc; "the room of object {} gives {path}\n", object.0)?)
 }
 
 /// Why a task ended early.

@@ -1,4 +1,4 @@
 use Rattle.worked_table.proofs.run.run_by.Given as goal
 
 abbrev pub ghosts-run_named : goal.ghosts-run_named
-ghosts-run_named a = record { mark = a.table.mark; plan = a.table.plan }
+ghosts-run_named g a = record { mark = a.table.mark; plan = a.table.plan }
