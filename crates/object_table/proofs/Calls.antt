@@ -43,7 +43,7 @@ use Rattle.schedule_core.specs.declared.steps.Seat.{Seat as Place}
 use Rattle.schedule_core.specs.ByNumber.{shelf_at}
 use Rattle.schedule_core.specs.Plain.{seat_after}
 use Rattle.jade_meaning.specs.Plan.{RunPlan}
-use Rattle.object_table.specs.Views.{count_of, View, shelf_of, paths_of, core_notes}
+use Rattle.object_table.specs.Views.{count_of, View, shelf_of, paths_of, bare, core_notes}
 use Rattle.object_table.specs.Touches.{is_touch, touched_first, touched, touch_next, passed, all_touches}
 use Rattle.object_table.specs.Plays.{Told, tried_at, in_turn, turned_off, left_as_it_was, did, Ahead, left_done}
 use Rattle.object_table.specs.Calls.{Next, saw, found_busy, AsBefore}
@@ -141,6 +141,7 @@ module _ (t : Task) (r : Rests t) where
         idle = ap (λ (m : Me Slot View). m.0.turn) is;
         touches = to (λ m. all_touches t.touched m.0 ≡ true) (all_try false n o w y t.touched v0 ∙ r.touches);
         path = to (λ m. t.path ≡ m.0.seat.path) r.path;
+        spare = to (λ m. m.0.live ≡ true → t.spare ≡ Some t.path) r.spare;
         children = to (λ m. t.children ≡ m.0.seat.children) r.children;
         events = to (λ m. t.events ≡ (passed t.touched m.0).seat.walker.done % 2 ^ 64) (r.events
             ∙ ap (λ (z : View). z.seat.walker.done % 2 ^ 64) (sym (passed_try false n o w y t.touched v0)));
@@ -212,7 +213,7 @@ module _ (t : Task) (r : Rests t) where
   alive e next = alive_is next.live
 
   -- a turn may be left with nothing done
-  pub may_desist : (slots : ℕ) (seat1 : Seat Slot View) (o : ℕ) (y new : Slot) → InTurn slots o y t.seat.me seat1.me → (key : RunPlan) → new ≡ y
+  pub may_desist : (slots : ℕ) (seat1 : Seat Slot View) (o : ℕ) (y new : Slot) → InTurn slots o y t.seat.me seat1.me → (key : RunPlan) → new ≡ bare y
       → Leaves left_as_it_was key slots seat1.id (with_slot o new seat1.me) o
   may_desist slots seat1 o y new turn key same =
       subst (λ (m : Me Slot View). Leaves left_as_it_was key slots seat1.id m o) (sym (ap (with_slot o new) turn.me))
@@ -244,16 +245,18 @@ module _ (t : Task) (r : Rests t) where
         λ i. (now i, d.1 i)
 
   -- an event done: the fields follow
-  pub left_rests : (t3 : Task) (w : View) → t3.seat.me ≡ (w, []) → t3.path ≡ w.seat.path → t3.children ≡ w.seat.children → t3.over ≡ w.over
-      → (t3.touched ≡ 0) × (t3.events ≡ (t.events + 1) % 2 ^ 64) → w.turn ≡ false → w.seat.walker.done ≡ suc v.seat.walker.done
+  pub left_rests : (t3 : Task) (w : View) → t3.seat.me ≡ (w, []) → t3.path ≡ w.seat.path → (w.live ≡ true → t3.spare ≡ Some t3.path)
+      → t3.children ≡ w.seat.children → t3.over ≡ w.over → (t3.touched ≡ 0) × (t3.events ≡ (t.events + 1) % 2 ^ 64) → w.turn ≡ false
+      → w.seat.walker.done ≡ suc v.seat.walker.done
       → ((k : Place) → w.unborn ≡ Some k → Youngest w.seat.path w.seat.children k) → Rests t3
-  left_rests t3 w is path children over counts off done kid =
+  left_rests t3 w is path spare children over counts off done kid =
       let to : (P : Me Slot View → Type 0) → P (w, []) → P t3.seat.me = λ P p. subst P (sym is) p in
       record {
         holds = ap (λ (m : Me Slot View). m.1) is;
         idle = ap (λ (m : Me Slot View). m.0.turn) is ∙ off;
         touches = ap (λ k. all_touches k t3.seat.me.0) counts.0;
         path = to (λ m. t3.path ≡ m.0.seat.path) path;
+        spare = to (λ m. m.0.live ≡ true → t3.spare ≡ Some t3.path) spare;
         children = to (λ m. t3.children ≡ m.0.seat.children) children;
         events = counts.1 ∙ ap (λ x. (x + 1) % 2 ^ 64) r.events ∙ next_mod v.seat.walker.done
             ∙ ap (λ x. x % 2 ^ 64) (sym done ∙ sym (ap (λ (m : Me Slot View). m.0.seat.walker.done) is)
@@ -265,12 +268,18 @@ module _ (t : Task) (r : Rests t) where
       next_mod : (x : ℕ) → (x % 2 ^ 64 + 1) % 2 ^ 64 ≡ suc x % 2 ^ 64
       next_mod x = omega arith
 
+  -- a live task has its path once more
+  pub spare_is : (t3 : Task) → v.live ≡ true → t3.path ≡ t.path → t3.spare ≡ t.spare → t3.spare ≡ Some t3.path
+  spare_is t3 live path spare = spare ∙ r.spare (alive_is live) ∙ ap (λ p. Some p) (sym path)
+
   -- the same of an event that leaves path, children and the rest as they were
-  pub done_rests : (t3 : Task) (w : View) → t3.seat.me ≡ (w, []) → (t3.path ≡ t.path) × (t3.children ≡ t.children) × (t3.over ≡ t.over) → (t3.touched ≡ 0)
+  pub done_rests : (t3 : Task) (w : View) → t3.seat.me ≡ (w, []) → (t3.path ≡ t.path) × (t3.children ≡ t.children) × (t3.over ≡ t.over)
+      × (t3.spare ≡ t.spare) → v.live ≡ true → (t3.touched ≡ 0)
       × (t3.events ≡ (t.events + 1) % 2 ^ 64) → w.turn ≡ false → w.seat.path ≡ v.seat.path → w.seat.children ≡ v.seat.children → w.seat.walker.done
       ≡ suc v.seat.walker.done → w.over ≡ v.over → w.unborn ≡ None → Rests t3
-  done_rests t3 w is fields counts off path children done over born =
-      left_rests t3 w is (fields.0 ∙ path_is ∙ sym path) (fields.1 ∙ children_is ∙ sym children) (fields.2 ∙ over_is ∙ sym over) counts off done
+  done_rests t3 w is fields live counts off path children done over born =
+      left_rests t3 w is (fields.0 ∙ path_is ∙ sym path) (λ l. spare_is t3 live fields.0 fields.3) (fields.1 ∙ children_is ∙ sym children)
+      (fields.2 ∙ over_is ∙ sym over) counts off done
       (λ k e. absurd (none_some k (sym born ∙ e)))
 
   pub done_shown : (t3 : Task) (w : View) → t3.seat.me ≡ (w, []) → t3.touched ≡ 0 → shown t3 ≡ w

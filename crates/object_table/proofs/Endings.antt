@@ -22,7 +22,7 @@ use Rattle.schedule_core.specs.ByNumber.{shelf_at}
 use Rattle.schedule_core.specs.Plain.{Reached}
 use Rattle.schedule_core.specs.Queued.{Owner}
 use Rattle.jade_meaning.specs.Plan.{RunPlan}
-use Rattle.object_table.specs.Views.{count_of, View, home_if, part_of}
+use Rattle.object_table.specs.Views.{count_of, View, home_if, part_of, bare}
 use Rattle.object_table.specs.Rule.{PlaceOk, free, taken, Ruled}
 use Rattle.object_table.specs.steps.Endings.{cells_in, notes_in, or_none, on_shelf, LastSlots, EndLaws}
 use Rattle.object_table.specs.declared.slot.Slot.{Slot}
@@ -96,11 +96,11 @@ module _ (key : RunPlan) where
     no_roll : map h.seats h.owners ≡ []
     no_roll = ap (map h.seats) none_left
 
-    slot_at : (o : ℕ) → o < suc n → get_elem? xs o ≡ some (part_of n o [] h.shelves h.told)
+    slot_at : (o : ℕ) → o < suc n → get_elem? xs o ≡ some (bare (part_of n o [] h.shelves h.told))
     slot_at o lt = go (h.places o lt)
       where
-        go : PlaceOk n s h.holder (λ p. part_of n p (map h.seats h.owners) h.shelves h.told) o → get_elem? xs o ≡ some (part_of n o [] h.shelves h.told)
-        go (free y w0 home is) = last.4 o y home ∙ ap some (is ∙ ap (λ r. part_of n o r h.shelves h.told) no_roll)
+        go : PlaceOk n s h.holder (λ p. part_of n p (map h.seats h.owners) h.shelves h.told) o → get_elem? xs o ≡ some (bare (part_of n o [] h.shelves h.told))
+        go (free y w0 home is) = last.4 o y home ∙ ap some (is ∙ ap (λ r. bare (part_of n o r h.shelves h.told)) no_roll)
         go (taken z w1 e t l) =
             let q = h.passes (h.holder o) z e in
             let there = q.sits.live (q.busy t) in
@@ -116,14 +116,14 @@ module _ (key : RunPlan) where
           told = h.told;
           reached = reached;
           objects = are ∙ ap (λ k. take k xs) (sym many) ∙ objects_are h.shelves xs (λ o lt.
-              slot_at o (omega (arith, lt, many)) ∙ ap (λ c. some (if c then slot.Roll (record {
+              slot_at o (omega (arith, lt, many)) ∙ ap (λ c. some (bare (if c then slot.Roll (record {
                 live = [];
                 notes = h.told;
-              }) else on_shelf (shelf_at h.shelves o))) (ne_eqb o n (λ e. absurd (omega (arith, lt, many, e)))));
-          roll = some-injective y _ (sym at ∙ slot_at n (omega arith) ∙ ap (λ c. some (if c then slot.Roll (record {
+              }) else on_shelf (shelf_at h.shelves o)))) (ne_eqb o n (λ e. absurd (omega (arith, lt, many, e)))));
+          roll = some-injective y _ (sym at ∙ slot_at n (omega arith) ∙ ap (λ c. some (bare (if c then slot.Roll (record {
             live = [];
             notes = h.told;
-          }) else on_shelf (shelf_at h.shelves n))) (eq-eqb n n refl));
+          }) else on_shelf (shelf_at h.shelves n)))) (eq-eqb n n refl));
         }
 
   home_cells : (ss : List ObjectView) → ((o : ℕ) → is_out (shelf_at ss o).queue ≡ false) → map cells_in (map on_shelf ss) ≡

@@ -18,8 +18,7 @@ use Rattle.jade_meaning.specs.Walk.{upcoming, First, Bears, IsChildOf, moved}
 use Rattle.object_shelf.specs.declared.queue.Entry.{Entry}
 use Rattle.object_shelf.specs.Shelves.{find}
 use Rattle.task_roll.specs.declared.note.PartNote.{PartNote}
-use Rattle.task_roll.specs.Order.{stands_before, entered}
-use Rattle.task_roll.specs.Rolls.{RollView, enrolled, noting}
+use Rattle.task_roll.specs.Rolls.{RollView, noting}
 use Rattle.task_roll.proofs.Rolls.{by_key-last as by_key_last}
 use Rattle.schedule_core.specs.declared.steps.Seat.{Seat}
 use Rattle.schedule_core.specs.ByNumber.{shelf_at}
@@ -27,7 +26,8 @@ use Rattle.schedule_core.specs.Plain.{Reached, Born}
 use Rattle.schedule_core.specs.Holders.{IsLive}
 use Rattle.schedule_core.proofs.Lines.{every_append, every_front, every_back}
 use Rattle.jade_meaning.specs.Plan.{RunPlan}
-use Rattle.object_table.specs.Views.{count_of, View, shelf_of, paths_of, core_notes}
+use Rattle.object_table.specs.Tallies.{counted, one_more}
+use Rattle.object_table.specs.Views.{count_of, word_of, View, shelf_of, paths_of, bare, core_notes}
 use Rattle.object_table.specs.Touches.{passed}
 use Rattle.object_table.specs.Rule.{pass_of, kid_of, hold_of, nothing, Absent, Spot, OnRoll, Agrees, Owned, by_maker, Sits, Ruled}
 use Rattle.object_table.specs.Plays.{bore, Ahead, left_enrolled}
@@ -36,7 +36,7 @@ use Rattle.object_table.specs.declared.slot.Slot.{Slot}
 use Rattle.object_table.specs.declared.slot.Slot.TheVariants as slot
 use Rattle.object_table.proofs.Bearing.{child_walk}
 use Rattle.object_table.proofs.Lists.{put_seat, seat_here, seat_else, map_absent, roll_put, place_get, at_inside, every_with, path_same, not_kid}
-use Rattle.object_table.proofs.Owners.{spot_more, not_empty, some_seat, owned_more, no_kid_of, every_of, place_next, entered_seat, fits_seats}
+use Rattle.object_table.proofs.Owners.{spot_more, not_empty, some_seat, owned_more, no_kid_of, blanks, blanks_more}
 use Rattle.object_table.proofs.Goes.{Goes, parts0, leaving}
 use Rattle.object_table.proofs.Quiet.{on, f, b, roll_is, stands, reach_on}
 use Rattle.object_table.proofs.Touching.{set_set, passing, passed_same}
@@ -63,15 +63,6 @@ module _ (key : RunPlan) (laws : Laws key) (s : table.State Slot View) (h : Rule
         notes = h.told;
       }) else slot.Object (shelf_of (shelf_at h.shelves (count_of key)))) (eq-eqb (count_of key) (count_of key) refl)
       ∙ ap (λ r. slot.Roll (record { live = paths_of r; notes = h.told })) (roll_is (count_of key) key s h id v at_v alive)
-
-  -- the tasks before it have other paths
-  pub far_before : Every (λ (x : Seat). same_path v.seat.path x.path ≡ false) (f (count_of key) key s h id v at_v alive)
-  far_before =
-      let front = f (count_of key) key s h id v at_v alive in
-      let back = b (count_of key) key s h id v at_v alive in
-      every_of (λ (x : Seat). same_path v.seat.path x.path ≡ false) front (v.seat ∷ back)
-      (λ i x lt e. laws.tells.apart h.count (front ++ (v.seat ∷ back)) h.shelves (core_notes h.told) (stands (count_of key) key s h id v at_v alive)
-      (length front) i v.seat x (place_get front v.seat back) e (λ same. absurd (omega (arith, lt, same))))
 
 module _ (key : RunPlan) (laws : Laws key) (s : table.State Slot View) (h : Ruled key s) (id : ℕ) (v : View) (at_v : get_elem? s.views id ≡ some v)
     (alive : v.live ≡ true) (turn : v.turn ≡ true) (place : v.place ≡ count_of key) (born : v.unborn ≡ None) (t : Task) (steps : ℕ)
@@ -253,36 +244,19 @@ module _ (key : RunPlan) (laws : Laws key) (s : table.State Slot View) (h : Rule
     only = owned;
   }
 
-  -- the roll's slot shows it
-  roll_shows : (r : RollView) → v.note ≡ slot.Roll r → enrolled p v.seat.children steps r
-      ≡ record { live = paths_of (before ++ (baby ∷ (u2 ∷ behind))); notes = told2 }
-  roll_shows r e =
-      let is : r ≡ record { live = paths_of (before ++ (v.seat ∷ behind)); notes = h.told } =
-      same_roll r _ (sym e ∙ roll_found key laws s h id v at_v alive turn place) in
-      let far = far_before key laws s h id v at_v alive turn place in
-      let early = every_of (λ (x : Seat). stands_before x.path young ≡ true) before (baby ∷ (u2 ∷ behind))
-      (λ i x lt q. laws.order.tasks (suc h.count) (before ++ (baby ∷ (u2 ∷ behind))) h.shelves (core_notes told2) stands2 i (length before) x baby q
-      (place_get before baby (u2 ∷ behind)) lt) in
-      let first : stands_before young p ≡ true =
-      laws.order.tasks (suc h.count) (before ++ (baby ∷ (u2 ∷ behind))) h.shelves (core_notes told2) stands2 (length before) (suc (length before)) baby u2
-      (place_get before baby (u2 ∷ behind)) (place_next before baby u2 behind) (omega arith) in
-      ap (enrolled p v.seat.children steps) is
-      ∙ ap (λ c. if c then record {
-        live = entered p young (paths_of (before ++ (v.seat ∷ behind)));
-        notes = told2;
-      } else record { live = paths_of (before ++ (v.seat ∷ behind)); notes = h.told }) (fits_seats v.seat behind young before far early first)
-      ∙ ap (λ ps. record { live = ps; notes = told2 }) (entered_seat v.seat behind baby u2 refl before far)
-
   pub enroll_on : (carried : List (ℕ × Slot)) (new : Slot) → carried ≡ (n, new) ∷ rest carried → (r : RollView) → v.note ≡ slot.Roll r → new
-      ≡ slot.Roll (enrolled p v.seat.children steps r) → Ruled key (stepped s n 0 id carried w gives)
+      ≡ slot.Roll (one_more note (counted r)) → Ruled key (stepped s (word_of n) 0 id carried w gives)
   enroll_on carried new has r found made =
+      let is : r ≡ record { live = paths_of (before ++ (v.seat ∷ behind)); notes = h.told } =
+      same_roll r _ (sym found ∙ roll_found key laws s h id v at_v alive turn place) in
       leaving n key s h id v at_v w grown n turn place carried new has refl
-      (made ∙ ap slot.Roll (roll_shows r found)
-      ∙ ap (λ l. slot.Roll (record { live = paths_of l; notes = told2 })) (sym roll2)
-      ∙ sym (ap (λ c. if c then slot.Roll (record {
+      (made ∙ ap (λ q. slot.Roll (one_more note (counted q))) is
+      ∙ ap (λ ps. slot.Roll (record { live = ps; notes = told2 })) (sym (blanks_more before behind baby u2 v.seat))
+      ∙ ap (λ l. slot.Roll (record { live = blanks l; notes = told2 })) (sym roll2)
+      ∙ sym (ap (λ c. bare (if c then slot.Roll (record {
         live = paths_of (map seats2 owners2);
         notes = told2;
-      }) else slot.Object (shelf_of (shelf_at h.shelves n))) (eq-eqb n n refl)))
+      }) else slot.Object (shelf_of (shelf_at h.shelves n)))) (eq-eqb n n refl)))
       (λ i ne. ap (λ c. if c then slot.Roll (record {
         live = paths_of (map h.seats h.owners);
         notes = h.told;
@@ -296,8 +270,13 @@ module _ (key : RunPlan) (laws : Laws key) (s : table.State Slot View) (h : Rule
 pub enrolling : (key : RunPlan) → Laws key → (slots id : ℕ) (me : Me Slot View) (new : Slot) → me.0.live ≡ true → me.0.unborn ≡ None → me.0.turn ≡ true
     → me.0.place ≡ count_of key → me.1 ≡ (count_of key, new) ∷ rest me.1 → (k : ℕ) (t : Task) (steps : ℕ) → Ahead k (Enroll t steps) me.0
     → (r : RollView) → (passed k me.0).note ≡ slot.Roll r
-    → new ≡ slot.Roll (enrolled (passed k me.0).seat.path (passed k me.0).seat.children steps r)
-    → Allows (Ruled key) slots id me (count_of key) (λ x. 0) (λ x. left_enrolled (step slots (count_of key) 0 0 none) me 0)
+    → new ≡ slot.Roll (one_more (record {
+      path = (passed k me.0).seat.path;
+      children = (passed k me.0).seat.children;
+      steps = steps;
+      blame = None;
+    }) (counted r))
+    → Allows (Ruled key) slots id me (word_of (count_of key)) (λ x. 0) (λ x. left_enrolled (step slots (word_of (count_of key)) 0 0 none) me 0)
 enrolling key laws slots id me new alive born turn place has k t steps ahead r found made s h _ at _ =
     let n = count_of key in
     let v = passed k me.0 in
@@ -310,7 +289,7 @@ enrolling key laws slots id me new alive born turn place has k t steps ahead r f
       bore kid v,
       gives,
       tt,
-      subst (λ l. Ruled key (record { words = set s.words n 0; homes = table.put_back s.homes me.1; views = l })) (set_set s.views id v (bore kid v))
+      subst (λ l. Ruled key (record { words = set s.words (word_of n) 0; homes = table.put_back s.homes me.1; views = l })) (set_set s.views id v (bore kid v))
           (enroll_on key laws s' h' id v at_v (same.live ∙ alive) (same.turn ∙ turn) (same.place ∙ place) (same.unborn ∙ born) t steps ahead.next me.1 new has
           r found made),
       (

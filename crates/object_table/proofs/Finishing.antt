@@ -25,7 +25,7 @@ use Rattle.schedule_core.specs.ByNumber.{shelf_at}
 use Rattle.schedule_core.specs.Plain.{seat_after, on_shelf, blocked_at, Does}
 use Rattle.schedule_core.specs.Tells.{CoreTells, EntriesAreThere, MayTake, MayGive}
 use Rattle.jade_meaning.specs.Plan.{RunPlan}
-use Rattle.object_table.specs.Views.{count_of, View, core_notes, shelf_of}
+use Rattle.object_table.specs.Views.{count_of, word_of, View, core_notes, shelf_of}
 use Rattle.object_table.specs.Touches.{held_at, put_held, is_touch, touches_first, touch_next, passed, all_touches}
 use Rattle.object_table.specs.Rule.{hold_of, HeldOk, Agrees, Ruled}
 use Rattle.object_table.specs.Plays.{held_in, handed_by, did, Ahead, left_done}
@@ -103,7 +103,7 @@ module _ (key : RunPlan) (tells : CoreTells key.program key.numbers key.limit) (
             (λ ne. subst (λ y. HeldOk q y (held_at i hs)) (sym (shelf_else o i g h.shelves ne)) (a.each i));
       }
 
-      pub on_object : Ruled key (stepped s o 0 id carried w gives)
+      pub on_object : Ruled key (stepped s (word_of o) 0 id carried w gives)
       on_object =
           leaving n key s h id v at_v w (quiet n key s h id v at_v alive tells e (seat_after None v.seat) ss2 w next does silent refl refl refl refl refl refl
           far mine) o turn place carried new has refl
@@ -116,7 +116,7 @@ module _ (key : RunPlan) (tells : CoreTells key.program key.numbers key.limit) (
     found_is y e = same_object y (shelf_of x) (sym e ∙ note_is)
 
     -- the event that was made of the slot is done
-    pub event_on : (e : Event) → First (upcoming v.seat.walker) (λ y. y ≡ e) → Made o e v new → Ruled key (stepped s o 0 id carried (did e v) gives)
+    pub event_on : (e : Event) → First (upcoming v.seat.walker) (λ y. y ≡ e) → Made o e v new → Ruled key (stepped s (word_of o) 0 id carried (did e v) gives)
     event_on (Take q m) next (same, y, note, free, made) =
         let is : y ≡ shelf_of x = found_is y note in
         let clear : keeper_in v.seat.path m x.queue ≡ None = ap (λ (z : ShelfView). keeper_in v.seat.path m z.queue) (sym is) ∙ free in
@@ -125,8 +125,8 @@ module _ (key : RunPlan) (tells : CoreTells key.program key.numbers key.limit) (
         next' clear in
         let now : Option Held = held_in m (hand_in v.seat.path m (shelf_of x)) in
         let handed_is : held_in m (handed_by v.seat.path m v.note) ≡ now = ap (λ z. held_in m (handed_by v.seat.path m z)) note_is in
-        subst (λ i. Ruled key (stepped s o 0 id carried (did (Take i m) v) gives)) (sym same)
-        (subst (λ k. Ruled key (stepped s o 0 id carried (record v {
+        subst (λ i. Ruled key (stepped s (word_of o) 0 id carried (did (Take i m) v) gives)) (sym same)
+        (subst (λ k. Ruled key (stepped s (word_of o) 0 id carried (record v {
           seat = seat_after None v.seat;
           held = put_held o k v.held;
           turn =
@@ -143,7 +143,7 @@ module _ (key : RunPlan) (tells : CoreTells key.program key.numbers key.limit) (
         let may : MayGive v.seat.path x.queue = entries.gives h.count (map h.seats h.owners) h.shelves (core_notes h.told) h.reached _ v.seat seat_here o
         next' in
         let holds : HeldOk v.seat.path x (Some c) = subst (λ k. HeldOk v.seat.path x k) has_it (held.each o) in
-        subst (λ i. Ruled key (stepped s o 0 id carried (did (Give i) v) gives)) (sym same)
+        subst (λ i. Ruled key (stepped s (word_of o) 0 id carried (did (Give i) v) gives)) (sym same)
         (on_object (Give o) (given v.seat.path) refl (put_held o None v.held) next' (refl, refl) (λ ns. refl)
         (λ r off kin k a. give_others v.seat.path x r off k a)
         (subst (λ k. HeldOk v.seat.path (given v.seat.path x) k) (sym (held_here o None v.held)) (give_mine v.seat.path x may.entry may.there))
@@ -229,7 +229,7 @@ ahead_once k j e d v a b =
 pub finishing : (key : RunPlan) → CoreTells key.program key.numbers key.limit → EntriesAreThere key.program key.numbers key.limit → Once key
     → (slots id o : ℕ) (me : Me Slot View) (new : Slot) → me.0.live ≡ true → me.0.turn ≡ true → me.0.place ≡ o → o < count_of key → me.1
     ≡ (o, new) ∷ rest me.1 → (k : ℕ) (e : Event) → Ahead k e me.0 → Made o e (passed k me.0) new
-    → Allows (Ruled key) slots id me o (λ x. 0) (λ x. left_done (step slots o 0 0 none) me 0)
+    → Allows (Ruled key) slots id me (word_of o) (λ x. 0) (λ x. left_done (step slots (word_of o) 0 0 none) me 0)
 finishing key tells entries once slots id o me new alive turn place lt has k e ahead made s h _ at _ =
     let v = passed k me.0 in
     let same = passed_same k me.0 in
@@ -239,7 +239,7 @@ finishing key tells entries once slots id o me new alive turn place lt has k e a
       did e v,
       gives,
       tt,
-      subst (λ l. Ruled key (record { words = set s.words o 0; homes = table.put_back s.homes me.1; views = l })) (set_set s.views id v (did e v))
+      subst (λ l. Ruled key (record { words = set s.words (word_of o) 0; homes = table.put_back s.homes me.1; views = l })) (set_set s.views id v (did e v))
           (event_on key tells entries once s' h' id v (set_here s.views id v (at_inside s.views id me.0 at)) (same.live ∙ alive) (same.turn ∙ turn) o
           (same.place
           ∙ place) object me.1 new has e ahead.next made),

@@ -16,11 +16,18 @@ use Rattle.schedule_core.specs.declared.steps.Seat.{Seat}
 use Rattle.task_roll.specs.declared.note.PartNote.{PartNote}
 use Rattle.schedule_core.specs.Plain.{Reached}
 use Rattle.jade_meaning.specs.Plan.{RunPlan}
-use Rattle.object_table.specs.Views.{count_of, View, part_of, core_notes}
+use Rattle.object_table.specs.Views.{count_of, word_of, View, part_of, bare, core_notes}
 use Rattle.object_table.specs.Rule.{pass_of, Owned, Sits, TurnOk, PlaceOk, free, taken, SeatOk, Shown, Ruled}
-use Rattle.object_table.specs.Plays.{Told, tried_at, in_turn, tried, turned_off, left_as_it_was}
+use Rattle.object_table.specs.Plays.{Told, tried_at, in_turn, tried_there, tried, turned_off, left_as_it_was}
 use Rattle.object_table.specs.declared.slot.Slot.{Slot}
 use Rattle.object_table.proofs.Lists.{word_else, at_word, put, put_same, put_other, roll_split, at_inside, same_view, owned_set, every_with}
+
+-- places that differ have words that differ
+pub same_place : (o p : ℕ) → word_of o ≡ word_of p → o ≡ p
+same_place o p e = omega (arith, e)
+
+pub apart_words : (p o : ℕ) → p ≢ o → word_of p ≢ word_of o
+apart_words p o ne e = ne (same_place p o e)
 
 -- a pass's turn is the same under another view
 pub record Still (v w : View) : Type 0 where
@@ -81,7 +88,7 @@ module _ (n : ℕ) (key : RunPlan) (s : table.State Slot View) (h : Shown n key 
           let place = still.place had in
           record {
             inside = subst (λ p. p < suc n) (sym place) t.inside;
-            word = ap (λ p. slice_index s.words p) place ∙ t.word;
+            word = ap (λ p. slice_index s.words (word_of p)) place ∙ t.word;
             holds = ap h.holder place ∙ t.holds;
             found = still.note had ∙ t.found ∙ ap parts0 (sym place) ∙ same w.place;
           }
@@ -96,7 +103,7 @@ module _ (n : ℕ) (key : RunPlan) (s : table.State Slot View) (h : Shown n key 
           go (inr x) = let q = h.passes j z x.1 in record { plan = q.plan; sits = g.others j z x.0 x.1; turn = λ e. turn_on j z (q.turn e); busy = q.busy }
 
       renewed_place : (p : ℕ) → PlaceOk n s h.holder parts0 p → PlaceOk n after h.holder parts1 p
-      renewed_place p (free y w0 e q) = free y w0 e (q ∙ same p)
+      renewed_place p (free y w0 e q) = free y w0 e (q ∙ ap bare (same p))
       renewed_place p (taken z w1 e t l) = dite (ℕ_discrete (h.holder p) id)
           (λ eq.
           let q : v ≡ z = same_view s.views id (h.holder p) v z at_v e eq in
@@ -122,9 +129,9 @@ module _ (n : ℕ) (key : RunPlan) (s : table.State Slot View) (h : Shown n key 
       }
 
     module _ (o : ℕ) (turn : v.turn ≡ true) (place : v.place ≡ o) (carried : List (ℕ × Slot)) (new : Slot) (has : carried
-        ≡ (o, new) ∷ rest carried) (off : w.turn ≡ false) (here : new ≡ parts1 o) (parts : (p : ℕ) → p ≢ o → parts0 p ≡ parts1 p) where
+        ≡ (o, new) ∷ rest carried) (off : w.turn ≡ false) (here : new ≡ bare (parts1 o)) (parts : (p : ℕ) → p ≢ o → parts0 p ≡ parts1 p) where
       abbrev back : table.State Slot View
-      back = stepped s o 0 id carried w gives
+      back = stepped s (word_of o) 0 id carried w gives
 
       my_turn : TurnOk n s.words h.holder parts0 id v
       my_turn = mine.turn turn
@@ -144,7 +151,12 @@ module _ (n : ℕ) (key : RunPlan) (s : table.State Slot View) (h : Shown n key 
           old : j ≢ id → TurnOk n s.words h.holder parts0 j z → TurnOk n back.words h.holder parts1 j z
           old other t =
               let ne : z.place ≢ o = λ e. absurd (other (sym t.holds ∙ ap h.holder e ∙ my_word)) in
-              record { inside = t.inside; word = word_else s.words o z.place 0 ne ∙ t.word; holds = t.holds; found = t.found ∙ parts z.place ne }
+              record {
+                inside = t.inside;
+                word = word_else s.words (word_of o) (word_of z.place) 0 (apart_words z.place o ne) ∙ t.word;
+                holds = t.holds;
+                found = t.found ∙ parts z.place ne;
+              }
 
           go : ((j ≡ id) × (w ≡ z)) ⊎ ((j ≢ id) × (get_elem? s.views j ≡ some z)) → SeatOk n back.words g.owners g.seats h.holder g.shelves parts1 key j z
           go (inl x) =
@@ -166,16 +178,17 @@ module _ (n : ℕ) (key : RunPlan) (s : table.State Slot View) (h : Shown n key 
               let wide = h.wide in
               let deep = h.deep in
               let lt = inside in
-              free new (get_or-set_same s.words o 0 0 (omega arith)) (ap (λ (hs : List _). get_elem? hs o) homes_are
+              free new (get_or-set_same s.words (word_of o) 0 0 (omega arith)) (ap (λ (hs : List _). get_elem? hs o) homes_are
               ∙ set_here s.homes o (some new) (omega arith)) here
 
           other : p ≢ o → PlaceOk n s h.holder parts0 p → PlaceOk n back h.holder parts1 p
-          other ne (free z w0 e q) = free z (word_else s.words o p 0 ne ∙ w0) (ap (λ (hs : List _). get_elem? hs p) homes_are
-              ∙ set_else s.homes o p (some new) ne ∙ e) (q ∙ parts p ne)
+          other ne (free z w0 e q) = free z (word_else s.words (word_of o) (word_of p) 0 (apart_words p o ne) ∙ w0)
+              (ap (λ (hs : List _). get_elem? hs p) homes_are
+              ∙ set_else s.homes o p (some new) ne ∙ e) (q ∙ ap bare (parts p ne))
           other ne (taken z w1 e t l) =
               let apart : h.holder p ≢ id = λ same. absurd (let q : v ≡ z = same_view s.views id (h.holder p) v z at_v e same in
               ne (sym l ∙ sym (ap (λ (k : View). k.place) q) ∙ place)) in
-              taken z (word_else s.words o p 0 ne ∙ w1) (set_else s.views id (h.holder p) w apart ∙ e) t l
+              taken z (word_else s.words (word_of o) (word_of p) 0 (apart_words p o ne) ∙ w1) (set_else s.views id (h.holder p) w apart ∙ e) t l
 
       pub leaving : Shown n key back
       leaving = record {
@@ -186,7 +199,7 @@ module _ (n : ℕ) (key : RunPlan) (s : table.State Slot View) (h : Shown n key 
         told = g.told;
         holder = h.holder;
         reached = g.reached;
-        wide = length-set s.words o 0 ∙ h.wide;
+        wide = length-set s.words (word_of o) 0 ∙ h.wide;
         deep = ap length homes_are ∙ length-set s.homes o (some new) ∙ h.deep;
         passes = leaving_seat;
         only = g.only;
@@ -194,24 +207,25 @@ module _ (n : ℕ) (key : RunPlan) (s : table.State Slot View) (h : Shown n key 
       }
 
   -- a turn is taken
-  module _ (o : ℕ) (room : o < suc n) (idle : v.turn ≡ false) (alive : v.live ≡ true) (y : Slot) (w0 : slice_index s.words o ≡ 0) (is : y
+  module _ (o : ℕ) (room : o < suc n) (idle : v.turn ≡ false) (alive : v.live ≡ true) (y : Slot) (w0 : slice_index s.words (word_of o) ≡ 0) (is : y
       ≡ parts0 o) (carried : List (ℕ × Slot)) where
     abbrev having : View
     having = in_turn o y v
 
     abbrev next : table.State Slot View
-    next = stepped s o 1 id carried having (takes o y)
+    next = stepped s (word_of o) 1 id carried having (takes o (bare y))
 
     taking_seat : (j : ℕ) (z : View) → get_elem? next.views j ≡ some z → SeatOk n next.words h.owners h.seats (put h.holder o id) h.shelves parts0 key j z
     taking_seat j z e = go (at_set s.views id j having z e)
       where
         old : TurnOk n s.words h.holder parts0 j z → TurnOk n next.words (put h.holder o id) parts0 j z
         old t =
-            let ne : z.place ≢ o = λ e. absurd (let a = t.word in let b : slice_index s.words z.place ≡ 0 = subst (λ i. slice_index s.words i ≡ 0) (sym e) w0 in
+            let ne : z.place ≢ o = λ e. absurd (let a = t.word in
+            let b : slice_index s.words (word_of z.place) ≡ 0 = subst (λ i. slice_index s.words (word_of i) ≡ 0) (sym e) w0 in
             omega arith) in
             record {
               inside = t.inside;
-              word = word_else s.words o z.place 1 ne ∙ t.word;
+              word = word_else s.words (word_of o) (word_of z.place) 1 (apart_words z.place o ne) ∙ t.word;
               holds = put_other h.holder o id z.place ne ∙ t.holds;
               found =
                   t.found;
@@ -225,7 +239,7 @@ module _ (n : ℕ) (key : RunPlan) (s : table.State Slot View) (h : Shown n key 
             subst (λ (q : ℕ × View). SeatOk n next.words h.owners h.seats (put h.holder o id) h.shelves parts0 key q.0 q.1) (λ i. (sym x.0 i, x.1 i)) (record {
               plan = mine.plan;
               sits = record { live = k.live; held = k.held; unborn = k.unborn; unheld = k.unheld; over = k.over };
-              turn = λ e. record { inside = room; word = get_or-set_same s.words o 1 0 (omega arith); holds = put_same h.holder o id; found = is };
+              turn = λ e. record { inside = room; word = get_or-set_same s.words (word_of o) 1 0 (omega arith); holds = put_same h.holder o id; found = is };
               busy = λ e. alive;
             })
         go (inr x) = let q = h.passes j z x.1 in record { plan = q.plan; sits = q.sits; turn = λ e. old (q.turn e); busy = q.busy }
@@ -236,15 +250,15 @@ module _ (n : ℕ) (key : RunPlan) (s : table.State Slot View) (h : Shown n key 
         here : PlaceOk n next (put h.holder o id) parts0 o
         here =
             let wide = h.wide in
-            taken having (get_or-set_same s.words o 1 0 (omega arith)) (subst (λ i. get_elem? next.views i
+            taken having (get_or-set_same s.words (word_of o) 1 0 (omega arith)) (subst (λ i. get_elem? next.views i
             ≡ some having) (sym (put_same h.holder o id)) (set_here s.views id having (at_inside s.views id v at_v))) refl refl
 
         other : p ≢ o → PlaceOk n s h.holder parts0 p → PlaceOk n next (put h.holder o id) parts0 p
-        other ne (free z w1 e q) = free z (word_else s.words o p 1 ne ∙ w1) (set_else s.homes o p none ne ∙ e) q
+        other ne (free z w1 e q) = free z (word_else s.words (word_of o) (word_of p) 1 (apart_words p o ne) ∙ w1) (set_else s.homes o p none ne ∙ e) q
         other ne (taken z w1 e t l) =
             let apart : h.holder p ≢ id = λ same. absurd (let q : v ≡ z = same_view s.views id (h.holder p) v z at_v e same in let r : false ≡ true = sym idle
             ∙ ap (λ (k : View). k.turn) q ∙ t in cc) in
-            taken z (word_else s.words o p 1 ne ∙ w1) (subst (λ i. get_elem? next.views i
+            taken z (word_else s.words (word_of o) (word_of p) 1 (apart_words p o ne) ∙ w1) (subst (λ i. get_elem? next.views i
             ≡ some z) (sym (put_other h.holder o id p ne)) (set_else s.views id (h.holder p) having apart ∙ e)) t l
 
     pub taking : Shown n key next
@@ -256,7 +270,7 @@ module _ (n : ℕ) (key : RunPlan) (s : table.State Slot View) (h : Shown n key 
       told = h.told;
       holder = put h.holder o id;
       reached = h.reached;
-      wide = length-set s.words o 1 ∙ h.wide;
+      wide = length-set s.words (word_of o) 1 ∙ h.wide;
       deep = length-set s.homes o none ∙ h.deep;
       passes = taking_seat;
       only = every_with (Owned s.views) (Owned next.views) (λ x q. owned_set s.views id x v having at_v refl refl q) h.owners h.only;
@@ -286,11 +300,11 @@ module _ (n : ℕ) (key : RunPlan) (s : table.State Slot View) (h : Shown n key 
         }
 
   -- another has the turn
-  module _ (o : ℕ) (idle : v.turn ≡ false) (room : o < suc n) (x : ℕ) (is : x ≡ slice_index s.words o) (carried : List (ℕ × Slot)) where
+  module _ (o : ℕ) (idle : v.turn ≡ false) (room : o < suc n) (x : ℕ) (is : x ≡ slice_index s.words (word_of o)) (carried : List (ℕ × Slot)) where
     abbrev missing : View
     missing = tried_at o 1 v
 
-    pub missed : Shown n key (stepped s o x id carried missing keeps)
+    pub missed : Shown n key (stepped s (word_of o) x id carried missing keeps)
     missed =
         let k = mine.sits in
         let wide = h.wide in
@@ -303,52 +317,61 @@ module _ (n : ℕ) (key : RunPlan) (s : table.State Slot View) (h : Shown n key 
               k.over;
         }) in
         let still : Still v missing = record { turn = refl; place = λ e. absurd (let r : false ≡ true = sym idle ∙ e in cc); note = λ e. refl } in
-        let same : s.words ≡ set s.words o x = sym (set_again s.words o x (at_word s.words o (omega arith) ∙ ap some (sym is))) in
+        let same : s.words ≡ set s.words (word_of o) x = sym (set_again s.words (word_of o) x (at_word s.words (word_of o) (omega arith)
+        ∙ ap some (sym is))) in
         subst (λ ws. Shown n key (record { words = ws; homes = s.homes; views = set s.views id missing })) same (renewed missing g (λ p. refl) still (λ e. e))
 
   -- a turn is left with nothing changed
   module _ (o : ℕ) (turn : v.turn ≡ true) (place : v.place ≡ o) (carried : List (ℕ × Slot)) (new : Slot) (has : carried ≡ (o, new) ∷ rest carried) (same : new
-      ≡ v.note) where
-    pub desisted : Shown n key (stepped s o 0 id carried (turned_off v) gives)
+      ≡ bare v.note) where
+    pub desisted : Shown n key (stepped s (word_of o) 0 id carried (turned_off v) gives)
     desisted =
         let k = mine.sits in
         let w = turned_off v in
         let g : Goes w = stays w mine.plan refl refl (record { live = k.live; held = k.held; unborn = k.unborn; unheld = k.unheld; over = k.over }) in
-        leaving w g o turn place carried new has refl (same ∙ (mine.turn turn).found ∙ ap parts0 place) (λ p ne. refl)
+        leaving w g o turn place carried new has refl (same ∙ ap bare ((mine.turn turn).found ∙ ap parts0 place)) (λ p ne. refl)
 
 -- a try at a turn
 pub trying : (key : RunPlan) (slots id o : ℕ) (me : Me Slot View) → o < slots → me.0.turn ≡ false → me.0.live ≡ true
-    → Allows (Ruled key) slots id me o (λ x. either (eqb x 0) 1 x) (tried (step slots o 0 1 none) me)
+    → Allows (Ruled key) slots id me (word_of o) (λ x. either (eqb x 0) 1 x) (tried (step slots (word_of o) 0 1 none) me)
 trying key slots id o me fits idle alive s h long at _ = go (h.places o room)
   where
     room : o < suc (count_of key)
     room = let deep = h.deep in omega arith
 
     x : ℕ
-    x = slice_index s.words o
+    x = slice_index s.words (word_of o)
+
+    -- no other place has the word
+    at_place : (m : Me Slot View) → tried_there slots o me x m → tried (step slots (word_of o) 0 1 none) me x m
+    at_place m told p e = subst (λ q. tried_there slots q me x m) (same_place o p e) told
 
     go : PlaceOk (count_of key) s h.holder (λ p. part_of (count_of key) p (map h.seats h.owners) h.shelves h.told) o → (w : View) × (a : table.Act Slot)
-        × table.Valid s.homes me.1 a × Ruled key (stepped s o (either (eqb x 0) 1 x) id me.1 w a)
-        × tried (step slots o 0 1 none) me x (w, table.carried_after me.1 a)
-    go (free y w0 home is) = (
-      in_turn o y me.0,
-      takes o y,
-      home,
-      subst (λ z. Ruled key (stepped s o z id me.1 (in_turn o y me.0) (takes o y))) (sym (ap (λ b. either b 1 x) (eq-eqb x 0 w0)))
-          (taking (count_of key) key s h id me.0 at o room idle alive y w0 is me.1),
-      ((λ e. (y, refl, λ l. tells (count_of key) key s h id me.0 at o room idle alive y w0 is me.1 slots (sym long ∙ h.deep))), λ ne. absurd (ne w0)),
-    )
+        × table.Valid s.homes me.1 a × Ruled key (stepped s (word_of o) (either (eqb x 0) 1 x) id me.1 w a)
+        × tried (step slots (word_of o) 0 1 none) me x (w, table.carried_after me.1 a)
+    go (free z w0 home is) =
+        let y = part_of (count_of key) o (map h.seats h.owners) h.shelves h.told in (
+          in_turn o y me.0,
+          takes o (bare y),
+          subst (λ k. get_elem? s.homes o ≡ some (some k)) is home,
+          subst (λ k. Ruled key (stepped s (word_of o) k id me.1 (in_turn o y me.0) (takes o (bare y)))) (sym (ap (λ b. either b 1 x) (eq-eqb x 0 w0)))
+              (taking (count_of key) key s h id me.0 at o room idle alive y w0 refl me.1),
+          at_place (in_turn o y me.0, (o, bare y) ∷ me.1) (
+            (λ e. (y, refl, λ l. tells (count_of key) key s h id me.0 at o room idle alive y w0 refl me.1 slots (sym long ∙ h.deep))),
+            λ ne. absurd (ne w0),
+          ),
+        )
     go (taken v w1 e t l) = (
       tried_at o 1 me.0,
       keeps,
       tt,
-      subst (λ z. Ruled key (stepped s o z id me.1 (tried_at o 1 me.0) keeps)) (sym (ap (λ b. either b 1 x) (ne_eqb x 0 (λ z. absurd (omega arith)))))
+      subst (λ z. Ruled key (stepped s (word_of o) z id me.1 (tried_at o 1 me.0) keeps)) (sym (ap (λ b. either b 1 x) (ne_eqb x 0 (λ z. absurd (omega arith)))))
           (missed (count_of key) key s h id me.0 at o idle room x refl me.1),
-      ((λ e0. absurd (omega arith)), λ ne. (w1, refl)),
+      at_place (tried_at o 1 me.0, me.1) ((λ e0. absurd (omega arith)), λ ne. (w1, refl)),
     )
 
 -- a turn left with nothing changed
 pub desisting : (key : RunPlan) (slots id o : ℕ) (me : Me Slot View) (new : Slot) → me.0.turn ≡ true → me.0.place ≡ o → me.1 ≡ (o, new) ∷ rest me.1 → new
-    ≡ me.0.note → Allows (Ruled key) slots id me o (λ x. 0) (λ x. left_as_it_was (step slots o 0 0 none) me 0)
+    ≡ bare me.0.note → Allows (Ruled key) slots id me (word_of o) (λ x. 0) (λ x. left_as_it_was (step slots (word_of o) 0 0 none) me 0)
 desisting key slots id o me new turn place has same s h _ at _ =
     (turned_off me.0, gives, tt, desisted (count_of key) key s h id me.0 at o turn place me.1 new has same, refl)

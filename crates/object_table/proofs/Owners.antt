@@ -1,16 +1,16 @@
 -- Owners where the roll grows and shrinks, and the paths of seats on it.
-use Rattle.std.proofs.Common.{◌≡◌, ◌≢◌, ℕ, suc, ◌<◌, true, false, ◌&&◌, ◌||◌, List, [], ◌∷◌, ◌++◌, map, set, length, refl, sym, ap, ◌∙◌}
+use Rattle.std.proofs.Common.{◌≡◌, ◌≢◌, ℕ, Bool, true, false, ◌||◌, List, [], ◌∷◌, ◌++◌, map, set, length, refl, sym, ap, ◌∙◌}
 use Rattle.std.proofs.Common.{subst, arith, Option, Some, None}
-use Rattle.std.specs.Prelude.{slice_get, if◌then◌else◌}
+use Rattle.std.specs.Prelude.{replicate, if◌then◌else◌}
 use mathlib.Core.Logic.{dite}
 use mathlib.Core.Option.{some}
 use native.Mathlib.Decide.{ℕ_discrete}
 use lib.ListN.{get_elem?}
 use Rattle.atomic_table.proofs.Lists.{set_here, set_else}
 use Rattle.jade_base.specs.Places.{same_path}
-use Rattle.jade_meaning.specs.Laws.{Every}
 use Rattle.schedule_core.specs.declared.steps.Seat.{Seat}
-use Rattle.task_roll.specs.Order.{stands_before, entered, without, is_among, fits}
+use Rattle.task_roll.specs.Order.{without, is_among}
+use Rattle.object_table.specs.Tallies.{but_first}
 use Rattle.object_table.specs.Views.{View, paths_of}
 use Rattle.object_table.specs.Plays.{nobody}
 use Rattle.object_table.specs.Rule.{pass_of, kid_of, Absent, Spot, Owned, by_pass, by_maker}
@@ -106,47 +106,47 @@ module _ (views : List View) (id x : ℕ) (v w : View) (at : get_elem? views id 
       (λ same. absurd (none_some kid (sym born ∙ ap (λ (k : View). k.unborn) (same_view views id j v z at e same) ∙ unborn)))
       (λ other. by_maker j z kid (set_else views id j w other ∙ e) unborn is)
 
--- what holds of each seat at the front of a roll
-pub every_of : (P : Seat → Type 0) (f g : List Seat) → ((i : ℕ) (x : Seat) → i < length f → slice_get (f ++ g) i ≡ Some x → P x) → Every P f
-every_of P [] g k = tt
-every_of P (x ∷ f) g k = (k 0 x (omega arith) refl, every_of P f g (λ i y lt e. k (suc i) y (omega (arith, lt)) e))
+-- an empty path for each seat on the roll
+abbrev pub blanks : List Seat → List (List ℕ)
+blanks ss = replicate (length (paths_of ss)) []
 
-pub place_next : (f : List Seat) (s t : Seat) (b : List Seat) → slice_get (f ++ (s ∷ (t ∷ b))) (suc (length f)) ≡ Some t
-place_next [] s t b = refl
-place_next (x ∷ f) s t b = place_next f s t b
+-- one seat more is one path more
+pub blanks_more : (f b : List Seat) (kid u s : Seat) → blanks (f ++ (kid ∷ (u ∷ b))) ≡ [] ∷ blanks (f ++ (s ∷ b))
+blanks_more [] b kid u s = refl
+blanks_more (x ∷ f) b kid u s = ap (λ ps. [] ∷ ps) (blanks_more f b kid u s)
 
--- a seat on the roll behind some of other paths
-module _ (s : Seat) (b : List Seat) where
-  pub among_seats : (f : List Seat) → Every (λ (x : Seat). same_path s.path x.path ≡ false) f → is_among s.path (paths_of (f ++ (s ∷ b))) ≡ true
-  among_seats [] far = ap (λ c. c || is_among s.path (paths_of b)) (path_same s.path)
-  among_seats (x ∷ f) far = ap (λ c. c || is_among s.path (paths_of (f ++ (s ∷ b)))) far.0 ∙ among_seats f far.1
+one_blank : (f b : List Seat) (s : Seat) → blanks (f ++ (s ∷ b)) ≡ [] ∷ blanks (f ++ b)
+one_blank [] b s = refl
+one_blank (x ∷ f) b s = ap (λ ps. [] ∷ ps) (one_blank f b s)
 
-  pub without_seat : (f : List Seat) → Every (λ (x : Seat). same_path s.path x.path ≡ false) f → without s.path (paths_of (f ++ (s ∷ b)))
-      ≡ paths_of (f ++ b)
-  without_seat [] far = ap (λ c. if c then paths_of b else s.path ∷ without s.path (paths_of b)) (path_same s.path)
-  without_seat (x ∷ f) far =
-      ap (λ c. if c then paths_of (f ++ (s ∷ b)) else x.path ∷ without s.path (paths_of (f ++ (s ∷ b)))) far.0
-      ∙ ap (λ ps. x.path ∷ ps) (without_seat f far.1)
+-- and one fewer is one fewer
+pub blanks_fewer : (f b : List Seat) (s : Seat) → but_first (blanks (f ++ (s ∷ b))) ≡ blanks (f ++ b)
+blanks_fewer f b s = ap but_first (one_blank f b s)
 
-  module _ (kid u : Seat) (same : u.path ≡ s.path) where
-    pub entered_seat : (f : List Seat) → Every (λ (x : Seat). same_path s.path x.path ≡ false) f → entered s.path kid.path (paths_of (f ++ (s ∷ b)))
-        ≡ paths_of (f ++ (kid ∷ (u ∷ b)))
-    entered_seat [] far =
-        ap (λ c. if c then kid.path ∷ (s.path ∷ paths_of b) else s.path ∷ entered s.path kid.path (paths_of b)) (path_same s.path)
-        ∙ ap (λ q. kid.path ∷ (q ∷ paths_of b)) (sym same)
-    entered_seat (x ∷ f) far =
-        ap (λ c. if c then kid.path ∷ (x.path ∷ paths_of (f ++ (s ∷ b))) else x.path ∷ entered s.path kid.path (paths_of (f ++ (s ∷ b)))) far.0
-        ∙ ap (λ ps. x.path ∷ ps) (entered_seat f far.1)
+-- a seat on the roll has its path there
+pub among_seats : (f b : List Seat) (s : Seat) → is_among s.path (paths_of (f ++ (s ∷ b))) ≡ true
+among_seats [] b s = ap (λ c. c || is_among s.path (paths_of b)) (path_same s.path)
+among_seats (x ∷ f) b s = or_later (same_path s.path x.path) (among_seats f b s)
+  where
+    or_later : (c : Bool) {d : Bool} → d ≡ true → c || d ≡ true
+    or_later true e = refl
+    or_later false e = e
 
-  pub fits_seats : (c : List ℕ) (f : List Seat) → Every (λ (x : Seat). same_path s.path x.path ≡ false) f
-      → Every (λ (x : Seat). stands_before x.path c ≡ true) f → stands_before c s.path ≡ true → fits s.path c (paths_of (f ++ (s ∷ b))) ≡ true
-  fits_seats c [] far before first =
-      ap (λ z. if z then stands_before c s.path else (stands_before s.path c && fits s.path c (paths_of b))) (path_same s.path) ∙ first
-  fits_seats c (x ∷ f) far before first =
-      ap (λ z. if z then stands_before c x.path else (stands_before x.path c && fits s.path c (paths_of (f ++ (s ∷ b))))) far.0
-      ∙ ap (λ z. z && fits s.path c (paths_of (f ++ (s ∷ b)))) before.0 ∙ fits_seats c f far.1 before.1 first
+-- a task that leaves the roll leaves it empty where it was alone there
+pub alone : (p : List ℕ) (ps : List (List ℕ)) → is_among p ps ≡ true → nobody (but_first (replicate (length ps) [])) ≡ nobody (without p ps)
+alone p [] e = absurd (cc)
+alone p (q ∷ []) e = go (same_path p q) e
+  where
+    go : (c : Bool) → c || false ≡ true → true ≡ nobody (if c then [] else q ∷ [])
+    go true e = refl
+    go false e = absurd (cc)
+alone p (q ∷ (r ∷ rs)) e = go (same_path p q)
+  where
+    go : (c : Bool) → false ≡ nobody (if c then r ∷ rs else q ∷ without p (r ∷ rs))
+    go true = refl
+    go false = refl
 
--- an empty list of paths is that of no owner
-pub deserted : (f : ℕ → Seat) (owners : List ℕ) → nobody (paths_of (map f owners)) ≡ true → owners ≡ []
+-- where no path is empty on the roll, no owner is
+pub deserted : (f : ℕ → Seat) (owners : List ℕ) → nobody (blanks (map f owners)) ≡ true → owners ≡ []
 deserted f [] e = refl
 deserted f (x ∷ owners) e = absurd (cc)

@@ -84,6 +84,7 @@ module _ (t : Task) (r : Rests t) (events k : ℕ) (fits : events < 184467440737
     idle = r.idle;
     touches = all_more k t.touched t.seat.me.0 r.touches comes.touches;
     path = r.path;
+    spare = r.spare;
     children = r.children;
     events = small events fits ∙ ap (λ x. x % 2 ^ 64) (comes.count ∙ sym (passed_done k (shown t) comes.touches)
         ∙ ap (λ (z : View). z.seat.walker.done) (passed_more k t.touched t.seat.me.0));

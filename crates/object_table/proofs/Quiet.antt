@@ -17,7 +17,7 @@ use Rattle.schedule_core.specs.ByNumber.{shelf_at}
 use Rattle.schedule_core.specs.Plain.{Reached, goes_on, Does}
 use Rattle.schedule_core.specs.Tells.{CoreTells}
 use Rattle.jade_meaning.specs.Plan.{RunPlan}
-use Rattle.object_table.specs.Views.{View, shelf_of, paths_of, core_notes}
+use Rattle.object_table.specs.Views.{View, shelf_of, paths_of, bare, core_notes}
 use Rattle.object_table.specs.Rule.{pass_of, kid_of, OnRoll, Agrees, Owned, Sits, Shown}
 use Rattle.object_table.specs.declared.slot.Slot.{Slot}
 use Rattle.object_table.specs.declared.slot.Slot.TheVariants as slot
@@ -151,9 +151,9 @@ module _ (n : ℕ) (key : RunPlan) (s : table.State Slot View) (h : Shown n key 
           ap (λ ps. if nat_eq i n then slot.Roll (record { live = ps; notes = h.told }) else slot.Object (shelf_of (shelf_at h.shelves i))) paths2
           ∙ ap (λ x. if nat_eq i n then slot.Roll (record { live = paths_of (map seats2 h.owners); notes = h.told }) else slot.Object x) same
 
-      pub part_here : (o : ℕ) → o ≢ n → (new : Slot) → new ≡ slot.Object (shelf_of (shelf_at ss2 o)) → new ≡ parts1 n key s h id v at_v w quiet o
-      part_here o ne new e = e ∙ sym (ap (λ z. if z then slot.Roll (record {
+      pub part_here : (o : ℕ) → o ≢ n → (new : Slot) → new ≡ slot.Object (shelf_of (shelf_at ss2 o)) → new ≡ bare (parts1 n key s h id v at_v w quiet o)
+      part_here o ne new e = e ∙ sym (ap (λ z. bare (if z then slot.Roll (record {
         live = paths_of (map seats2 h.owners);
         notes =
             h.told;
-      }) else slot.Object (shelf_of (shelf_at ss2 o))) (ne_eqb o n ne))
+      }) else slot.Object (shelf_of (shelf_at ss2 o)))) (ne_eqb o n ne))

@@ -12,15 +12,15 @@ use Rattle.jade_meaning.specs.Laws.{Every}
 use Rattle.jade_meaning.specs.Talk.{Resign}
 use Rattle.jade_meaning.specs.Walk.{upcoming, First}
 use Rattle.task_roll.specs.declared.note.PartNote.{PartNote}
-use Rattle.task_roll.specs.Order.{without}
-use Rattle.task_roll.specs.Rolls.{RollView, resigned, noting}
+use Rattle.task_roll.specs.Rolls.{RollView, noting}
 use Rattle.task_roll.proofs.Rolls.{by_key-last as by_key_last}
 use Rattle.schedule_core.specs.declared.steps.Seat.{Seat}
 use Rattle.schedule_core.specs.ByNumber.{shelf_at}
 use Rattle.schedule_core.specs.Plain.{Reached}
 use Rattle.schedule_core.proofs.Lines.{every_append, every_front, every_back, every_apply}
 use Rattle.jade_meaning.specs.Plan.{RunPlan}
-use Rattle.object_table.specs.Views.{count_of, View, shelf_of, paths_of, core_notes}
+use Rattle.object_table.specs.Tallies.{counted, but_first, one_fewer}
+use Rattle.object_table.specs.Views.{count_of, word_of, View, shelf_of, paths_of, bare, core_notes}
 use Rattle.object_table.specs.Touches.{passed}
 use Rattle.object_table.specs.Rule.{pass_of, kid_of, Spot, OnRoll, Owned, Sits, Ruled}
 use Rattle.object_table.specs.Plays.{nobody, is_deserted, deserted_in, gone, Ahead, left_resigned}
@@ -28,12 +28,12 @@ use Rattle.object_table.specs.steps.Kept.{Laws}
 use Rattle.object_table.specs.declared.slot.Slot.{Slot}
 use Rattle.object_table.specs.declared.slot.Slot.TheVariants as slot
 use Rattle.object_table.proofs.Lists.{at_inside, every_with}
-use Rattle.object_table.proofs.Owners.{spot_less, not_empty, map_both, none_some, owned_gone, among_seats, without_seat, deserted}
+use Rattle.object_table.proofs.Owners.{spot_less, not_empty, map_both, none_some, owned_gone, blanks, blanks_fewer, deserted}
 use Rattle.object_table.proofs.Goes.{Goes, leaving}
 use Rattle.object_table.proofs.Quiet.{on, f, b, stands, reach_on}
 use Rattle.object_table.proofs.Touching.{set_set, passing, passed_same}
 use Rattle.object_table.proofs.Finishing.{ahead_once}
-use Rattle.object_table.proofs.Enrolling.{same_roll, roll_found, far_before}
+use Rattle.object_table.proofs.Enrolling.{same_roll, roll_found}
 
 module _ (key : RunPlan) (laws : Laws key) (s : table.State Slot View) (h : Ruled key s) (id : ℕ) (v : View) (at_v : get_elem? s.views id ≡ some v)
     (alive : v.live ≡ true) (turn : v.turn ≡ true) (place : v.place ≡ count_of key) (born : v.unborn ≡ None) (blame : Option Blame) (steps : ℕ)
@@ -73,21 +73,15 @@ module _ (key : RunPlan) (laws : Laws key) (s : table.State Slot View) (h : Rule
       (reach_on key h.count before v.seat behind h.shelves h.shelves (core_notes h.told) (Resign blame steps) [] (stands n key s h id v at_v alive) next
       (refl, refl))
 
-  -- the roll's slot shows it
-  roll_shows : (r : RollView) → v.note ≡ slot.Roll r → resigned p v.seat.children blame steps r
-      ≡ record { live = paths_of (map h.seats (front ++ back)); notes = told2 }
-  roll_shows r e =
-      let is : r ≡ record { live = paths_of (before ++ (v.seat ∷ behind)); notes = h.told } =
-      same_roll r _ (sym e ∙ roll_found key laws s h id v at_v alive turn place) in
-      let far = far_before key laws s h id v at_v alive turn place in
-      ap (resigned p v.seat.children blame steps) is
-      ∙ ap (λ c. if c then record {
-        live = without p (paths_of (before ++ (v.seat ∷ behind)));
-        notes = told2;
-      } else record { live = paths_of (before ++ (v.seat ∷ behind)); notes = h.told }) (among_seats v.seat behind before far)
-      ∙ ap (λ ps. record { live = ps; notes = told2 }) (without_seat v.seat behind before far ∙ ap paths_of (sym (map_both h.seats front back)))
+  module _ (r : RollView) (found : v.note ≡ slot.Roll r) (last : Bool) (is_last : last ≡ nobody (but_first (counted r).live)) where
+    roll_is : r ≡ record { live = paths_of (before ++ (v.seat ∷ behind)); notes = h.told }
+    roll_is = same_roll r _ (sym found ∙ roll_found key laws s h id v at_v alive turn place)
 
-  module _ (r : RollView) (found : v.note ≡ slot.Roll r) (last : Bool) (is_last : last ≡ nobody (resigned p v.seat.children blame steps r).live) where
+    -- the roll's slot shows it
+    fewer_live : but_first (counted r).live ≡ blanks (map h.seats (front ++ back))
+    fewer_live = ap (λ (q : RollView). but_first (counted q).live) roll_is ∙ blanks_fewer before behind v.seat
+        ∙ ap blanks (sym (map_both h.seats front back))
+
     abbrev w : View
     w = gone last v
 
@@ -100,7 +94,7 @@ module _ (key : RunPlan) (laws : Laws key) (s : table.State Slot View) (h : Rule
       held = λ l. absurd (cc);
       unborn = λ z e. absurd (none_some z (sym born ∙ e));
       unheld = λ z e. absurd (none_some z (sym born ∙ e));
-      over = λ all. deserted h.seats (front ++ back) (ap (λ (q : RollView). nobody q.live) (sym (roll_shows r found)) ∙ sym is_last ∙ all);
+      over = λ all. deserted h.seats (front ++ back) (ap nobody (sym fewer_live) ∙ sym is_last ∙ all);
     }
 
     others : (j : ℕ) (z : View) → j ≢ id → Sits h.owners h.seats h.shelves j z → Sits (front ++ back) h.seats h.shelves j z
@@ -136,15 +130,15 @@ module _ (key : RunPlan) (laws : Laws key) (s : table.State Slot View) (h : Rule
       only = owned;
     }
 
-    pub resign_on : (carried : List (ℕ × Slot)) (new : Slot) → carried ≡ (n, new) ∷ rest carried → new ≡ slot.Roll (resigned p v.seat.children blame steps r)
-        → Ruled key (stepped s n 0 id carried w gives)
+    pub resign_on : (carried : List (ℕ × Slot)) (new : Slot) → carried ≡ (n, new) ∷ rest carried → new ≡ slot.Roll (one_fewer note (counted r))
+        → Ruled key (stepped s (word_of n) 0 id carried w gives)
     resign_on carried new has made =
         leaving n key s h id v at_v w shrunk n turn place carried new has refl
-        (made ∙ ap slot.Roll (roll_shows r found)
-        ∙ sym (ap (λ c. if c then slot.Roll (record {
+        (made ∙ (λ i. slot.Roll (record { live = fewer_live i; notes = noting note (roll_is i).notes }))
+        ∙ sym (ap (λ c. bare (if c then slot.Roll (record {
           live = paths_of (map h.seats (front ++ back));
           notes = told2;
-        }) else slot.Object (shelf_of (shelf_at h.shelves n))) (eq-eqb n n refl)))
+        }) else slot.Object (shelf_of (shelf_at h.shelves n)))) (eq-eqb n n refl)))
         (λ i ne. ap (λ c. if c then slot.Roll (record {
           live = paths_of (map h.seats h.owners);
           notes = h.told;
@@ -158,8 +152,13 @@ module _ (key : RunPlan) (laws : Laws key) (s : table.State Slot View) (h : Rule
 pub resigning : (key : RunPlan) → Laws key → (slots id : ℕ) (me : Me Slot View) (new : Slot) → me.0.live ≡ true → me.0.unborn ≡ None → me.0.turn ≡ true
     → me.0.place ≡ count_of key → me.1 ≡ (count_of key, new) ∷ rest me.1 → (k : ℕ) (blame : Option Blame) (steps : ℕ) → Ahead k (Resign blame steps) me.0
     → (r : RollView) → (passed k me.0).note ≡ slot.Roll r
-    → new ≡ slot.Roll (resigned (passed k me.0).seat.path (passed k me.0).seat.children blame steps r)
-    → Allows (Ruled key) slots id me (count_of key) (λ x. 0) (λ x. left_resigned (step slots (count_of key) 0 0 none) me 0)
+    → new ≡ slot.Roll (one_fewer (record {
+      path = (passed k me.0).seat.path;
+      children = (passed k me.0).seat.children;
+      steps = steps;
+      blame = blame;
+    }) (counted r))
+    → Allows (Ruled key) slots id me (word_of (count_of key)) (λ x. 0) (λ x. left_resigned (step slots (word_of (count_of key)) 0 0 none) me 0)
 resigning key laws slots id me new alive born turn place has k blame steps ahead r found made s h _ at _ =
     let n = count_of key in
     let v = passed k me.0 in
@@ -168,11 +167,11 @@ resigning key laws slots id me new alive born turn place has k blame steps ahead
     let h' : Ruled key s' = passing n key s h id me.0 at alive laws.tells k ahead.touches in
     let at_v = set_here s.views id v (at_inside s.views id me.0 at) in
     let last = deserted_in me.1 in
-    let is_last : last ≡ nobody (resigned v.seat.path v.seat.children blame steps r).live = ap deserted_in has ∙ ap is_deserted made in (
+    let is_last : last ≡ nobody (but_first (counted r).live) = ap deserted_in has ∙ ap is_deserted made in (
       gone last v,
       gives,
       tt,
-      subst (λ l. Ruled key (record { words = set s.words n 0; homes = table.put_back s.homes me.1; views = l })) (set_set s.views id v (gone last v))
+      subst (λ l. Ruled key (record { words = set s.words (word_of n) 0; homes = table.put_back s.homes me.1; views = l })) (set_set s.views id v (gone last v))
           (resign_on key laws s' h' id v at_v (same.live ∙ alive) (same.turn ∙ turn) (same.place ∙ place) (same.unborn ∙ born) blame steps ahead.next r found
           last is_last me.1 new has made),
       ((λ j d m other. let q = ahead_once k j (Resign blame steps) (Resign d m) me.0 ahead other in ap (λ i. gone last (passed i me.0)) q.0), refl),

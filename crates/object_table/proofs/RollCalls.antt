@@ -1,18 +1,22 @@
 -- What a pass shows once a call has left its turn at the roll; its cut in two, and its taking in of another.
-use Rattle.std.proofs.Common.{◌≡◌, ℕ, zero, suc, ◌+◌, ◌%◌, ◌^◌, Bool, true, false, ◌&&◌, ◌||◌, List, [], ◌∷◌, ◌++◌, refl, sym, ap, ◌∙◌, subst, arith}
-use Rattle.std.proofs.Common.{eq-eqb, Option, Some, None}
-use Rattle.std.specs.Prelude.{if◌then◌else◌}
+use Rattle.std.proofs.Common.{◌≡◌, ℕ, zero, suc, ◌<◌, ◌+◌, ◌%◌, ◌^◌, Bool, true, false, ◌&&◌, ◌||◌, List, [], ◌∷◌, ◌++◌, length, refl, sym, ap, ◌∙◌}
+use Rattle.std.proofs.Common.{subst, arith, eq-eqb, ne_eqb, Option, Some, None}
+use Rattle.std.specs.Prelude.{nat_eq, if◌then◌else◌}
+use mathlib.Core.Logic.{dite}
+use native.Mathlib.Decide.{ℕ_discrete}
 use mathlib.Core.Option.{none}
 use Rattle.atomic_table.specs.Table.{Me, step, Splits, Joins}
 use Rattle.atomic_table.specs.declared.shared.Seat.{Seat}
 use Rattle.jade_base.specs.declared.report.Blame.{Blame}
 use Rattle.jade_meaning.specs.Talk.{Task as TaskOf, Event, Enter, Enroll, Take, TouchRead, TouchWrite, Wants, Give, Leave, Shift, Resign}
 use Rattle.jade_meaning.specs.Walk.{upcoming, First, Bears, IsChildOf}
-use Rattle.task_roll.specs.Rolls.{RollView, enrolled, resigned}
+use Rattle.task_roll.specs.Order.{without, is_among}
+use Rattle.task_roll.specs.Rolls.{RollView, on_roll, resigned, noting}
 use Rattle.schedule_core.specs.declared.steps.Seat.{Seat as Place}
 use Rattle.schedule_core.specs.ByNumber.{shelf_at}
 use Rattle.schedule_core.specs.Plain.{seat_after, Born}
 use Rattle.jade_meaning.specs.Plan.{RunPlan}
+use Rattle.object_table.specs.Tallies.{counted, but_first, one_more, one_fewer}
 use Rattle.object_table.specs.Views.{count_of, View, shelf_of, paths_of}
 use Rattle.object_table.specs.Touches.{touched_first, touched, touch_next, passed, all_touches}
 use Rattle.object_table.specs.Rule.{Ruled}
@@ -23,12 +27,12 @@ use Rattle.object_table.specs.declared.task.Task.{Task}
 use Rattle.object_table.specs.declared.slot.Slot.{Slot}
 use Rattle.object_table.specs.declared.slot.Slot.TheVariants as slot
 use Rattle.object_table.proofs.Touching.{passed_same}
-use Rattle.object_table.proofs.Owners.{some_seat, none_some}
-use Rattle.object_table.proofs.Enrolling.{enrolling}
+use Rattle.object_table.proofs.Owners.{some_seat, none_some, among_seats, alone}
+use Rattle.object_table.proofs.Enrolling.{same_roll, enrolling}
 use Rattle.object_table.proofs.Resigning.{resigning}
 use Rattle.object_table.proofs.Splitting.{splits}
 use Rattle.object_table.proofs.Joining.{joins}
-use Rattle.object_table.proofs.Calls.{on_try, passed_try, path_is, children_is, tries_same, idle_same, alive, ahead_is, left_rests, done_shown}
+use Rattle.object_table.proofs.Calls.{on_try, passed_try, path_is, children_is, tries_same, idle_same, alive, ahead_is, spare_is, left_rests, done_shown}
 
 -- the roll's slot shows the roll
 pub roll_there : (slots : ℕ) (v : View) (o : ℕ) (y : Slot) (key : RunPlan) → slots ≡ suc (count_of key) → o ≡ count_of key → Told slots v o y → IsRoll y
@@ -39,6 +43,35 @@ roll_there slots v o y key deep place told =
       notes =
           told.notes;
     }) else slot.Object (shelf_of (shelf_at told.shelves o))) (eq-eqb o told.objects same))) tt
+
+-- and the pass's path is on it
+is_there : (slots : ℕ) (v : View) (o : ℕ) (y : Slot) → Told slots v o y → (q : RollView) → y ≡ slot.Roll q → is_among v.seat.path q.live ≡ true
+is_there slots v o y told q is = dite (ℕ_discrete o told.objects)
+    (λ same. ap (λ (r : RollView). is_among v.seat.path r.live) (same_roll q _ (sym is ∙ shown_as true (eq-eqb o told.objects same)))
+    ∙ among_seats told.front told.back v.seat)
+    (λ ne. absurd (no_object (sym is ∙ shown_as false (ne_eqb o told.objects ne))))
+  where
+    shown_as : (b : Bool) → nat_eq o told.objects ≡ b → y ≡ (if b then slot.Roll (record {
+      live = paths_of (told.front ++ (v.seat ∷ told.back));
+      notes =
+          told.notes;
+    }) else slot.Object (shelf_of (shelf_at told.shelves o)))
+    shown_as b e = told.shows ∙ ap (λ c. if c then slot.Roll (record {
+      live = paths_of (told.front ++ (v.seat ∷ told.back));
+      notes =
+          told.notes;
+    }) else slot.Object (shelf_of (shelf_at told.shelves o))) e
+
+    no_object : slot.Roll q ≡ slot.Object (shelf_of (shelf_at told.shelves o)) → ⊥
+    no_object e = cc
+
+-- so the tally counts a task at least
+pub some_live : (slots : ℕ) (v : View) (o : ℕ) (q : RollView) → Told slots v o (slot.Roll q) → 0 < length (counted q).live
+some_live slots v o q told = go q.live (is_there slots v o (slot.Roll q) told q refl)
+  where
+    go : (ps : List (List ℕ)) → is_among v.seat.path ps ≡ true → 0 < length (counted (on_roll ps q.notes)).live
+    go [] e = absurd (cc)
+    go (p ∷ ps) e = omega arith
 
 first_both : (l : List Event) (P Q : Event → Type 0) → First l P → First l Q → (e : Event) × P e × Q e
 first_both [] P Q f g = absurd f
@@ -74,7 +107,8 @@ module _ (t : Task) (r : Rests t) where
 
     -- a creation
     module _ (task : TaskOf) (steps : ℕ) (next : Next (Enroll task steps) v) where
-      pub may_enroll : new ≡ slot.Roll (enrolled t.path t.children steps q) → Leaves left_enrolled key slots seat1.id (with_slot o new seat1.me) o
+      pub may_enroll : new ≡ slot.Roll (one_more (record { path = t.path; children = t.children; steps = steps; blame = None }) (counted q))
+          → Leaves left_enrolled key slots seat1.id (with_slot o new seat1.me) o
       may_enroll made =
           let n = count_of key in
           let e = Enroll task steps in
@@ -82,8 +116,13 @@ module _ (t : Task) (r : Rests t) where
           (subst (λ i. Leaves left_enrolled key slots seat1.id (on_try true (suc v0.tries) i 0 y v0, (i, new) ∷ []) i) (sym place)
           (enrolling key laws slots seat1.id (on_try true (suc v0.tries) n 0 y v0, (n, new) ∷ []) new (alive t r e next) (unborn_is next.born) refl refl refl
           t.touched task steps (ahead_is t r e refl next (suc v0.tries) n 0 y) q (found n)
-          (subst (λ (z : View). new ≡ slot.Roll (enrolled z.seat.path z.seat.children steps q)) (sym (passed_is n))
-          (made ∙ λ i. slot.Roll (enrolled (path_is t r i) (children_is t r i) steps q)))))
+          (subst (λ (z : View). new ≡ slot.Roll (one_more (record {
+            path = z.seat.path;
+            children = z.seat.children;
+            steps = steps;
+            blame = None;
+          }) (counted q))) (sym (passed_is n))
+          (made ∙ λ i. slot.Roll (one_more (record { path = path_is t r i; children = children_is t r i; steps = steps; blame = None }) (counted q))))))
 
       -- the turn was left with it
       pub enrolled_is : (after : Me Slot View) → left_enrolled (step slots o 0 0 none) (with_slot o new seat1.me) 0 after
@@ -96,9 +135,10 @@ module _ (t : Task) (r : Rests t) where
 
       module _ (t3 : Task) (kid : Place) (born : Born v.seat kid t3.seat.me.0.seat) (me : t3.seat.me ≡ (bore kid there, []))
           (counts : (t3.touched ≡ 0) × (t3.events ≡ (t.events + 1) % 2 ^ 64)) where
-        pub enrolled_rests : t3.path ≡ t.path → t3.children ≡ t.children + 1 → t3.over ≡ t.over → Rests t3
-        enrolled_rests path children over =
-            left_rests t r t3 (bore kid there) me (path ∙ path_is t r) (children ∙ ap (λ x. x + 1) (children_is t r) ∙ one v.seat.children)
+        pub enrolled_rests : t3.path ≡ t.path → t3.spare ≡ t.spare → t3.children ≡ t.children + 1 → t3.over ≡ t.over → Rests t3
+        enrolled_rests path spare children over =
+            left_rests t r t3 (bore kid there) me (path ∙ path_is t r) (λ l. spare_is t r t3 next.live path spare)
+            (children ∙ ap (λ x. x + 1) (children_is t r) ∙ one v.seat.children)
             (over ∙ r.over ∙ sym (passed_same t.touched v0).over) counts refl refl
             (λ k e. subst (Youngest v.seat.path (suc v.seat.children)) (some_seat kid k e)
             (record {
@@ -131,7 +171,8 @@ module _ (t : Task) (r : Rests t) where
 
     -- an end
     module _ (blame : Option Blame) (steps : ℕ) (next : Next (Resign blame steps) v) where
-      pub may_resign : new ≡ slot.Roll (resigned t.path t.children blame steps q) → Leaves left_resigned key slots seat1.id (with_slot o new seat1.me) o
+      pub may_resign : new ≡ slot.Roll (one_fewer (record { path = t.path; children = t.children; steps = steps; blame = blame }) (counted q))
+          → Leaves left_resigned key slots seat1.id (with_slot o new seat1.me) o
       may_resign made =
           let n = count_of key in
           let e = Resign blame steps in
@@ -139,8 +180,13 @@ module _ (t : Task) (r : Rests t) where
           (subst (λ i. Leaves left_resigned key slots seat1.id (on_try true (suc v0.tries) i 0 y v0, (i, new) ∷ []) i) (sym place)
           (resigning key laws slots seat1.id (on_try true (suc v0.tries) n 0 y v0, (n, new) ∷ []) new (alive t r e next) (unborn_is next.born) refl refl refl
           t.touched blame steps (ahead_is t r e refl next (suc v0.tries) n 0 y) q (found n)
-          (subst (λ (z : View). new ≡ slot.Roll (resigned z.seat.path z.seat.children blame steps q)) (sym (passed_is n))
-          (made ∙ λ i. slot.Roll (resigned (path_is t r i) (children_is t r i) blame steps q)))))
+          (subst (λ (z : View). new ≡ slot.Roll (one_fewer (record {
+            path = z.seat.path;
+            children = z.seat.children;
+            steps = steps;
+            blame = blame;
+          }) (counted q))) (sym (passed_is n))
+          (made ∙ λ i. slot.Roll (one_fewer (record { path = path_is t r i; children = children_is t r i; steps = steps; blame = blame }) (counted q))))))
 
       pub resigned_is : (after : Me Slot View) → left_resigned (step slots o 0 0 none) (with_slot o new seat1.me) 0 after → after
           ≡ (gone (is_deserted new) there, [])
@@ -153,13 +199,19 @@ module _ (t : Task) (r : Rests t) where
       module _ (t3 : Task) (last : Bool) (me : t3.seat.me ≡ (gone last there, [])) (counts : (t3.touched ≡ 0) × (t3.events ≡ (t.events + 1) % 2 ^ 64)) where
         pub resigned_rests : t3.path ≡ t.path → t3.children ≡ t.children → t3.over ≡ last → Rests t3
         resigned_rests path children over =
-            left_rests t r t3 (gone last there) me (path ∙ path_is t r) (children ∙ children_is t r) over counts refl refl
+            left_rests t r t3 (gone last there) me (path ∙ path_is t r) (λ l. absurd (cc)) (children ∙ children_is t r) over counts refl refl
             (λ k e. absurd (none_some k (sym next.born ∙ e)))
 
-        pub resigned_shown : last ≡ nobody (resigned t.path t.children blame steps q).live → Ended o blame steps v (shown t3)
+        pub resigned_shown : last ≡ nobody (but_first (counted q).live) → Ended o blame steps v (shown t3)
         resigned_shown is_last =
+            let path : v0.seat.path ≡ v.seat.path = sym (passed_same t.touched v0).path in
+            let among : is_among v.seat.path q.live ≡ true = subst (λ p. is_among p q.live ≡ true) path (is_there slots v0 o y turn.told q is) in
             let now : last ≡ nobody (resigned v.seat.path v.seat.children blame steps q).live =
-            is_last ∙ λ i. nobody (resigned (path_is t r i) (children_is t r i) blame steps q).live in
+            is_last ∙ alone v.seat.path q.live among
+            ∙ sym (ap (λ c. nobody (if c then record {
+              live = without v.seat.path q.live;
+              notes = noting (record { path = v.seat.path; children = v.seat.children; steps = steps; blame = blame }) q.notes;
+            } else q).live) among) in
             record {
               roll = q;
               after = done_shown t r t3 (gone last there) me counts.0
@@ -217,6 +269,7 @@ module _ (t : Task) (r : Rests t) where
             idle = ap (λ (m : Me Slot View). m.0.turn) is ∙ r.idle;
             touches = to (λ m. all_touches t.touched m.0 ≡ true) (all_like t.touched t.seat.me.0 (without_kid t.seat.me.0) ∙ r.touches);
             path = to (λ m. t.path ≡ m.0.seat.path) r.path;
+            spare = to (λ m. m.0.live ≡ true → t.spare ≡ Some t.path) r.spare;
             children = to (λ m. t.children ≡ m.0.seat.children) r.children;
             events = to (λ m. t.events ≡ (passed t.touched m.0).seat.walker.done % 2 ^ 64) (r.events
                 ∙ ap (λ (z : View). z.seat.walker.done % 2 ^ 64) (sym (passed_like t.touched t.seat.me.0 (without_kid t.seat.me.0))));
@@ -231,7 +284,7 @@ module _ (t : Task) (r : Rests t) where
 
     -- and the child's
     module _ (kid : Task) (is : kid.seat.me ≡ (kid_view t.seat.me.0.unborn t.seat.me.0, [])) (path : kid.path ≡ t.path ++ youngest.number ∷ [])
-        (children : kid.children ≡ 0) (counts : (kid.events ≡ 0) × (kid.touched ≡ 0)) (over : kid.over ≡ false) where
+        (spare : kid.spare ≡ Some kid.path) (children : kid.children ≡ 0) (counts : (kid.events ≡ 0) × (kid.touched ≡ 0)) (over : kid.over ≡ false) where
       first : kid.seat.me ≡ (kid_view (Some baby) t.seat.me.0, [])
       first = is ∙ ap (λ z. (kid_view z t.seat.me.0, [])) had
 
@@ -243,6 +296,7 @@ module _ (t : Task) (r : Rests t) where
             idle = ap (λ (m : Me Slot View). m.0.turn) first;
             touches = ap (λ k. all_touches k kid.seat.me.0) counts.1;
             path = to (λ m. kid.path ≡ m.0.seat.path) (path ∙ ap (λ q. q ++ youngest.number ∷ []) r.path ∙ sym youngest.path);
+            spare = λ l. spare;
             children = to (λ m. kid.children ≡ m.0.seat.children) (children ∙ sym youngest.childless);
             events = counts.0 ∙ ap (λ x. x % 2 ^ 64) (sym youngest.begins
                 ∙ to (λ m. baby.walker.done ≡ m.0.seat.walker.done) refl
@@ -281,6 +335,7 @@ module _ (t : Task) (r : Rests t) where
             idle = ap (λ (m : Me Slot View). m.0.turn) is ∙ r.idle;
             touches = to (λ m. all_touches t.touched m.0 ≡ true) (all_like t.touched t.seat.me.0 both ∙ r.touches);
             path = to (λ m. t.path ≡ m.0.seat.path) r.path;
+            spare = to (λ m. m.0.live ≡ true → t.spare ≡ Some t.path) r.spare;
             children = to (λ m. t.children ≡ m.0.seat.children) r.children;
             events = to (λ m. t.events ≡ (passed t.touched m.0).seat.walker.done % 2 ^ 64) (r.events
                 ∙ ap (λ (z : View). z.seat.walker.done % 2 ^ 64) (sym (passed_like t.touched t.seat.me.0 both)));

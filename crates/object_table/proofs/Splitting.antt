@@ -13,7 +13,7 @@ use Rattle.schedule_core.specs.declared.steps.Seat.{Seat}
 use Rattle.schedule_core.specs.Plain.{Reached}
 use Rattle.schedule_core.proofs.Lines.{every_append, every_front, every_back, every_apply}
 use Rattle.jade_meaning.specs.Plan.{RunPlan}
-use Rattle.object_table.specs.Views.{count_of, View, part_of, core_notes}
+use Rattle.object_table.specs.Views.{count_of, View, part_of, core_notes, bare}
 use Rattle.object_table.specs.Rule.{pass_of, kid_of, Absent, Spot, OnRoll, Owned, by_pass, by_maker, TurnOk, PlaceOk, free, taken, SeatOk, Ruled}
 use Rattle.object_table.specs.Plays.{without_kid, kid_view}
 use Rattle.object_table.specs.declared.slot.Slot.{Slot}
@@ -169,7 +169,7 @@ module _ (key : RunPlan) (s : table.State Slot View) (h : Ruled key s) (id : ℕ
       by_maker j z k (at_longer (set s.views id left) (right ∷ []) j z (set_else s.views id j left (λ same. ne (is ∙ ap kid_of same)) ∙ e)) unborn is
 
   place : (p : ℕ) → PlaceOk n s h.holder parts p → PlaceOk n new h.holder parts2 p
-  place p (free y w0 home is) = free y w0 home (is ∙ same_part p)
+  place p (free y w0 home is) = free y w0 home (is ∙ ap bare (same_part p))
   place p (taken z w1 e t l) = dite (ℕ_discrete (h.holder p) id)
       (λ same.
       let q : v ≡ z = same_view s.views id (h.holder p) v z at e same in

@@ -17,7 +17,8 @@ use Rattle.schedule_core.specs.ByNumber.{shelf_at}
 use Rattle.schedule_core.specs.Plain.{begins, root_seat, root_shelves}
 use Rattle.task_roll.specs.Rolls.{started as begun}
 use Rattle.jade_meaning.specs.Plan.{RunPlan}
-use Rattle.object_table.specs.Views.{count_of, View, shelf_of, part_of}
+use Rattle.object_table.specs.Tallies.{counted}
+use Rattle.object_table.specs.Views.{count_of, word_of, View, shelf_of, part_of, bare}
 use Rattle.object_table.specs.Rule.{hold_of, nothing, pass_of, by_pass, free, SeatOk, Ruled, first_view}
 use Rattle.object_table.specs.steps.Kept.{start_slots, FirstSlots}
 use Rattle.object_table.specs.declared.slot.Slot.{Slot}
@@ -77,15 +78,16 @@ module _ (key : RunPlan) where
   abbrev parts : ℕ → Slot
   parts o = part_of n o (root ∷ []) (root_shelves ns) []
 
-  part_at : (o : ℕ) → o < suc n → get_elem? (start_slots ns ++ slot.Roll begun ∷ []) o ≡ some (parts o)
+  part_at : (o : ℕ) → o < suc n → get_elem? (start_slots ns ++ slot.Roll (counted begun) ∷ []) o ≡ some (bare (parts o))
   part_at o lt = dite (ℕ_discrete o n)
-      (λ same. subst (λ i. get_elem? (start_slots ns ++ slot.Roll begun ∷ []) i ≡ some (parts i)) (sym same)
-      (last_at ns (slot.Roll begun) ∙ ap some (sym (ap (λ b. if b then slot.Roll begun else slot.Object (shelf_of (shelf_at (root_shelves ns) n)))
+      (λ same. subst (λ i. get_elem? (start_slots ns ++ slot.Roll (counted begun) ∷ []) i ≡ some (bare (parts i))) (sym same)
+      (last_at ns (slot.Roll (counted begun))
+      ∙ ap some (sym (ap (λ b. bare (if b then slot.Roll begun else slot.Object (shelf_of (shelf_at (root_shelves ns) n))))
       (eq-eqb n n refl)))))
-      (λ ne. object_at ns (slot.Roll begun ∷ []) o (omega (arith, ne, lt))
-      ∙ ap some (sym (ap (λ b. if b then slot.Roll begun else slot.Object (shelf_of (shelf_at (root_shelves ns) o))) (ne_eqb o n ne))))
+      (λ ne. object_at ns (slot.Roll (counted begun) ∷ []) o (omega (arith, ne, lt))
+      ∙ ap some (sym (ap (λ b. bare (if b then slot.Roll begun else slot.Object (shelf_of (shelf_at (root_shelves ns) o)))) (ne_eqb o n ne))))
 
-  first : SeatOk n (replicate (suc n) 0) (pass_of 0 ∷ []) (λ x. root) (λ o. 0) (root_shelves ns) parts key 0 (first_view key)
+  first : SeatOk n (replicate (word_of (suc n)) 0) (pass_of 0 ∷ []) (λ x. root) (λ o. 0) (root_shelves ns) parts key 0 (first_view key)
   first = record {
     plan = λ e. refl;
     sits = record {
@@ -99,7 +101,7 @@ module _ (key : RunPlan) where
     busy = λ e. absurd (cc);
   }
 
-  pub starts : (ws : List ℕ) (xs : List Slot) → FirstSlots ns xs → ws ≡ replicate (suc n) 0 → Ruled key (opening ws xs (first_view key))
+  pub starts : (ws : List ℕ) (xs : List Slot) → FirstSlots ns xs → ws ≡ replicate (word_of (suc n)) 0 → Ruled key (opening ws xs (first_view key))
   starts ws xs f zeros = subst (λ l. Ruled key (opening l xs (first_view key))) (sym zeros) (record {
     count = 0;
     owners = pass_of 0 ∷ [];
@@ -108,15 +110,16 @@ module _ (key : RunPlan) where
     told = [];
     holder = λ o. 0;
     reached = begins;
-    wide = repeated (suc n);
-    deep = mapped xs ∙ ap length f.is ∙ slots_length ns (slot.Roll begun);
+    wide = repeated (word_of (suc n));
+    deep = mapped xs ∙ ap length f.is ∙ slots_length ns (slot.Roll (counted begun));
     passes = seat;
     only = (by_pass 0 (first_view key) refl refl refl, tt);
-    places = λ o lt. free (parts o) (all_zeros (suc n) o) (at_map some xs o (parts o) (ap (λ l. get_elem? l o) f.is ∙ part_at o lt)) refl;
+    places = λ o lt. free (bare (parts o)) (all_zeros (word_of (suc n)) (word_of o))
+        (at_map some xs o (bare (parts o)) (ap (λ l. get_elem? l o) f.is ∙ part_at o lt)) refl;
   })
     where
       seat : (id : ℕ) (v : View) → get_elem? (first_view key ∷ []) id ≡ some v
-          → SeatOk n (replicate (suc n) 0) (pass_of 0 ∷ []) (λ x. root) (λ o. 0) (root_shelves ns) parts key id v
-      seat zero v e = subst (λ (z : View). SeatOk n (replicate (suc n) 0) (pass_of 0 ∷ []) (λ x. root) (λ o. 0) (root_shelves ns) parts key 0 z)
+          → SeatOk n (replicate (word_of (suc n)) 0) (pass_of 0 ∷ []) (λ x. root) (λ o. 0) (root_shelves ns) parts key id v
+      seat zero v e = subst (λ (z : View). SeatOk n (replicate (word_of (suc n)) 0) (pass_of 0 ∷ []) (λ x. root) (λ o. 0) (root_shelves ns) parts key 0 z)
           (some-injective (first_view key) v e) first
       seat (suc id) v e = absurd (some-ne-none v (sym e))

@@ -99,7 +99,7 @@ abbrev pub TriedAs : ℕ → View → Tried → View → Type 0
 TriedAs o v tried.Done w = Did o v.held v w
 TriedAs o v (tried.Busy n) w = IsBusy n o v w
 
--- one try more, which read 0 at the roll's place, whose slot showed this
+-- one try more, which read 0 at the roll's place, where the roll was this
 abbrev pub saw_roll : ℕ → RollView → View → View
 saw_roll o r v = record v { tries = suc v.tries; place = o; word = 0; note = slot.Roll r }
 

@@ -1,3 +1,4 @@
+pub mod Tallies
 pub mod Views
 pub mod Codes
 pub mod Touches

@@ -12,7 +12,7 @@ use Rattle.object_shelf.specs.Homes.{hand_in}
 use Rattle.schedule_core.specs.declared.steps.Seat.{Seat}
 use Rattle.task_roll.specs.declared.note.PartNote.{PartNote}
 use Rattle.schedule_core.specs.Plain.{Reached, seat_after, Born}
-use Rattle.object_table.specs.Views.{View, part_of, core_notes}
+use Rattle.object_table.specs.Views.{word_of, View, part_of, bare, core_notes}
 use Rattle.object_table.specs.Touches.{put_held, is_touch, passed, all_touches}
 use Rattle.object_table.specs.Rule.{Agrees}
 use Rattle.object_table.specs.declared.slot.Slot.{Slot}
@@ -40,11 +40,15 @@ tried_at o r v = record v { tries = suc v.tries; place = o; word = r }
 abbrev pub in_turn : ℕ → Slot → View → View
 in_turn o y v = record v { turn = true; tries = suc v.tries; place = o; word = 0; note = y }
 
--- a try: the pass gets the turn and the slot, or found that another has it
+-- a try at a place: the pass gets the turn and the slot, or found that another has it
+abbrev pub tried_there : (slots o : ℕ) → Me Slot View → ℕ → Me Slot View → Type 0
+tried_there slots o m r m' =
+    (r ≡ 0 → (y : Slot) × (m' ≡ (in_turn o y m.0, (o, bare y) ∷ m.1)) × (m.0.live ≡ true → Told slots m.0 o y))
+    × (r ≢ 0 → (r ≡ 1) × (m' ≡ (tried_at o 1 m.0, m.1)))
+
+-- a try at the word of a place
 abbrev pub tried : Step Slot → Me Slot View → ℕ → Me Slot View → Type 0
-tried st m r m' =
-    (r ≡ 0 → (y : Slot) × (m' ≡ (in_turn st.word y m.0, (st.word, y) ∷ m.1)) × (m.0.live ≡ true → Told st.slots m.0 st.word y))
-    × (r ≢ 0 → (r ≡ 1) × (m' ≡ (tried_at st.word 1 m.0, m.1)))
+tried st m r m' = (o : ℕ) → st.word ≡ word_of o → tried_there st.slots o m r m'
 
 -- the turn is left
 abbrev pub turned_off : View → View

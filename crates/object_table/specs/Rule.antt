@@ -14,7 +14,7 @@ use Rattle.task_roll.specs.declared.note.PartNote.{PartNote}
 use Rattle.schedule_core.specs.ByNumber.{shelf_at}
 use Rattle.schedule_core.specs.Plain.{Reached, root_seat}
 use Rattle.jade_meaning.specs.Plan.{RunPlan}
-use Rattle.object_table.specs.Views.{count_of, View, part_of, core_notes}
+use Rattle.object_table.specs.Views.{count_of, word_of, View, part_of, bare, core_notes}
 use Rattle.object_table.specs.Touches.{held_at}
 use Rattle.object_table.specs.declared.slot.Slot.{Slot}
 use Rattle.object_table.specs.declared.slot.Slot.TheVariants as slot
@@ -74,14 +74,14 @@ module _ (n : ℕ) where
   -- a pass with a turn holds the word of its place, and found there what that part is still
   pub record TurnOk (words : List ℕ) (holder : ℕ → ℕ) (parts : ℕ → Slot) (id : ℕ) (v : View) : Type 0 where
     pub inside : v.place < suc n
-    pub word : slice_index words v.place ≡ 1
+    pub word : slice_index words (word_of v.place) ≡ 1
     pub holds : holder v.place ≡ id
     pub found : v.note ≡ parts v.place
 
   -- a word is free, and its slot shows its part, or one pass has a turn there
   pub data PlaceOk (s : table.State Slot View) (holder : ℕ → ℕ) (parts : ℕ → Slot) (o : ℕ) : Type 0 where
-    free : (y : Slot) → slice_index s.words o ≡ 0 → get_elem? s.homes o ≡ some (some y) → y ≡ parts o → PlaceOk s holder parts o
-    taken : (v : View) → slice_index s.words o ≡ 1 → get_elem? s.views (holder o) ≡ some v → v.turn ≡ true → v.place ≡ o → PlaceOk s holder parts o
+    free : (y : Slot) → slice_index s.words (word_of o) ≡ 0 → get_elem? s.homes o ≡ some (some y) → y ≡ bare (parts o) → PlaceOk s holder parts o
+    taken : (v : View) → slice_index s.words (word_of o) ≡ 1 → get_elem? s.views (holder o) ≡ some v → v.turn ≡ true → v.place ≡ o → PlaceOk s holder parts o
 
   pub record SeatOk (words : List ℕ) (owners : List ℕ) (seats : ℕ → Seat) (holder : ℕ → ℕ) (ss : List ObjectView) (parts : ℕ
       → Slot) (key : RunPlan) (id : ℕ) (v : View) : Type 0 where
@@ -99,7 +99,7 @@ module _ (n : ℕ) where
     pub told : List PartNote
     pub holder : ℕ → ℕ
     pub reached : Reached key.program key.numbers key.limit count (map seats owners) shelves (core_notes told)
-    pub wide : length s.words ≡ suc n
+    pub wide : length s.words ≡ word_of (suc n)
     pub deep : length s.homes ≡ suc n
     pub passes : (id : ℕ) (v : View) → get_elem? s.views id ≡ some v
         → SeatOk s.words owners seats holder shelves (λ o. part_of n o (map seats owners) shelves told) key id v

@@ -1,5 +1,5 @@
 -- What a pass shows of its task, and what the slots show of the objects and of the roll.
-use Rattle.std.specs.Prelude.{ℕ, Bool, true, false, List, [], ◌∷◌, length, Option, Some, None, ℤ, if◌then◌else◌, nat_eq}
+use Rattle.std.specs.Prelude.{ℕ, ◌*◌, Bool, true, false, List, [], ◌∷◌, length, Option, Some, None, ℤ, if◌then◌else◌, nat_eq}
 use Rattle.jade_base.specs.Held.{Held}
 use Rattle.jade_syntax.specs.Objects.{sizes}
 use Rattle.object_shelf.specs.Views.{ObjectView, ShelfView}
@@ -9,12 +9,17 @@ use Rattle.task_roll.specs.declared.note.PartNote.{PartNote}
 use Rattle.task_roll.specs.Rolls.{by_key}
 use Rattle.schedule_core.specs.ByNumber.{shelf_at}
 use Rattle.jade_meaning.specs.Plan.{RunPlan}
+use Rattle.object_table.specs.Tallies.{counted}
 use Rattle.object_table.specs.declared.slot.Slot.{Slot}
 use Rattle.object_table.specs.declared.slot.Slot.TheVariants as slot
 
 -- how many objects a plan's program declares
 abbrev pub count_of : RunPlan → ℕ
 count_of k = length (sizes k.program.items)
+
+-- the number of the word of a place: words lie so far apart that no two share a cache line
+abbrev pub word_of : ℕ → ℕ
+word_of o = o * 8
 
 -- what a pass shows: the plan; whether its task is live; the seat of the child that it enrolled last, while that has no pass; its task's seat,
 -- with its path, the values read and the events done; by object the contents held; whether the roll was left empty by it, or by a pass taken
@@ -53,3 +58,9 @@ core_notes ns = by_key ns
 abbrev pub part_of : (count number : ℕ) → List Seat → List ObjectView → List PartNote → Slot
 part_of n o roll ss notes =
     if nat_eq o n then slot.Roll (record { live = paths_of roll; notes = notes }) else slot.Object (shelf_of (shelf_at ss o))
+
+-- the same as it lies in the slot: of the roll the tally alone
+abbrev pub bare : Slot → Slot
+bare slot.Away = slot.Away
+bare (slot.Object x) = slot.Object x
+bare (slot.Roll r) = slot.Roll (counted r)

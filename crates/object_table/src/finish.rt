@@ -63,6 +63,7 @@ fn close<'c>(
     let Task {
         seat,
         path: _,
+        spare: _,
         children: _,
         events: _,
         touched: _,
@@ -148,7 +149,7 @@ fn notes_of(alloc: Global, slot: Slot) -> Vec<PartNote>
     ensures { result.items ≡ notes_in slot }
 {
     match slot {
-        Slot::Roll(roll) => roll.into_notes(),
+        Slot::Roll(tally) => tally.into_notes(),
         Slot::Away => Vec::new(alloc),
         Slot::Object(_) => Vec::new(alloc),
     }

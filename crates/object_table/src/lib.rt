@@ -7,6 +7,7 @@ mod pass;
 mod ran;
 mod slot;
 mod table;
+mod tally;
 mod task;
 mod turns;
 mod view;

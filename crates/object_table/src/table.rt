@@ -4,7 +4,7 @@ ghost use Rattle.std.specs.Prelude.{◌≡◌, ◌<◌, ◌∷◌, [], true, Som
 ghost use Rattle.jade_meaning.specs.Talk.{Task as TaskOf, Take, Give, Enter, Enroll, Shift, Leave, Resign};
 ghost use Rattle.schedule_core.specs.declared.steps.Seat.{Seat as SeatOf};
 ghost use Rattle.jade_syntax.specs.Objects.{sizes};
-ghost use Rattle.object_table.specs.Views.{count_of};
+ghost use Rattle.object_table.specs.Views.{count_of, word_of};
 ghost use Rattle.object_table.specs.Rule.{first_view};
 ghost use Rattle.object_table.specs.Touches.{held_at, put_held};
 ghost use Rattle.object_table.specs.Plays.{without_kid, kid_view, joined};
@@ -16,6 +16,7 @@ use crate::finish::finish_with;
 use crate::pass::TaskPass;
 use crate::ran::Ran;
 use crate::slot::Slot;
+use crate::tally::Tally;
 use crate::task::Task;
 use crate::turns::{
     enroll_at, enter_at, give_at, leave_at, resign_at, shift_at, split_off, take_at, take_in,
@@ -27,7 +28,6 @@ use jade_meaning::Plan;
 use object_shelf::Shelf;
 use std::alloc::Global;
 use std::marker::Model;
-use task_roll::Roll;
 
 /// The objects of one run. Threads share it, and each task has a pass. There is one word and one
 /// slot for each object, with its shelf, and one for the roll. No call waits: each makes one try at
@@ -64,8 +64,8 @@ fn first_slots(alloc: Global, root: &Path, plan: &Plan) -> Result<Vec<Slot>, Mem
     ensures { IfOk result (λ slots. FirstSlots (sizes plan.now.program.items) slots.items) }
 {
     let mut slots = first_objects(alloc, root, plan)?;
-    let roll = Roll::start(alloc)?;
-    slots.push(Slot::Roll(roll))?;
+    let tally = Tally::start(alloc)?;
+    slots.push(Slot::Roll(tally))?;
     Ok(slots)
 }
 
@@ -83,6 +83,16 @@ fn first_objects(alloc: Global, root: &Path, plan: &Plan) -> Result<Vec<Slot>, M
     Ok(slots)
 }
 
+// How many words there are for so many places. The error stands for more than there can be.
+fn words_for(places: usize) -> Result<usize, Memory>
+    ensures { IfOk result (λ n. n ≡ word_of places) }
+{
+    match places.checked_mul(8) {
+        Some(words) => Ok(words),
+        None => Err(Memory),
+    }
+}
+
 impl<'c> ObjectTable<'c> {
     /// The objects of the plan's program, with zeros, and the pass of its root, with no event done.
     /// The error is want of memory.
@@ -91,13 +101,15 @@ impl<'c> ObjectTable<'c> {
         ensures pass { IfOk result (λ r. (r.1.mark ≡ r.0.mark) × (r.1.shows ≡ first_view plan.now)) }
     {
         let path = Path::root(alloc)?;
+        let spare = path.copy(alloc)?;
         let slots = first_slots(alloc, &path, plan)?;
-        let words = Vec::from_elem(alloc, 0, slots.len())?;
+        let words = Vec::from_elem(alloc, 0, words_for(slots.len())?)?;
         match Table::new(alloc, words.as_slice(), slots, plan) {
             Ok((table, seat)) => {
                 let task = Task {
                     seat,
                     path,
+                    spare: Some(spare),
                     children: 0,
                     events: 0,
                     touched: 0,

@@ -1,13 +1,16 @@
 //! Turns at the words, and what is done in them.
 
-ghost use Rattle.std.specs.Prelude.{◌≡◌, ◌<◌, ◌%◌, ◌+◌, ◌^◌, ◌∷◌, ◌++◌, ◌||◌, [], ℕ, true, false, None, Some, IfOk, IfErr, OnOk, OnErr, MatchOption};
+ghost use Rattle.std.specs.Prelude.{◌≡◌, ◌<◌, ◌%◌, ◌+◌, ◌^◌, ◌∷◌, ◌++◌, ◌||◌, [], ℕ, true, false, None, Some, IfOk, IfErr, IsSome, OnOk, OnErr, MatchOption};
 ghost use mathlib.Core.Option.{none};
 ghost use Rattle.atomic_table.specs.Table.{Me, Step, step, rest};
 ghost use Rattle.jade_meaning.specs.Talk.{Task as TaskOf, Take, Give, Enter, Enroll, Shift, Leave, Resign};
 ghost use Rattle.object_shelf.specs.Views.{ShelfView};
 ghost use Rattle.object_shelf.specs.Shelves.{keeper_in, at, without, entered_in, with_rights};
 ghost use Rattle.object_shelf.specs.Homes.{hand_in, handed, returned, on_queue};
-ghost use Rattle.object_table.specs.Plays.{tried_at, nobody, is_deserted, without_kid, joined};
+ghost use Rattle.task_roll.specs.Rolls.{RollView};
+ghost use Rattle.object_table.specs.Tallies.{counted, one_more};
+ghost use Rattle.object_table.specs.Views.{word_of, bare};
+ghost use Rattle.object_table.specs.Plays.{tried_at, nobody, without_kid, joined};
 ghost use Rattle.object_table.specs.Touches.{held_at, put_held};
 ghost use Rattle.object_table.specs.Calls.{Next, TakenAs, TriedAs, EnrolledAs, ResignedAs, AsBefore, Did, Bore, Ended, IsBusy, IsGone};
 ghost use Rattle.schedule_core.specs.declared.steps.Seat.{Seat as SeatOf};
@@ -20,6 +23,7 @@ ghost use Rattle.jade_meaning.specs.Plan.{RunPlan};
 
 use crate::answers::{Taken, Tried};
 use crate::slot::Slot;
+use crate::tally::Tally;
 use crate::task::Task;
 use crate::view::{Bearing, Desist, Enrolling, Finish, Joining, Resigning, Sharing, Try, View};
 use atomic_table::{Play, Seat, Shared};
@@ -27,7 +31,6 @@ use jade_base::{Blame, Content, Memory, Mode, Path, Rights};
 use jade_meaning::Plan;
 use object_shelf::Shelf;
 use std::alloc::Global;
-use task_roll::Roll;
 
 /// The words and slots of a table.
 pub(crate) type Words<'c> = Shared<Slot, View, Plan<'c>, Sharing>;
@@ -38,23 +41,24 @@ fn core_laws()
 {
     schedule_core::laws::core_tells();
     schedule_core::laws::entries_are_there();
-    schedule_core::laws::in_serial_order();
     schedule_core::laws::holders_are_live();
 }
 
-// One try at a turn; with it the slot's value is taken out.
+// One try at a turn; with it the slot's value is taken out. The word of a place lies 8 words behind
+// that of the one before, so that no two share a cache line of 64 bytes.
 pub(crate) fn take_turn(
     words: &Words,
     seat: &mut Seat<Slot, View>,
     place: usize,
 ) -> Result<Slot, u64>
-    requires table { (seat.old.table_id ≡ words.now.table_id) × (place < words.now.table_id.slots) × (words.now.table_id.words ≡ words.now.table_id.slots) }
+    requires laid { Laid words.now.table_id words.now.key }
+    requires table { (seat.old.table_id ≡ words.now.table_id) × (place < words.now.table_id.slots) }
     requires rests { (seat.old.me.1 ≡ []) × (seat.old.me.0.turn ≡ false) × (seat.old.me.0.live ≡ true) }
     ensures mark { seat.new.table_id ≡ seat.old.table_id }
-    ensures got { IfOk result (λ y. InTurn words.now.table_id.slots place y seat.old.me seat.new.me) }
+    ensures got { IfOk result (λ x. (y : SlotOf) × (x ≡ bare y) × InTurn words.now.table_id.slots place y seat.old.me seat.new.me) }
     ensures busy { IfErr result (λ n. (n ≡ 1) × (seat.new.me ≡ (tried_at place 1 seat.old.me.0, []))) }
 {
-    let found = words.compare_exchange::<Try>(seat, place, 0, 1);
+    let found = words.compare_exchange::<Try>(seat, place * 8, 0, 1);
     if found != 0 {
         return Err(found);
     }
@@ -69,20 +73,22 @@ pub(crate) fn leave_turn<P: Play<Slot, View>>(
     place: usize,
     slot: Slot,
 )
-    requires table { (seat.old.table_id ≡ words.now.table_id) × (place < words.now.table_id.words) }
+    requires laid { Laid words.now.table_id words.now.key }
+    requires table { (seat.old.table_id ≡ words.now.table_id) × (place < words.now.table_id.slots) }
     requires out { (y : SlotOf) × (seat.old.me.1 ≡ (place, y) ∷ rest seat.old.me.1) }
     requires allowed { Leaves P.then words.now.key words.now.table_id.slots seat.old.id (with_slot place slot seat.old.me) place }
     ensures mark { seat.new.table_id ≡ seat.old.table_id }
-    ensures done { P.then (step words.now.table_id.slots place 0 0 none) (with_slot place slot seat.old.me) 0 seat.new.me }
+    ensures done { P.then (step words.now.table_id.slots (word_of place) 0 0 none) (with_slot place slot seat.old.me) 0 seat.new.me }
 {
     let _ = words.exchange(seat, place, slot);
-    words.store::<P>(seat, place, 0);
+    words.store::<P>(seat, place * 8, 0);
 }
 
 // An event is done, with the touches before it.
 fn settle(task: &mut Task)
     ensures seat { task.new.seat ≡ task.old.seat }
     ensures path { (task.new.path ≡ task.old.path) × (task.new.children ≡ task.old.children) × (task.new.over ≡ task.old.over) }
+    ensures spare { task.new.spare ≡ task.old.spare }
     ensures events { (task.new.touched ≡ 0) × (task.new.events ≡ (task.old.events + 1) % 2 ^ 64) }
 {
     task.events = task.events.wrapping_add(1);
@@ -91,21 +97,78 @@ fn settle(task: &mut Task)
 
 // One try at a turn, with which the slot's value is taken out; without it the try is over.
 fn begin(words: &Words, task: &mut Task, place: usize) -> Result<Slot, u64>
+    requires laid { Laid words.now.table_id words.now.key }
     requires table { (task.old.seat.table_id ≡ words.now.table_id) × (place < words.now.table_id.slots) }
-    requires wide { words.now.table_id.words ≡ words.now.table_id.slots }
     requires rests { Rests task.old }
     requires live { (shown task.old).live ≡ true }
     ensures mark { task.new.seat.table_id ≡ task.old.seat.table_id }
-    ensures got { IfOk result (λ y. Begun words.now.table_id.slots place y task.old task.new) }
+    ensures got { IfOk result (λ x. (y : SlotOf) × (x ≡ bare y) × Begun words.now.table_id.slots place y task.old task.new) }
     ensures over { IfErr result (λ _. Rests task.new) }
     ensures busy { IfErr result (λ n. IsBusy n place (shown task.old) (shown task.new)) }
 {
     take_turn(words, &mut task.seat, place)
 }
 
+// The shelf of an object's slot.
+fn shelf_in(slot: Slot) -> Shelf
+    requires { IsObject slot }
+    ensures { slot ≡ SlotOf.Object result }
+{
+    match slot {
+        Slot::Object(shelf) => shelf,
+        Slot::Away => unreachable!(),
+        Slot::Roll(_) => unreachable!(),
+    }
+}
+
+// The tally of the roll's slot.
+fn tally_in(slot: Slot) -> Tally
+    requires { IsRoll slot }
+    ensures { slot ≡ SlotOf.Roll result }
+{
+    match slot {
+        Slot::Roll(tally) => tally,
+        Slot::Away => unreachable!(),
+        Slot::Object(_) => unreachable!(),
+    }
+}
+
+// The same at an object, whose shelf is taken out.
+fn begin_at(words: &Words, task: &mut Task, object: usize) -> Result<Shelf, u64>
+    requires fits { Fits words.now.table_id words.now.key task.old object }
+    requires rests { Rests task.old }
+    requires live { (shown task.old).live ≡ true }
+    ensures mark { task.new.seat.table_id ≡ task.old.seat.table_id }
+    ensures got { IfOk result (λ z. Begun words.now.table_id.slots object (SlotOf.Object z) task.old task.new) }
+    ensures over { IfErr result (λ _. Rests task.new) }
+    ensures busy { IfErr result (λ n. IsBusy n object (shown task.old) (shown task.new)) }
+{
+    match begin(words, task, object) {
+        Ok(slot) => Ok(shelf_in(slot)),
+        Err(word) => Err(word),
+    }
+}
+
+// The same at the roll, whose tally is taken out.
+fn begin_roll(words: &Words, task: &mut Task, place: usize) -> Result<Tally, u64>
+    requires fits { FitsRoll words.now.table_id words.now.key task.old place }
+    requires rests { Rests task.old }
+    requires live { (shown task.old).live ≡ true }
+    ensures mark { task.new.seat.table_id ≡ task.old.seat.table_id }
+    ensures got { IfOk result (λ z. (r : RollView) × (z ≡ counted r) × Begun words.now.table_id.slots place (SlotOf.Roll r) task.old task.new) }
+    ensures over { IfErr result (λ _. Rests task.new) }
+    ensures busy { IfErr result (λ n. IsBusy n place (shown task.old) (shown task.new)) }
+{
+    match begin(words, task, place) {
+        Ok(slot) => Ok(tally_in(slot)),
+        Err(word) => Err(word),
+    }
+}
+
 // The turn at an object is left with the task's next event done, which made this of the object.
 fn complete(words: &Words, task: &mut Task, object: usize, slot: Slot)
-    requires table { (task.old.seat.table_id ≡ words.now.table_id) × (object < words.now.table_id.words) }
+    requires laid { Laid words.now.table_id words.now.key }
+    requires table { (task.old.seat.table_id ≡ words.now.table_id) × (object < words.now.table_id.slots) }
     requires ending { Ending words.now.key words.now.table_id.slots object task.old slot }
     ensures mark { task.new.seat.table_id ≡ task.old.seat.table_id }
     ensures rests { Rests task.new }
@@ -119,18 +182,20 @@ fn complete(words: &Words, task: &mut Task, object: usize, slot: Slot)
 
 // The turn is left with nothing done; the slot's value is the one that was found.
 fn desist(words: &Words, task: &mut Task, place: usize, slot: Slot)
-    requires table { (task.old.seat.table_id ≡ words.now.table_id) × (place < words.now.table_id.words) }
-    requires begun { (before : TaskState) × Begun words.now.table_id.slots place slot before task.old }
+    requires laid { Laid words.now.table_id words.now.key }
+    requires table { (task.old.seat.table_id ≡ words.now.table_id) × (place < words.now.table_id.slots) }
+    requires begun { (before : TaskState) × (y : SlotOf) × (slot ≡ bare y) × Begun words.now.table_id.slots place y before task.old }
     ensures mark { task.new.seat.table_id ≡ task.old.seat.table_id }
     ensures rests { Rests task.new }
-    ensures after { (before : TaskState) → Begun words.now.table_id.slots place slot before task.old → Desisted place slot before task.new }
+    ensures after { (before : TaskState) (y : SlotOf) → slot ≡ bare y → Begun words.now.table_id.slots place y before task.old → Desisted place y before task.new }
 {
     leave_turn::<Desist>(words, &mut task.seat, place, slot);
 }
 
 // The turn at the roll is left with the next child made, with which the task has made so many.
 fn bear(words: &Words, task: &mut Task, place: usize, slot: Slot, children: u32)
-    requires table { (task.old.seat.table_id ≡ words.now.table_id) × (place < words.now.table_id.words) }
+    requires laid { Laid words.now.table_id words.now.key }
+    requires table { (task.old.seat.table_id ≡ words.now.table_id) × (place < words.now.table_id.slots) }
     requires birth { Birth words.now.key words.now.table_id.slots place task.old slot }
     requires count { children ≡ task.old.children + 1 }
     ensures mark { task.new.seat.table_id ≡ task.old.seat.table_id }
@@ -143,32 +208,48 @@ fn bear(words: &Words, task: &mut Task, place: usize, slot: Slot, children: u32)
     task.children = children;
 }
 
-// The turn at the roll is left with the task's end done, after which the roll is empty or not.
-fn depart(words: &Words, task: &mut Task, place: usize, slot: Slot, over: bool)
-    requires table { (task.old.seat.table_id ≡ words.now.table_id) × (place < words.now.table_id.words) }
-    requires departure { Departure words.now.key words.now.table_id.slots place task.old slot }
-    requires last { over ≡ is_deserted slot }
-    ensures mark { task.new.seat.table_id ≡ task.old.seat.table_id }
-    ensures rests { Rests task.new }
-    ensures done { (p : Departure words.now.key words.now.table_id.slots place task.old slot)
-        → Ended place p.blame p.steps (shown p.before) (shown task.new) }
+// Whether no task is live.
+fn is_over(tally: &Tally) -> bool
+    ensures { result ≡ nobody tally.now.live }
 {
-    core_laws();
-    leave_turn::<Resigning>(words, &mut task.seat, place, slot);
-    settle(task);
-    task.over = over;
+    tally.is_empty()
 }
 
-// The shelf of an object's slot.
-fn shelf_in(slot: Slot) -> Shelf
-    requires { IsObject slot }
-    ensures { slot ≡ SlotOf.Object result }
+// The path that is kept for the last note.
+fn taken_out(spare: &mut Option<Path>) -> Path
+    requires { IsSome spare.old }
+    ensures { spare.old ≡ Some result }
 {
-    match slot {
-        Slot::Object(shelf) => shelf,
-        Slot::Away => unreachable!(),
-        Slot::Roll(_) => unreachable!(),
+    match spare.take() {
+        Some(path) => path,
+        None => unreachable!(),
     }
+}
+
+// The turn at the roll is left with the task's end done, after which the roll is empty or not.
+fn depart(
+    words: &Words,
+    task: &mut Task,
+    place: usize,
+    mut tally: Tally,
+    blame: Option<Blame>,
+    steps: u64,
+)
+    requires laid { Laid words.now.table_id words.now.key }
+    requires table { (task.old.seat.table_id ≡ words.now.table_id) × (place < words.now.table_id.slots) }
+    requires departure { Departure words.now.key words.now.table_id.slots place task.old tally blame steps }
+    ensures mark { task.new.seat.table_id ≡ task.old.seat.table_id }
+    ensures rests { Rests task.new }
+    ensures done { (p : Departure words.now.key words.now.table_id.slots place task.old tally blame steps)
+        → Ended place blame steps (shown p.before) (shown task.new) }
+{
+    core_laws();
+    let path = taken_out(&mut task.spare);
+    tally.resign(path, task.children, blame, steps);
+    let over = is_over(&tally);
+    leave_turn::<Resigning>(words, &mut task.seat, place, Slot::Roll(tally));
+    settle(task);
+    task.over = over;
 }
 
 // What a shelf hands out, or the path that keeps the task from it.
@@ -206,11 +287,10 @@ pub(crate) fn take_at(
     ensures rests { Rests task.new }
     ensures answer { TakenAs object mode (shown task.old) result (shown task.new) }
 {
-    let slot = match begin(words, task, object) {
-        Ok(slot) => slot,
+    let mut shelf = match begin_at(words, task, object) {
+        Ok(shelf) => shelf,
         Err(word) => return Ok(Taken::Busy(word)),
     };
-    let mut shelf = shelf_in(slot);
     let handed = hand_out(&mut shelf, alloc, &task.path, mode);
     let slot = Slot::Object(shelf);
     match handed {
@@ -245,11 +325,10 @@ pub(crate) fn give_at(
     ensures done { OnOk result (Did object (put_held object None (shown task.old).held) (shown task.old) (shown task.new)) }
     ensures busy { IfErr result (λ r. (r.0 ≡ content) × IsBusy r.1 object (shown task.old) (shown task.new)) }
 {
-    let slot = match begin(words, task, object) {
-        Ok(slot) => slot,
+    let mut shelf = match begin_at(words, task, object) {
+        Ok(shelf) => shelf,
         Err(word) => return Err((content, word)),
     };
-    let mut shelf = shelf_in(slot);
     shelf.give(&task.path, content);
     complete(words, task, object, Slot::Object(shelf));
     Ok(())
@@ -264,11 +343,10 @@ pub(crate) fn shift_at(words: &Words, task: &mut Task, object: usize, rights: Ri
     ensures rests { Rests task.new }
     ensures answer { TriedAs object (shown task.old) result (shown task.new) }
 {
-    let slot = match begin(words, task, object) {
-        Ok(slot) => slot,
+    let mut shelf = match begin_at(words, task, object) {
+        Ok(shelf) => shelf,
         Err(word) => return Tried::Busy(word),
     };
-    let mut shelf = shelf_in(slot);
     shelf.shift(&task.path, rights);
     complete(words, task, object, Slot::Object(shelf));
     Tried::Done
@@ -283,11 +361,10 @@ pub(crate) fn leave_at(words: &Words, task: &mut Task, object: usize) -> Tried
     ensures rests { Rests task.new }
     ensures answer { TriedAs object (shown task.old) result (shown task.new) }
 {
-    let slot = match begin(words, task, object) {
-        Ok(slot) => slot,
+    let mut shelf = match begin_at(words, task, object) {
+        Ok(shelf) => shelf,
         Err(word) => return Tried::Busy(word),
     };
-    let mut shelf = shelf_in(slot);
     shelf.leave(&task.path);
     complete(words, task, object, Slot::Object(shelf));
     Tried::Done
@@ -328,11 +405,10 @@ pub(crate) fn enter_at(
     ensures unchanged { OnErr result (AsBefore (shown task.old) (shown task.new)) }
 {
     let child = task.path.child(alloc, task.children)?;
-    let slot = match begin(words, task, object) {
-        Ok(slot) => slot,
+    let mut shelf = match begin_at(words, task, object) {
+        Ok(shelf) => shelf,
         Err(word) => return Ok(Tried::Busy(word)),
     };
-    let mut shelf = shelf_in(slot);
     let entered = enter_in(&mut shelf, alloc, &task.path, &child, rights);
     let slot = Slot::Object(shelf);
     match entered {
@@ -344,18 +420,6 @@ pub(crate) fn enter_at(
             desist(words, task, object, slot);
             Err(Memory)
         }
-    }
-}
-
-// The roll of the roll's slot.
-fn roll_in(slot: Slot) -> Roll
-    requires { IsRoll slot }
-    ensures { slot ≡ SlotOf.Roll result }
-{
-    match slot {
-        Slot::Roll(roll) => roll,
-        Slot::Away => unreachable!(),
-        Slot::Object(_) => unreachable!(),
     }
 }
 
@@ -379,13 +443,13 @@ pub(crate) fn enroll_at(
         Some(children) => children,
         None => return Err(Memory),
     };
-    let slot = match begin(words, task, place) {
-        Ok(slot) => slot,
+    let path = task.path.copy(alloc)?;
+    let mut tally = match begin_roll(words, task, place) {
+        Ok(tally) => tally,
         Err(word) => return Ok(Tried::Busy(word)),
     };
-    let mut roll = roll_in(slot);
-    let done = roll.enroll(alloc, &task.path, task.children, steps);
-    let slot = Slot::Roll(roll);
+    let done = tally.enroll(path, task.children, steps);
+    let slot = Slot::Roll(tally);
     match done {
         Ok(()) => {
             bear(words, task, place, slot, children);
@@ -413,22 +477,13 @@ pub(crate) fn resign_at(
     ensures rests { Rests task.new }
     ensures answer { ResignedAs place blame steps (shown task.old) result (shown task.new) }
 {
-    let slot = match begin(words, task, place) {
-        Ok(slot) => slot,
-        Err(word) => return Tried::Busy(word),
-    };
-    let mut roll = roll_in(slot);
-    roll.resign(&task.path, task.children, blame, steps);
-    let over = is_over(&roll);
-    depart(words, task, place, Slot::Roll(roll), over);
-    Tried::Done
-}
-
-// Whether no task is live.
-fn is_over(roll: &Roll) -> bool
-    ensures { result ≡ nobody roll.now.live }
-{
-    roll.is_empty()
+    match begin_roll(words, task, place) {
+        Ok(tally) => {
+            depart(words, task, place, tally, blame, steps);
+            Tried::Done
+        }
+        Err(word) => Tried::Busy(word),
+    }
 }
 
 /// The token of the child that was enrolled last, with no event done.
@@ -445,10 +500,12 @@ pub(crate) fn split_off(words: &Words, alloc: Global, task: &mut Task) -> Result
     ensures unchanged { OnErr result (shown task.new ≡ shown task.old) }
 {
     let path = task.path.child(alloc, task.children - 1)?;
+    let spare = path.copy(alloc)?;
     let seat = words.split_seat::<Bearing>(&mut task.seat);
     Ok(Task {
         seat,
         path,
+        spare: Some(spare),
         children: 0,
         events: 0,
         touched: 0,
@@ -469,6 +526,7 @@ pub(crate) fn take_in(words: &Words, keeper: &mut Task, ended: Task)
     let Task {
         seat,
         path: _,
+        spare: _,
         children: _,
         events: _,
         touched: _,

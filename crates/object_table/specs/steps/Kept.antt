@@ -18,10 +18,10 @@ use Rattle.task_roll.specs.declared.note.PartNote.{PartNote}
 use Rattle.schedule_core.specs.ByNumber.{shelf_at}
 use Rattle.schedule_core.specs.Plain.{Reached}
 use Rattle.schedule_core.specs.Tells.{CoreTells, EntriesAreThere}
-use Rattle.schedule_core.specs.Queued.{InSerialOrder}
 use Rattle.schedule_core.specs.Holders.{HoldersAreLive}
 use Rattle.jade_meaning.specs.Plan.{RunPlan}
-use Rattle.object_table.specs.Views.{count_of, View}
+use Rattle.object_table.specs.Tallies.{counted}
+use Rattle.object_table.specs.Views.{count_of, word_of, View}
 use Rattle.object_table.specs.Touches.{held_at, passed, all_touches}
 use Rattle.object_table.specs.Rule.{Ruled}
 use Rattle.object_table.specs.Plays.{Told, in_turn, kid_view}
@@ -72,6 +72,7 @@ pub record Rests (t : Task) : Type 0 where
   pub idle : t.seat.me.0.turn ≡ false
   pub touches : all_touches t.touched t.seat.me.0 ≡ true
   pub path : t.path ≡ t.seat.me.0.seat.path
+  pub spare : t.seat.me.0.live ≡ true → t.spare ≡ Some t.path
   pub children : t.children ≡ t.seat.me.0.seat.children
   pub events : t.events ≡ (shown t).seat.walker.done % 2 ^ 64
   pub over : t.over ≡ t.seat.me.0.over
@@ -83,7 +84,8 @@ IsKidOf t kid = (kid.seat.table_id ≡ t.seat.table_id) × Rests kid × (shown k
 
 -- the words and slots are those of the objects and of the roll
 pub record Laid (z : TableId) (key : RunPlan) : Type 0 where
-  pub wide : z.words ≡ z.slots
+  pub wide : z.words ≡ word_of z.slots
+  pub few : z.words < 2 ^ 64
   pub deep : z.slots ≡ suc (count_of key)
 
 -- the task is of this table, and the object is one of its program's
@@ -109,14 +111,13 @@ with_slot o new me = (me.0, (o, new) ∷ rest me.1)
 
 -- a seat may leave a turn in this way
 abbrev pub Leaves : (Step Slot → Me Slot View → ℕ → Me Slot View → Type 0) → RunPlan → (slots id : ℕ) → Me Slot View → ℕ → Type 0
-Leaves play key slots id me o = Allows (Ruled key) slots id me o (λ x. 0) (λ x. play (step slots o 0 0 none) me 0)
+Leaves play key slots id me o = Allows (Ruled key) slots id me (word_of o) (λ x. 0) (λ x. play (step slots (word_of o) 0 0 none) me 0)
 
 -- what is true of every core of a plan
 pub record Laws (key : RunPlan) : Type 0 where
   pub tells : CoreTells key.program key.numbers key.limit
   pub entries : EntriesAreThere key.program key.numbers key.limit
   pub once : Once key
-  pub order : InSerialOrder key.program key.numbers key.limit
   pub holders : HoldersAreLive key.program key.numbers key.limit
 
 -- a slot's value is the roll's
@@ -148,4 +149,4 @@ start_slots [] = []
 start_slots (n ∷ ns) = slot.Object (started (0 ∷ []) both_rights n) ∷ start_slots ns
 
 pub record FirstSlots (ns : List ℕ) (xs : List Slot) : Type 0 where
-  pub is : xs ≡ start_slots ns ++ slot.Roll begun ∷ []
+  pub is : xs ≡ start_slots ns ++ slot.Roll (counted begun) ∷ []

@@ -5,8 +5,9 @@ use Rattle.jade_base.specs.declared.report.Blame.{Blame}
 use Rattle.jade_meaning.specs.Talk.{Task as TaskOf, Event, Enter, Enroll, Take, TouchRead, TouchWrite, Wants, Give, Leave, Shift, Resign}
 use Rattle.jade_meaning.specs.Plan.{RunPlan}
 use Rattle.object_shelf.specs.Views.{ShelfView}
-use Rattle.task_roll.specs.Rolls.{RollView, enrolled, resigned}
+use Rattle.task_roll.specs.Rolls.{RollView}
 use Rattle.schedule_core.specs.Plain.{seat_after}
+use Rattle.object_table.specs.Tallies.{counted, one_more}
 use Rattle.object_table.specs.Views.{count_of, View}
 use Rattle.object_table.specs.Touches.{put_held}
 use Rattle.object_table.specs.Plays.{in_turn, held_in, handed_by}
@@ -56,28 +57,22 @@ pub record Desisted (o : ℕ) (y : Slot) (before after : Task) : Type 0 where
   pub unchanged : AsBefore (shown before) (shown after)
   pub seen : (z : ShelfView) → y ≡ slot.Object z → shown after ≡ saw o z (shown before)
 
--- the task's next event is a creation, which makes this of the roll
+-- the task's next event is a creation, which makes this of the roll's slot
 pub record Birth (key : RunPlan) (slots o : ℕ) (now : Task) (new : Slot) : Type 0 where
   pub before : Task
-  pub value : Slot
   pub roll : RollView
   pub child : TaskOf
   pub steps : ℕ
-  pub begun : Begun slots o value before now
+  pub begun : Begun slots o (slot.Roll roll) before now
   pub place : o ≡ count_of key
-  pub found : value ≡ slot.Roll roll
   pub next : Next (Enroll child steps) (shown before)
-  pub made : new ≡ slot.Roll (enrolled now.path now.children steps roll)
+  pub made : new ≡ slot.Roll (one_more (record { path = now.path; children = now.children; steps = steps; blame = None }) (counted roll))
 
--- the task's next event is its end, which makes this of the roll
-pub record Departure (key : RunPlan) (slots o : ℕ) (now : Task) (new : Slot) : Type 0 where
+-- the task's next event is its end, and this was found in the roll's slot
+pub record Departure (key : RunPlan) (slots o : ℕ) (now : Task) (tally : RollView) (blame : Option Blame) (steps : ℕ) : Type 0 where
   pub before : Task
-  pub value : Slot
   pub roll : RollView
-  pub blame : Option Blame
-  pub steps : ℕ
-  pub begun : Begun slots o value before now
+  pub begun : Begun slots o (slot.Roll roll) before now
   pub place : o ≡ count_of key
-  pub found : value ≡ slot.Roll roll
+  pub found : tally ≡ counted roll
   pub next : Next (Resign blame steps) (shown before)
-  pub made : new ≡ slot.Roll (resigned now.path now.children blame steps roll)

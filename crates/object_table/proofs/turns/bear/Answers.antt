@@ -11,7 +11,8 @@ returns-clause-rests c =
     let words = c.args.words.now in
     let s = c.settle.ensures in
     born_rests words.key (c.core_laws.ensures words.key) words.table_id.slots c.args.place c.args.task.now c.args.slot c.requires.birth
-    (record c.settle.new.task { children = c.args.children }) c.leave_turn.new.seat s.seat c.leave_turn.ensures.done s.events s.path.0 c.requires.count s.path.2
+    (record c.settle.new.task { children = c.args.children }) c.leave_turn.new.seat s.seat c.leave_turn.ensures.done s.events s.path.0 s.spare c.requires.count
+    s.path.2
 
 pub returns-clause-done : goal.returns-clause-done
 returns-clause-done c = λ b.

@@ -9,6 +9,5 @@ returns c = λ (key : RunPlan).
       tells = c.core_tells.ensures key.program key.numbers key.limit;
       entries = there;
       once = once_of key there;
-      order = c.in_serial_order.ensures key.program key.numbers key.limit;
       holders = c.holders_are_live.ensures key.program key.numbers key.limit;
     }

@@ -8,4 +8,4 @@ told true (p ∷ ps) y n = absurd (let e = y refl in cc)
 told false (p ∷ ps) y n = refl
 
 pub returns : goal.returns
-returns c = told c.is_empty.result c.args.roll.now.live c.is_empty.ensures.yes c.is_empty.ensures.no
+returns c = told c.is_empty.result c.args.tally.now.live c.is_empty.ensures.yes c.is_empty.ensures.no

@@ -1,4 +1,4 @@
-use Rattle.std.proofs.Common.{rules, ◌≡◌, ◌-◌, ◌∷◌, ◌++◌, [], false, refl, ap, ◌∙◌, arith}
+use Rattle.std.proofs.Common.{rules, ◌≡◌, ◌-◌, ◌∷◌, ◌++◌, [], false, Some, refl, ap, ◌∙◌, arith}
 use Rattle.object_table.specs.declared.task.Task.{Task}
 use Rattle.object_table.proofs.RollCalls.{youngest, has_child, may_split, parent_rests, parent_shown, child_rests, child_shown}
 use Rattle.object_table.proofs.turns.split_off.Goals as goal
@@ -35,10 +35,19 @@ returns-clause-child c =
     let number = (youngest t r baby waits).number in
     let same : t.children - 1 ≡ number = omega (arith, h) in
     let path : c.in_ok-path.path ≡ t.path ++ (t.children - 1) ∷ [] = search rules in
-    let kid : Task = record { seat = seat; path = c.in_ok-path.path; children = 0; events = 0; touched = 0; over = false } in
+    let kid : Task = record {
+      seat = seat;
+      path = c.in_ok-path.path;
+      spare = Some c.in_ok-spare.spare;
+      children = 0;
+      events = 0;
+      touched = 0;
+      over = false;
+    } in
+    let twice : kid.spare ≡ Some kid.path = ap (λ p. Some p) c.in_ok-spare.ensures in
     let is = c.split_seat-seat.ensures.4 in
     let at = path ∙ ap (λ n. t.path ++ n ∷ []) same in (
       c.split_seat-seat.ensures.3,
-      child_rests t r baby waits kid is at refl (refl, refl) refl,
-      child_shown t r baby waits kid is at refl (refl, refl) refl,
+      child_rests t r baby waits kid is at twice refl (refl, refl) refl,
+      child_shown t r baby waits kid is at twice refl (refl, refl) refl,
     )

@@ -1,10 +1,11 @@
 use Rattle.std.proofs.Common.{rules, ◌≡◌, suc, length, ◌∙◌, ap, sym}
 use Rattle.std.specs.Prelude.{replicate}
 use Rattle.jade_syntax.specs.Objects.{sizes}
-use Rattle.object_table.specs.Views.{count_of}
+use Rattle.object_table.specs.Views.{count_of, word_of}
 use Rattle.object_table.specs.steps.Kept.{FirstSlots}
 use Rattle.object_table.specs.declared.slot.Slot.TheVariants as slot
 use Rattle.task_roll.specs.Rolls.{started as begun}
+use Rattle.object_table.specs.Tallies.{counted}
 use Rattle.object_table.proofs.Starts.{starts, slots_length, repeated}
 use Rattle.object_table.proofs.table.ObjectTable.start.Goals as goal
 
@@ -14,9 +15,9 @@ new-requires c =
     let xs = c.in_ok-slots.slots.items in
     let ws = c.as_slice.result.now in
     let f : FirstSlots (sizes key.program.items) xs = search rules in
-    let deep : length xs ≡ suc (count_of key) = ap length f.is ∙ slots_length (sizes key.program.items) (slot.Roll begun) in
-    let are : ws ≡ replicate (length xs) 0 = search rules in
-    starts key ws xs f (are ∙ ap (λ n. replicate n 0) deep)
+    let deep : length xs ≡ suc (count_of key) = ap length f.is ∙ slots_length (sizes key.program.items) (slot.Roll (counted begun)) in
+    let are : ws ≡ replicate (word_of (length xs)) 0 = search rules in
+    starts key ws xs f (are ∙ ap (λ n. replicate (word_of n) 0) deep)
 
 pub invariant_of-result : goal.invariant_of-result
 invariant_of-result c =
@@ -25,6 +26,10 @@ invariant_of-result c =
     let ws = c.as_slice.result.now in
     let ok = c.in-Ok.ensures.ok in
     let f : FirstSlots (sizes key.program.items) xs = search rules in
-    let deep : length xs ≡ suc (count_of key) = ap length f.is ∙ slots_length (sizes key.program.items) (slot.Roll begun) in
-    let are : ws ≡ replicate (length xs) 0 = search rules in
-    record { wide = ok.0 ∙ ap length are ∙ repeated (length xs) ∙ sym ok.1; deep = ok.1 ∙ deep ∙ sym (ap (λ k. suc (count_of k)) ok.5) }
+    let deep : length xs ≡ suc (count_of key) = ap length f.is ∙ slots_length (sizes key.program.items) (slot.Roll (counted begun)) in
+    let are : ws ≡ replicate (word_of (length xs)) 0 = search rules in
+    record {
+      wide = ok.0 ∙ ap length are ∙ repeated (word_of (length xs)) ∙ ap word_of (sym ok.1);
+      few = search rules;
+      deep = ok.1 ∙ deep ∙ sym (ap (λ k. suc (count_of k)) ok.5);
+    }
