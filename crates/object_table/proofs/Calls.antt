@@ -47,7 +47,7 @@ use Rattle.object_table.specs.Views.{count_of, View, shelf_of, paths_of, bare, c
 use Rattle.object_table.specs.Touches.{is_touch, touched_first, touched, touch_next, passed, all_touches}
 use Rattle.object_table.specs.Plays.{Told, tried_at, in_turn, turned_off, left_as_it_was, did, Ahead, left_done}
 use Rattle.object_table.specs.Calls.{Next, saw, found_busy, AsBefore}
-use Rattle.object_table.specs.steps.Kept.{Rests, InTurn, Leaves, Laws, Made, Youngest, shown, with_slot, IsObject}
+use Rattle.object_table.specs.steps.Kept.{Rests, InTurn, Leaves, Laws, Made, Youngest, shown, IsObject}
 use Rattle.object_table.specs.declared.task.Task.{Task}
 use Rattle.object_table.specs.declared.slot.Slot.{Slot}
 use Rattle.object_table.specs.declared.slot.Slot.TheVariants as slot
@@ -177,8 +177,8 @@ module _ (t : Task) (r : Rests t) where
   busy_shown seat o is = tried_shown seat (suc v0.tries) o 1 v0.note (busy_is seat o is) ∙ λ i. on_try (idle_same i) (tries_same i) o 1 (sym same.note i) v
 
   -- nothing was done in the turn
-  module _ (seat1 seat2 : Seat Slot View) (slots o : ℕ) (y new : Slot) (turn : InTurn slots o y t.seat.me seat1.me)
-      (left : left_as_it_was (step slots o 0 0 none) (with_slot o new seat1.me) 0 seat2.me) where
+  module _ (seat1 seat2 : Seat Slot View) (slots o : ℕ) (y new : Slot) (turn : InTurn slots o y new t.seat.me seat1.me)
+      (left : left_as_it_was (step slots o 0 0 none) seat1.me 0 seat2.me) where
     pub off_is : seat2.me ≡ (on_try false (suc v0.tries) o 0 y v0, [])
     off_is = left ∙ ap (λ (m : Me Slot View). (turned_off m.0, rest m.1)) turn.me
 
@@ -213,22 +213,22 @@ module _ (t : Task) (r : Rests t) where
   alive e next = alive_is next.live
 
   -- a turn may be left with nothing done
-  pub may_desist : (slots : ℕ) (seat1 : Seat Slot View) (o : ℕ) (y new : Slot) → InTurn slots o y t.seat.me seat1.me → (key : RunPlan) → new ≡ bare y
-      → Leaves left_as_it_was key slots seat1.id (with_slot o new seat1.me) o
+  pub may_desist : (slots : ℕ) (seat1 : Seat Slot View) (o : ℕ) (y new : Slot) → InTurn slots o y new t.seat.me seat1.me → (key : RunPlan) → new ≡ bare y
+      → Leaves left_as_it_was key slots seat1.id seat1.me o
   may_desist slots seat1 o y new turn key same =
-      subst (λ (m : Me Slot View). Leaves left_as_it_was key slots seat1.id m o) (sym (ap (with_slot o new) turn.me))
+      subst (λ (m : Me Slot View). Leaves left_as_it_was key slots seat1.id m o) (sym turn.me)
       (desisting key slots seat1.id o (in_turn o y v0, (o, new) ∷ []) new refl refl refl same)
 
-  module _ (key : RunPlan) (laws : Laws key) (slots : ℕ) (seat1 : Seat Slot View) (o : ℕ) (y new : Slot) (turn : InTurn slots o y t.seat.me seat1.me)
+  module _ (key : RunPlan) (laws : Laws key) (slots : ℕ) (seat1 : Seat Slot View) (o : ℕ) (y new : Slot) (turn : InTurn slots o y new t.seat.me seat1.me)
       (e : Event) (public : is_touch e ≡ false) (next : Next e v) where
     abbrev in_it : Me Slot View
     in_it = (in_turn o y v0, (o, new) ∷ [])
 
-    turned_is : with_slot o new seat1.me ≡ in_it
-    turned_is = ap (with_slot o new) turn.me
+    turned_is : seat1.me ≡ in_it
+    turned_is = turn.me
 
     -- the turn may be left with the event done
-    pub may_finish : o < count_of key → Made o e (on_try true (suc v0.tries) o 0 y v) new → Leaves left_done key slots seat1.id (with_slot o new seat1.me) o
+    pub may_finish : o < count_of key → Made o e (on_try true (suc v0.tries) o 0 y v) new → Leaves left_done key slots seat1.id seat1.me o
     may_finish lt made =
         subst (λ (m : Me Slot View). Leaves left_done key slots seat1.id m o) (sym turned_is)
         (finishing key laws.tells laws.entries laws.once slots seat1.id o in_it new (alive e next) refl refl lt refl t.touched e
@@ -236,7 +236,7 @@ module _ (t : Task) (r : Rests t) where
         (subst (λ (z : View). Made o e z new) (sym (passed_try true (suc v0.tries) o 0 y t.touched v0)) made))
 
     -- and is left so
-    pub finished : (after : Me Slot View) → left_done (step slots o 0 0 none) (with_slot o new seat1.me) 0 after → after
+    pub finished : (after : Me Slot View) → left_done (step slots o 0 0 none) seat1.me 0 after → after
         ≡ (did e (on_try true (suc v0.tries) o 0 y v), [])
     finished after left =
         let d = subst (λ (m : Me Slot View). left_done (step slots o 0 0 none) m 0 after) turned_is left in

@@ -22,7 +22,7 @@ use Rattle.object_table.specs.Touches.{touched_first, touched, touch_next, passe
 use Rattle.object_table.specs.Rule.{Ruled}
 use Rattle.object_table.specs.Plays.{Told, bore, left_enrolled, nobody, is_deserted, gone, left_resigned, without_kid, kid_view, joined, spent_view}
 use Rattle.object_table.specs.Calls.{Next, saw_roll, Bore, Ended, IsGone}
-use Rattle.object_table.specs.steps.Kept.{Rests, InTurn, Leaves, Laws, Youngest, shown, with_slot, IsRoll}
+use Rattle.object_table.specs.steps.Kept.{Rests, InTurn, Leaves, Laws, Youngest, shown, IsRoll}
 use Rattle.object_table.specs.declared.task.Task.{Task}
 use Rattle.object_table.specs.declared.slot.Slot.{Slot}
 use Rattle.object_table.specs.declared.slot.Slot.TheVariants as slot
@@ -89,15 +89,15 @@ module _ (t : Task) (r : Rests t) where
   unborn_is next = sym (passed_same t.touched v0).unborn ∙ next
 
   module _ (key : RunPlan) (laws : Laws key) (slots : ℕ) (seat1 : Seat Slot View) (o : ℕ) (place : o ≡ count_of key) (y new : Slot)
-      (turn : InTurn slots o y t.seat.me seat1.me) (q : RollView) (is : y ≡ slot.Roll q) where
+      (turn : InTurn slots o y new t.seat.me seat1.me) (q : RollView) (is : y ≡ slot.Roll q) where
     abbrev in_it : Me Slot View
     in_it = (on_try true (suc v0.tries) o 0 y v0, (o, new) ∷ [])
 
     abbrev there : View
     there = on_try true (suc v0.tries) o 0 y v
 
-    turned_is : with_slot o new seat1.me ≡ in_it
-    turned_is = ap (with_slot o new) turn.me
+    turned_is : seat1.me ≡ in_it
+    turned_is = turn.me
 
     passed_is : (i : ℕ) → passed t.touched (on_try true (suc v0.tries) i 0 y v0) ≡ on_try true (suc v0.tries) i 0 y v
     passed_is i = passed_try true (suc v0.tries) i 0 y t.touched v0
@@ -108,7 +108,7 @@ module _ (t : Task) (r : Rests t) where
     -- a creation
     module _ (task : TaskOf) (steps : ℕ) (next : Next (Enroll task steps) v) where
       pub may_enroll : new ≡ slot.Roll (one_more (record { path = t.path; children = t.children; steps = steps; blame = None }) (counted q))
-          → Leaves left_enrolled key slots seat1.id (with_slot o new seat1.me) o
+          → Leaves left_enrolled key slots seat1.id seat1.me o
       may_enroll made =
           let n = count_of key in
           let e = Enroll task steps in
@@ -125,7 +125,7 @@ module _ (t : Task) (r : Rests t) where
           (made ∙ λ i. slot.Roll (one_more (record { path = path_is t r i; children = children_is t r i; steps = steps; blame = None }) (counted q))))))
 
       -- the turn was left with it
-      pub enrolled_is : (after : Me Slot View) → left_enrolled (step slots o 0 0 none) (with_slot o new seat1.me) 0 after
+      pub enrolled_is : (after : Me Slot View) → left_enrolled (step slots o 0 0 none) seat1.me 0 after
           → (kid : Place) × Born v.seat kid after.0.seat × (after ≡ (bore kid there, []))
       enrolled_is after left =
           let d = subst (λ (m : Me Slot View). left_enrolled (step slots o 0 0 none) m 0 after) turned_is left in
@@ -172,7 +172,7 @@ module _ (t : Task) (r : Rests t) where
     -- an end
     module _ (blame : Option Blame) (steps : ℕ) (next : Next (Resign blame steps) v) where
       pub may_resign : new ≡ slot.Roll (one_fewer (record { path = t.path; children = t.children; steps = steps; blame = blame }) (counted q))
-          → Leaves left_resigned key slots seat1.id (with_slot o new seat1.me) o
+          → Leaves left_resigned key slots seat1.id seat1.me o
       may_resign made =
           let n = count_of key in
           let e = Resign blame steps in
@@ -188,7 +188,7 @@ module _ (t : Task) (r : Rests t) where
           }) (counted q))) (sym (passed_is n))
           (made ∙ λ i. slot.Roll (one_fewer (record { path = path_is t r i; children = children_is t r i; steps = steps; blame = blame }) (counted q))))))
 
-      pub resigned_is : (after : Me Slot View) → left_resigned (step slots o 0 0 none) (with_slot o new seat1.me) 0 after → after
+      pub resigned_is : (after : Me Slot View) → left_resigned (step slots o 0 0 none) seat1.me 0 after → after
           ≡ (gone (is_deserted new) there, [])
       resigned_is after left =
           let d = subst (λ (m : Me Slot View). left_resigned (step slots o 0 0 none) m 0 after) turned_is left in

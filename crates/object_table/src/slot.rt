@@ -3,8 +3,8 @@
 use crate::tally::Tally;
 use object_shelf::Shelf;
 
-/// The value of a slot: that of an object its shelf, that of the roll its tally, and of either
-/// nothing while a pass has its turn there.
+/// The value of a slot: that of an object its shelf, and that of the roll its tally. Away stands for
+/// what a pass has not seen; no slot has it.
 #[derive(Drop)]
 pub(crate) enum Slot {
     Away,

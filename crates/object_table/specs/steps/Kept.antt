@@ -1,7 +1,7 @@
 -- What the calls keep between their steps.
 use Rattle.std.specs.Prelude.{◌≡◌, ◌<◌, ◌%◌, ◌^◌, ℕ, suc, true, false, List, [], ◌∷◌, ◌++◌, Some, None, Result, Ok, Err}
 use mathlib.Core.Option.{none}
-use Rattle.atomic_table.specs.Table.{Me, Step, step, rest, Allows}
+use Rattle.atomic_table.specs.Table.{Me, Step, step, Allows}
 use Rattle.jade_base.specs.Held.{Held}
 use Rattle.jade_base.specs.declared.failure.Memory.{Memory}
 use Rattle.jade_base.specs.declared.rights.Mode.{Mode}
@@ -100,14 +100,10 @@ pub record FitsRoll (z : TableId) (key : RunPlan) (t : Task) (o : ℕ) : Type 0 
   pub mark : t.seat.table_id ≡ z
   pub place : o ≡ count_of key
 
--- a seat has the turn at a place, and the value that the slot showed
-pub record InTurn (slots o : ℕ) (y : Slot) (old new : Me Slot View) : Type 0 where
-  pub me : new ≡ (in_turn o y old.0, (o, slot.Away) ∷ [])
+-- a seat has the turn at a place, where it found this, and of which the slot has this now
+pub record InTurn (slots o : ℕ) (y x : Slot) (old new : Me Slot View) : Type 0 where
+  pub me : new ≡ (in_turn o y old.0, (o, x) ∷ [])
   pub told : Told slots old.0 o y
-
--- the seat with this value in place of the slot's that it took last
-abbrev pub with_slot : ℕ → Slot → Me Slot View → Me Slot View
-with_slot o new me = (me.0, (o, new) ∷ rest me.1)
 
 -- a seat may leave a turn in this way
 abbrev pub Leaves : (Step Slot → Me Slot View → ℕ → Me Slot View → Type 0) → RunPlan → (slots id : ℕ) → Me Slot View → ℕ → Type 0
@@ -132,16 +128,17 @@ IsObject (slot.Object y) = Unit {0}
 IsObject slot.Away = ⊥
 IsObject (slot.Roll r) = ⊥
 
--- what a Take makes of an object: the content is handed out, or an entry keeps the task from it
-abbrev pub HandedAs : ShelfView → List ℕ → Mode → Result Handed Memory → ShelfView → Type 0
-HandedAs y p m (Ok (handing.Content c)) z = (keeper_in p m y.queue ≡ None) × (hand_in p m y ≡ Some c.cells) × (c.mode ≡ m) × (z ≡ handed p m y)
-HandedAs y p m (Ok (handing.Kept q)) z = (z ≡ y) × (e : Entry) × (keeper_in p m y.queue ≡ Some e) × (q ≡ e.path)
-HandedAs y p m (Err e) z = z ≡ y
+-- what a Take makes of an object in a slot: the content is handed out, or an entry keeps the task from it
+abbrev pub HandedAs : ShelfView → List ℕ → Mode → Result Handed Memory → Slot → Type 0
+HandedAs y p m (Ok (handing.Content c)) w =
+    (keeper_in p m y.queue ≡ None) × (hand_in p m y ≡ Some c.cells) × (c.mode ≡ m) × (w ≡ slot.Object (handed p m y))
+HandedAs y p m (Ok (handing.Kept q)) w = (w ≡ slot.Object y) × (e : Entry) × (keeper_in p m y.queue ≡ Some e) × (q ≡ e.path)
+HandedAs y p m (Err e) w = w ≡ slot.Object y
 
--- what an Enter makes of an object
-abbrev pub EnteredAs : ShelfView → (parent child : List ℕ) → Rights → Result (Unit {0}) Memory → ShelfView → Type 0
-EnteredAs y p c a (Ok _) z = z ≡ on_queue (entered_in p c a) y
-EnteredAs y p c a (Err e) z = z ≡ y
+-- what an Enter makes of an object in a slot
+abbrev pub EnteredAs : ShelfView → (parent child : List ℕ) → Rights → Result (Unit {0}) Memory → Slot → Type 0
+EnteredAs y p c a (Ok _) w = w ≡ slot.Object (on_queue (entered_in p c a) y)
+EnteredAs y p c a (Err e) w = w ≡ slot.Object y
 
 -- the slots at the start
 abbrev pub start_slots : List ℕ → List Slot

@@ -17,18 +17,19 @@ use Rattle.object_table.specs.declared.task.Task.{Task}
 use Rattle.object_table.specs.declared.slot.Slot.{Slot}
 use Rattle.object_table.specs.declared.slot.Slot.TheVariants as slot
 
--- a task that rested before has the turn at a place now, whose slot showed this, and is else as it was
-pub record Begun (slots o : ℕ) (y : Slot) (before now : Task) : Type 0 where
+-- a task that rested before has the turn at a place now, where it found this, and of which the slot has this now; it is else as it was
+pub record Begun (slots o : ℕ) (y x : Slot) (before now : Task) : Type 0 where
   pub rests : Rests before
-  pub turn : InTurn slots o y before.seat.me now.seat.me
+  pub turn : InTurn slots o y x before.seat.me now.seat.me
   pub same : now ≡ record before { seat = now.seat }
 
--- the task's next event makes this of the slot's value, so that the turn may be left with it done
-pub record Ending (key : RunPlan) (slots o : ℕ) (now : Task) (new : Slot) : Type 0 where
+-- the slot has what the task's next event makes of it, so that the turn may be left with the event done
+pub record Ending (key : RunPlan) (slots o : ℕ) (now : Task) : Type 0 where
   pub before : Task
   pub value : Slot
+  pub new : Slot
   pub event : Event
-  pub begun : Begun slots o value before now
+  pub begun : Begun slots o value new before now
   pub object : o < count_of key
   pub next : Next event (shown before)
   pub made : Made o event (in_turn o value (shown before)) new
@@ -57,22 +58,25 @@ pub record Desisted (o : ℕ) (y : Slot) (before after : Task) : Type 0 where
   pub unchanged : AsBefore (shown before) (shown after)
   pub seen : (z : ShelfView) → y ≡ slot.Object z → shown after ≡ saw o z (shown before)
 
--- the task's next event is a creation, which makes this of the roll's slot
-pub record Birth (key : RunPlan) (slots o : ℕ) (now : Task) (new : Slot) : Type 0 where
+-- the task's next event is a creation, and the roll's slot has what that makes of it
+pub record Birth (key : RunPlan) (slots o : ℕ) (now : Task) : Type 0 where
   pub before : Task
   pub roll : RollView
   pub child : TaskOf
   pub steps : ℕ
-  pub begun : Begun slots o (slot.Roll roll) before now
+  pub begun : Begun slots o (slot.Roll roll) (slot.Roll (one_more (record {
+    path = before.path;
+    children = before.children;
+    steps = steps;
+    blame = None;
+  }) (counted roll))) before now
   pub place : o ≡ count_of key
   pub next : Next (Enroll child steps) (shown before)
-  pub made : new ≡ slot.Roll (one_more (record { path = now.path; children = now.children; steps = steps; blame = None }) (counted roll))
 
--- the task's next event is its end, and this was found in the roll's slot
-pub record Departure (key : RunPlan) (slots o : ℕ) (now : Task) (tally : RollView) (blame : Option Blame) (steps : ℕ) : Type 0 where
+-- the task's next event is its end, and this was found at the roll
+pub record Departure (key : RunPlan) (slots o : ℕ) (now : Task) (blame : Option Blame) (steps : ℕ) : Type 0 where
   pub before : Task
   pub roll : RollView
-  pub begun : Begun slots o (slot.Roll roll) before now
+  pub begun : Begun slots o (slot.Roll roll) (slot.Roll (counted roll)) before now
   pub place : o ≡ count_of key
-  pub found : tally ≡ counted roll
   pub next : Next (Resign blame steps) (shown before)

@@ -7,8 +7,8 @@ take_turn-requires-clause-rests c =
     let r = c.requires.rests in (r.holds, r.idle, alive_is c.args.task.now r c.requires.live)
 
 pub returns-clause-got : goal.returns-clause-got
-returns-clause-got c = begun_as c.args.words.now.table_id.slots c.args.place c.args.task.now c.requires.rests c.take_turn.new.seat c.take_turn.result
-    c.take_turn.ensures.got
+returns-clause-got c =
+    begun_as c.args.words.now.table_id.slots c.args.place c.args.task.now c.requires.rests c.take_turn.new.seat c.take_turn.result c.take_turn.ensures.got
 
 pub returns-clause-over : goal.returns-clause-over
 returns-clause-over c = rests_on c.args.task.now c.requires.rests c.take_turn.new.seat c.args.place c.take_turn.result c.take_turn.ensures.busy

@@ -1,33 +1,34 @@
-use Rattle.std.proofs.Common.{rules, ◌≡◌, ◌∙◌, sym, ap, None}
-use Rattle.object_table.specs.Tallies.{one_more}
-use Rattle.object_table.specs.declared.task.Task.{Task}
+use Rattle.std.proofs.Common.{◌∙◌}
+use Rattle.object_table.specs.Tallies.{counted}
 use Rattle.object_table.specs.declared.slot.Slot.TheVariants.{Roll}
+use Rattle.object_table.proofs.Leaving.{may_lend, roll_lent, roll_grows, as_lay}
 use Rattle.object_table.proofs.turns.enroll_at.Goals as goal
 
-pub returns-in-Ok-done-clause-answer : goal.returns-in-Ok-done-clause-answer
-returns-in-Ok-done-clause-answer c =
-    let g = c.in-Ok.ensures.got in
-    let now = c.begin_roll.new.task in
-    let made : c.enroll-done.new.self ≡ one_more (record {
-      path = c.in_ok-path.path;
-      children = now.children;
-      steps = c.args.steps;
-      blame = None;
-    }) c.in-Ok.tally = search rules in
-    let same : c.in_ok-path.path ≡ now.path = c.in_ok-path.ensures ∙ sym (ap (λ (t : Task). t.path) g.2.same) in
-    c.bear.ensures.done (record {
-      before = c.args.task.now;
-      roll = g.0;
-      child = c.requires.next.0;
-      steps = c.args.steps;
-      begun = g.2;
-      place = c.requires.fits.place;
-      next = c.requires.next.1;
-      made = ap Roll made ∙ λ i. Roll (one_more (record { path = same i; children = now.children; steps = c.args.steps; blame = None }) (g.1 i));
-    })
+pub slot_mut-slot-requires : goal.slot_mut-slot-requires
+slot_mut-slot-requires c =
+    let got = c.in-Ok.ensures.got in
+    (c.begin.ensures.mark ∙ c.requires.fits.mark, may_lend got.1)
 
-pub returns-in-Err-done-clause-unchanged : goal.returns-in-Err-done-clause-unchanged
-returns-in-Err-done-clause-unchanged c =
-    let g = c.in-Ok.ensures.got in
-    let same : c.enroll-done.new.self ≡ c.in-Ok.tally = search rules in
-    (c.desist.ensures.after c.args.task.now (Roll g.0) (ap Roll (same ∙ g.1)) g.2).unchanged
+pub bear-requires-clause-birth : goal.bear-requires-clause-birth
+bear-requires-clause-birth c =
+    let f = c.requires.fits in
+    let got = c.in-Ok.ensures.got in
+    let g = roll_lent c.args.words.now.table_id.slots c.args.place got.0 c.args.task.now c.begin.new.task got.1 c.args.words.now.key f.laid.deep f.place
+    c.slot_mut-slot.result.now c.slot_mut-slot.ensures.value in
+    roll_grows g.1 f.place c.requires.next.1 c.in_ok-path.ensures (c.in-Ok-one_more.ensures.done (counted g.0) g.2)
+
+pub returns-in-Ok-one_more-clause-answer : goal.returns-in-Ok-one_more-clause-answer
+returns-in-Ok-one_more-clause-answer c =
+    let f = c.requires.fits in
+    let got = c.in-Ok.ensures.got in
+    let g = roll_lent c.args.words.now.table_id.slots c.args.place got.0 c.args.task.now c.begin.new.task got.1 c.args.words.now.key f.laid.deep f.place
+    c.slot_mut-slot.result.now c.slot_mut-slot.ensures.value in
+    c.bear.ensures.done (roll_grows g.1 f.place c.requires.next.1 c.in_ok-path.ensures (c.in-Ok-one_more.ensures.done (counted g.0) g.2))
+
+pub returns-in-Err-one_more-clause-unchanged : goal.returns-in-Err-one_more-clause-unchanged
+returns-in-Err-one_more-clause-unchanged c =
+    let f = c.requires.fits in
+    let got = c.in-Ok.ensures.got in
+    let g = roll_lent c.args.words.now.table_id.slots c.args.place got.0 c.args.task.now c.begin.new.task got.1 c.args.words.now.key f.laid.deep f.place
+    c.slot_mut-slot.result.now c.slot_mut-slot.ensures.value in
+    (c.desist.ensures.after c.args.task.now (Roll g.0) (as_lay g.1 (c.in-Err-one_more.ensures.unchanged ∙ g.2))).unchanged

@@ -1,28 +1,31 @@
-use Rattle.std.proofs.Common.{rules, ◌≡◌, refl}
-use Rattle.object_shelf.specs.Shelves.{entered_in}
-use Rattle.object_shelf.specs.Homes.{on_queue}
+use Rattle.std.proofs.Common.{refl}
+use Rattle.object_table.proofs.Leaving.{object_lent, enter_ends, as_found}
 use Rattle.object_table.specs.declared.slot.Slot.TheVariants.{Object}
-use Rattle.object_table.proofs.Leaving.{enter_ends, as_found}
 use Rattle.object_table.proofs.turns.enter_at.Goals as goal
 
 pub complete-requires-clause-ending : goal.complete-requires-clause-ending
 complete-requires-clause-ending c =
-    let z = c.in-Ok.shelf in
-    let path = c.begin_at.new.task.path in
-    let made : c.enter_in-entered.new.shelf ≡ on_queue (entered_in path c.in_ok-child.child c.args.rights) z = search rules in
-    enter_ends c.in-Ok.ensures.got c.requires.fits.object refl c.requires.next c.in_ok-child.ensures made
+    let f = c.requires.fits in
+    let got = c.in-Ok.ensures.got in
+    let g = object_lent c.args.words.now.table_id.slots c.args.object got.0 c.args.task.now c.begin.new.task got.1 c.args.words.now.key f.laid.deep f.object
+    c.slot_mut-slot.result.now c.slot_mut-slot.ensures.value in
+    enter_ends g.1 f.object c.requires.next c.in_ok-child.ensures (c.in-Ok-enter_to.ensures g.0 g.2)
 
-pub returns-in-Ok-entered-clause-answer : goal.returns-in-Ok-entered-clause-answer
-returns-in-Ok-entered-clause-answer c =
-    let z = c.in-Ok.shelf in
-    let path = c.begin_at.new.task.path in
-    let made : c.enter_in-entered.new.shelf ≡ on_queue (entered_in path c.in_ok-child.child c.args.rights) z = search rules in
+pub returns-in-Ok-enter_to-clause-answer : goal.returns-in-Ok-enter_to-clause-answer
+returns-in-Ok-enter_to-clause-answer c =
+    let f = c.requires.fits in
+    let got = c.in-Ok.ensures.got in
+    let g = object_lent c.args.words.now.table_id.slots c.args.object got.0 c.args.task.now c.begin.new.task got.1 c.args.words.now.key f.laid.deep f.object
+    c.slot_mut-slot.result.now c.slot_mut-slot.ensures.value in
     record {
-      object = z;
-      after = c.complete.ensures.done (enter_ends c.in-Ok.ensures.got c.requires.fits.object refl c.requires.next c.in_ok-child.ensures made) z refl;
+      object = g.0;
+      after = c.complete.ensures.done (enter_ends g.1 f.object c.requires.next c.in_ok-child.ensures (c.in-Ok-enter_to.ensures g.0 g.2)) g.0 refl;
     }
 
 pub returns-clause-unchanged : goal.returns-clause-unchanged
 returns-clause-unchanged c =
-    let same : c.enter_in-entered.new.shelf ≡ c.in-Ok.shelf = search rules in
-    (c.desist.ensures.after c.args.task.now (Object c.enter_in-entered.new.shelf) refl (as_found c.in-Ok.ensures.got refl same)).unchanged
+    let f = c.requires.fits in
+    let got = c.in-Ok.ensures.got in
+    let g = object_lent c.args.words.now.table_id.slots c.args.object got.0 c.args.task.now c.begin.new.task got.1 c.args.words.now.key f.laid.deep f.object
+    c.slot_mut-slot.result.now c.slot_mut-slot.ensures.value in
+    (c.desist.ensures.after c.args.task.now (Object g.0) (as_found g.1 (c.in-Err-enter_to.ensures g.0 g.2))).unchanged

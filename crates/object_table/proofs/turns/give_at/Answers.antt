@@ -1,12 +1,19 @@
 use Rattle.std.proofs.Common.{refl}
-use Rattle.object_table.proofs.Leaving.{give_ends}
+use Rattle.object_table.proofs.Leaving.{object_lent, give_ends}
 use Rattle.object_table.proofs.turns.give_at.Goals as goal
 
 pub complete-requires-clause-ending : goal.complete-requires-clause-ending
-complete-requires-clause-ending c = give_ends c.in-Ok.ensures.got c.requires.fits.object refl c.requires.next c.requires.held c.give.ensures
+complete-requires-clause-ending c =
+    let f = c.requires.fits in
+    let got = c.in-Ok.ensures.got in
+    let g = object_lent c.args.words.now.table_id.slots c.args.object got.0 c.args.task.now c.begin.new.task got.1 c.args.words.now.key f.laid.deep f.object
+    c.slot_mut-slot.result.now c.slot_mut-slot.ensures.value in
+    give_ends g.1 f.object c.requires.next c.requires.held (c.give_to.ensures g.0 g.2)
 
 pub returns-clause-done : goal.returns-clause-done
 returns-clause-done c =
-    let z = c.in-Ok.shelf in
-    let b = c.in-Ok.ensures.got in
-    record { object = z; after = c.complete.ensures.done (give_ends b c.requires.fits.object refl c.requires.next c.requires.held c.give.ensures) z refl }
+    let f = c.requires.fits in
+    let got = c.in-Ok.ensures.got in
+    let g = object_lent c.args.words.now.table_id.slots c.args.object got.0 c.args.task.now c.begin.new.task got.1 c.args.words.now.key f.laid.deep f.object
+    c.slot_mut-slot.result.now c.slot_mut-slot.ensures.value in
+    record { object = g.0; after = c.complete.ensures.done (give_ends g.1 f.object c.requires.next c.requires.held (c.give_to.ensures g.0 g.2)) g.0 refl }
