@@ -12,7 +12,8 @@ use Rattle.jade_base.specs.declared.rights.Right.TheVariants.{Absent, Deferred, 
 use Rattle.jade_base.specs.declared.rights.Rights.{Rights}
 use Rattle.jade_base.specs.declared.spec.Entry.{Entry}
 use Rattle.jade_base.specs.Rights.{no_rights, has_rights, is_there, join, joined}
-use Rattle.jade_base.specs.Specification.{AllAbove, IsAscending, IsAbsent, IsSettled, IsThere, is_of, joined_in, place_in, rights_in, shown, shown_all, with_first}
+use Rattle.jade_base.specs.Specification.{AllAbove, IsAscending, IsAbsent, IsSettled, IsThere, is_of, joined_in, place_in, rights_in}
+use Rattle.jade_base.specs.Specification.{shown, shown_all, with_first}
 
 AllAbove-weaker : (m n : ℕ) (es : List (ObjectId × Rights)) → m < n → AllAbove n es → AllAbove m es
 AllAbove-weaker m n [] h a = tt

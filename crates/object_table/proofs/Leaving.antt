@@ -217,7 +217,8 @@ module _ {key : RunPlan} {slots o : ℕ} {t now : Task} {z : ShelfView} {w : Slo
     made = (refl, z, refl, is_new ∙ ap (λ p. slot.Object (on_queue (at p (with_rights a)) z)) (path_now b));
   }
 
-  abbrev pub leave_ends : Next (Leave o) (shown t) → w ≡ slot.Object (on_queue (without now.path) z) → Ending key slots o (record now { seat = seat_with now.seat o w })
+  abbrev pub leave_ends : Next (Leave o) (shown t) → w ≡ slot.Object (on_queue (without now.path) z)
+      → Ending key slots o (record now { seat = seat_with now.seat o w })
   leave_ends next is_new = record {
     before = t;
     value = slot.Object z;

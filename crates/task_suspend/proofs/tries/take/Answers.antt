@@ -55,7 +55,8 @@ invariant_of-capsule g c =
       tied = subst Q (sym c.in_ok-done.ensures)
           (took g.N.RunName.mark g.N.RunName.plan x.pass x.machine.value x.from x.events x.tied c.args.object c.args.mode c.requires.asked
           ((rw c.deref.ensures at c.stands.ensures) (ask.Take c.args.object c.args.mode) c.requires.asked) c.in-Got.content q b c.in_ok-content.ensures.mark
-          (subst P c.in-Got.is c.in_ok-content.ensures.answer) (rw c.deref_mut.ensures.value at c.supply.ensures.supplied) (rw c.deref_mut.ensures.value at c.supply.ensures.held));
+          (subst P c.in-Got.is c.in_ok-content.ensures.answer) (rw c.deref_mut.ensures.value at c.supply.ensures.supplied)
+            (rw c.deref_mut.ensures.value at c.supply.ensures.held));
     }
 
 pub invariant_of-capsule-in-NotYet : goal.invariant_of-capsule-in-NotYet
