@@ -13,7 +13,7 @@ use Rattle.jade_meaning.specs.declared.source.Pause.TheVariants.{Fault, Awaits a
 use Rattle.jade_syntax.specs.Abstract.{Or, And, Adds, Multiplies, Expression, Link}
 use Rattle.jade_syntax.specs.Image.{Linked, links, chained, signed}
 use Rattle.jade_meaning.specs.declared.values.Value.{Value}
-use Rattle.jade_meaning.specs.Values.{Given, Gives, Fails, operated, decides}
+use Rattle.jade_meaning.specs.Values.{Gives, operated, decides}
 use Rattle.jade_meaning.specs.Values as values
 use Rattle.jade_meaning.specs.Specification.{Specification}
 use Rattle.jade_meaning.specs.Course.{Environment}

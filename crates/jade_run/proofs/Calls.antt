@@ -55,7 +55,7 @@ use Rattle.jade_run.specs.Outcome.{
   answer_status,
   input_count,
 }
-use Rattle.jade_run.specs.Texts.{usage_text, refused_text, numbers_text, ok_text}
+use Rattle.jade_run.specs.Texts.{usage_text, refused_text, ok_text}
 use Rattle.jade_run.specs.Words.{SpellsExecution, NeedsText, RefusesWords, Asks, IsUsage, to_run, to_serial, to_check, to_show, on_text}
 use Rattle.jade_run.specs.Words.{works_on_text}
 use Rattle.jade_run.proofs.Naming.{drill_only}

@@ -1,11 +1,11 @@
 -- What a text is answered with where it can't be run.
-use Rattle.std.proofs.Common.{◌≡◌, ℕ, inl, inr, List, [], length, refl, sym, ap, ◌∙◌}
+use Rattle.std.proofs.Common.{◌≡◌, ℕ, inl, inr, List, length, sym, ap, ◌∙◌}
 use Rattle.std.specs.Prelude.{ℤ}
 use Rattle.jade_syntax.specs.declared.tree.Program.{Program}
 use Rattle.jade_run.specs.declared.answer.ReadError.{ReadError}
 use Rattle.jade_run.specs.declared.answer.ReadError.TheVariants.{Refused as NotRead, Memory as Unread}
 use Rattle.jade_run.specs.declared.status.Status.{Status}
-use Rattle.jade_run.specs.declared.status.Status.TheVariants.{Refused, Numbers}
+use Rattle.jade_run.specs.declared.status.Status.TheVariants.{Numbers}
 use Rattle.jade_run.specs.Outcome.{IsGood, IsNotRead, OnRefused, RefusedFor}
 use Rattle.jade_run.specs.Outcome.{refused, miscounted, input_count}
 use Rattle.jade_run.specs.Texts.{numbers_text}

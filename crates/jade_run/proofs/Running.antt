@@ -1,5 +1,5 @@
 -- What the report of a run tells.
-use Rattle.std.proofs.Common.{◌≡◌, ℕ, List, refl, ap, sym, subst, ◌∙◌, map}
+use Rattle.std.proofs.Common.{◌≡◌, ℕ, List, ap, sym, subst, ◌∙◌, map}
 use Rattle.std.specs.Prelude.{ℤ}
 use Rattle.jade_base.specs.declared.report.Report.{Report}
 use Rattle.jade_syntax.specs.Abstract.{AbstractProgram}

@@ -1,5 +1,5 @@
 -- What a witness is shown, each in one step.
-use Rattle.std.proofs.Common.{◌≡◌, ℕ, ◌≤◌, ◌⊎◌, inl, inr, true, false, List, [], ◌∷◌, length, Option, Some, None, refl, ap, sym, ◌∙◌, subst}
+use Rattle.std.proofs.Common.{◌≡◌, ℕ, ◌⊎◌, inl, inr, false, List, [], Option, refl, sym, ◌∙◌, subst}
 use Rattle.std.specs.Prelude.{ℤ, Result, Ok, Err, IfOk, IfErr}
 use Rattle.jade_base.specs.Bytes.{WholeText}
 use Rattle.jade_base.specs.declared.failure.Memory.{Memory as NoMemory}
@@ -23,7 +23,7 @@ use Rattle.jade_run.specs.steps.Preparing.{IsSettled}
 use Rattle.jade_run.specs.Witnessed.{seen_with, SawOne, SawRun, SawCommand, SawWords, SawOf, Saw}
 use Rattle.jade_run.specs.Witnessed.{serially, checks, shows, refuses, of_run, of_drill, of_none}
 use Rattle.jade_run.specs.Texts.{usage_text}
-use Rattle.jade_run.specs.Words.{NeedsText, RefusesWords, Asks, IsUsage, to_run, to_serial, to_check, to_show, works_on_text}
+use Rattle.jade_run.specs.Words.{NeedsText, Asks, IsUsage, to_run, to_serial, to_check, to_show, works_on_text}
 use Rattle.jade_run.proofs.Calls.{Written, outcome_written, bytes_of, told_bytes}
 
 answer_saw : (bytes : List ℕ) (ns : List ℤ) (limit : ℕ) (a : Answer) (before after : Option (List RunPlan)) → SawOne bytes ns limit before after

@@ -21,7 +21,6 @@ use Rattle.jade_syntax.specs.Forms as general
 use Rattle.jade_syntax.specs.Forms.{
   Forms,
   StatementForms,
-  Linked,
   Reference,
   of_expr,
   of_cell,

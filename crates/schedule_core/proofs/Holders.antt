@@ -1,6 +1,6 @@
 -- An entry with a hold is that of a live task.
-use Rattle.std.proofs.Common.{◌≡◌, ℕ, suc, true, List, [], ◌∷◌, refl, sym, ap, ◌∙◌, Some}
-use Rattle.std.specs.Prelude.{ℤ, is_some}
+use Rattle.std.proofs.Common.{ℕ, suc, List, [], ◌∷◌, refl, sym, ap, ◌∙◌}
+use Rattle.std.specs.Prelude.{ℤ}
 use Rattle.jade_syntax.specs.declared.tree.Program.{Program}
 use Rattle.object_shelf.specs.declared.queue.Entry.{Entry}
 use Rattle.object_shelf.specs.Views.{ObjectView}

@@ -1,6 +1,6 @@
 -- The variables in scope, by name with their slots.
-use Rattle.std.proofs.Common.{◌≡◌, ℕ, ◌-◌, List, [], ◌∷◌, Option, Some, None, drop, length, cond, true, false, refl, ap, sym, ◌∙◌}
-use Rattle.std.specs.Prelude.{Bool, map, if◌then◌else◌}
+use Rattle.std.proofs.Common.{◌≡◌, ℕ, ◌-◌, List, [], ◌∷◌, Some, drop, length, cond, true, false, refl, ap, sym, ◌∙◌}
+use Rattle.std.specs.Prelude.{Bool, if◌then◌else◌}
 use Rattle.std.specs.Map.{lookup}
 use Rattle.std.proofs.lemmas.List.{length-map, drop-map}
 use Rattle.jade_syntax.specs.Abstract.{Name}

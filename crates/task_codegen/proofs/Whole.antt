@@ -5,7 +5,7 @@ use Rattle.jade_syntax.specs.Image.{program}
 use Rattle.jade_syntax.specs.Objects.{input_names, sizes}
 use Rattle.code_meaning.specs.Meaning.{Body}
 use Rattle.task_translation.specs.Compile.{compiled, inputs_in}
-use Rattle.task_code.specs.Rules.{TaskCode, Valid}
+use Rattle.task_code.specs.Rules.{Valid}
 use Rattle.code_keeps.specs.Keeps.{whole_code, KeepsRules}
 use Rattle.task_codegen.proofs.Sizing.{inputs_many}
 

@@ -78,9 +78,6 @@ fn go_on<'c>(
             Ok(Going::On)
         }
         Pause::Take(number) => {
-            let Ok(number) = u32::try_from(number) else {
-                return Err(Stop::Failed);
-            };
             take(alloc, execution, store, ObjectId(number))?;
             taken.push(ObjectId(number))?;
             Ok(Going::On)

@@ -1,24 +1,19 @@
 -- What an answer to an ask makes of a machine, and what an ask says.
-use Rattle.std.proofs.Common.{◌≡◌, ℕ, zero, suc, ◌+◌, ◌-◌, ◌<◌, ◌≤◌, ◌⊎◌, inl, inr, List, [], ◌∷◌, ◌++◌, length, map, Bool, true, false}
+use Rattle.std.proofs.Common.{◌≡◌, ℕ, zero, suc, ◌+◌, ◌-◌, ◌≤◌, ◌⊎◌, inl, inr, List, [], ◌∷◌, ◌++◌, length, map, Bool, true, false}
 use Rattle.std.proofs.Common.{Option, Some, None, refl, sym, ap, ap₂, ◌∙◌, subst, arith}
-use Rattle.std.specs.Prelude.{ℤ, ◌||◌, ◌&&◌, not, is_some, is_none, nat_eq, replicate, slice_get, slice_set, if◌then◌else◌}
+use Rattle.std.specs.Prelude.{ℤ, is_some, nat_eq, replicate, slice_set, if◌then◌else◌}
 use Rattle.std.proofs.lemmas.Bool.{cases_eq, eq-eqb, ne_eqb, true≢false}
 use Rattle.std.proofs.lemmas.Option.{none-some, same_Some}
 use Rattle.jade_base.specs.declared.place.ObjectId.{ObjectId}
 use Rattle.jade_base.specs.declared.report.Blame.{Blame}
-use Rattle.jade_base.specs.declared.rights.Mode.{Mode}
-use Rattle.jade_base.specs.declared.rights.Mode.TheVariants.{Reading, Writing, Commuting}
 use Rattle.jade_base.specs.declared.rights.Rights.{Rights}
 use Rattle.std.specs.List.{flat_map}
-use Rattle.jade_base.specs.Rights.{mode_of, no_rights, has_rights}
+use Rattle.jade_base.specs.Rights.{mode_of, has_rights}
 use Rattle.jade_base.specs.Specification.{kept, settled}
 use Rattle.jade_base.specs.Held.{Held}
-use Rattle.access_spec.specs.Copies.{copied, copied_in}
-use Rattle.jade_meaning.specs.Specification.{Specification, numbers, rights_on, same_hold}
-use Rattle.jade_meaning.specs.Spread.{spread}
-use Rattle.jade_meaning.specs.Course.{Course, NoDraft}
-use Rattle.jade_meaning.specs.Talk.{Task, talk, Event, Enter, Enroll, Take, Give, Leave, Resign, Holds, held, when, shift, take_in}
-use Rattle.jade_meaning.specs.Talk.{given_back, made_immediate, enters, shifts, end_leaves, events}
+use Rattle.jade_meaning.specs.Specification.{Specification, numbers, rights_on}
+use Rattle.jade_meaning.specs.Talk.{Task, talk, Enter, Enroll, Take, Leave, Resign, held, when, shift}
+use Rattle.jade_meaning.specs.Talk.{given_back, enters, shifts, end_leaves, events}
 use Rattle.task_machine.specs.declared.holdings.Row.{Row}
 use Rattle.task_machine.specs.declared.section.Section.TheVariants as section
 use Rattle.task_machine.specs.declared.next.Phase.{Phase}
@@ -26,23 +21,19 @@ use Rattle.task_machine.specs.declared.next.Phase.TheVariants as phase
 use Rattle.task_machine.specs.declared.machine.Ask.{Ask}
 use Rattle.task_machine.specs.declared.machine.Ask.TheVariants as ask
 use Rattle.task_machine.specs.Playing.{contents_of}
-use Rattle.task_machine.specs.Stages.{id, rights_at, slots_of, beyond}
-use Rattle.task_machine.specs.Executions.{Execution, has_row, held_by, moved_on, objects_in, with_content, without_content}
-use Rattle.task_machine.specs.Left.{Due, due_anew, has_mode, to_take, IsLeast, IsNone, for_child, is_held, left_to_tell}
-use Rattle.task_machine.specs.Machines.{Machine, IsOrdered, NoDue, IsNext, NoneIsNext, GiveIsNext, all_due, amended_at, child_of, child_task, course_at}
-use Rattle.task_machine.specs.Machines.{due_at, due_in, holds_at, left, left_in, made_at, marks_after, steps_at, supplied, surrendered, with_mark}
+use Rattle.task_machine.specs.Stages.{rights_at}
+use Rattle.task_machine.specs.Executions.{Execution, has_row, held_by, moved_on, with_content, without_content}
+use Rattle.task_machine.specs.Left.{Due, IsLeast, IsNone, for_child, is_held}
+use Rattle.task_machine.specs.Machines.{Machine, IsOrdered, NoDue, IsNext, NoneIsNext, GiveIsNext, all_due, amended_at, child_task, course_at}
+use Rattle.task_machine.specs.Machines.{due_at, due_in, holds_at, left, left_in, made_at, marks_after, supplied, surrendered, with_mark}
 use Rattle.task_machine.specs.Machines.{begun}
 use Rattle.task_machine.specs.Asks.{Asking, BeginsAs, Stands, changed, created, enters_from, leaves_from, shifts_from, number_of}
-use Rattle.task_machine.specs.steps.Standing.{has_entry, HasRows, Knows, Asked, AskedIf, machine, asking, gives_up, IsFresh, IsKept, is_due_anew, marks_anew}
+use Rattle.task_machine.specs.steps.Standing.{has_entry, HasRows, Knows, Asked, AskedIf, machine, asking, gives_up, IsFresh, IsKept}
 use Rattle.task_machine.specs.steps.Holding.{row_from}
 use Rattle.task_machine.specs.steps.Surrendering.{IsSurrendered}
-use Rattle.task_machine.proofs.Tables.{table_at}
-use Rattle.task_machine.proofs.Left.{same_from, holds_from, below}
-use Rattle.task_machine.proofs.Marks.{objects_same, content_is, mark_is, mark_long, rows_still_long, due_but, due_also, due_kept, due_same, no_content, no_mark}
-use Rattle.task_machine.proofs.Marks.{hold_at}
-use Rattle.task_machine.proofs.Asking.{spec_long, made_long, new_long, give_for_child, creation_next, give_for_change, change_next, give_at_end, end_next}
-use Rattle.task_machine.proofs.Asking.{held_inside, has_its_row, first_of, yields_held, no_hold, told}
-use Rattle.task_machine.proofs.Standing.{mode_has_row, in_phase}
+use Rattle.task_machine.proofs.Marks.{objects_same, content_is, mark_long, rows_still_long, due_but, due_also, due_same}
+use Rattle.task_machine.proofs.Asking.{spec_long, made_long, new_long, give_for_child, creation_next, give_for_change, give_at_end, end_next}
+use Rattle.task_machine.proofs.Asking.{held_inside, has_its_row, first_of, yields_held, told}
 
 none_of : (b : Bool) → (b ≡ true → ⊥) → b ≡ false
 none_of true h = absurd (h refl)

@@ -1,5 +1,5 @@
 -- The rights of a task change.
-use Rattle.std.proofs.Common.{◌≡◌, ℕ, zero, suc, ◌+◌, ◌-◌, ◌<◌, ◌≤◌, ◌⊎◌, inl, inr, List, [], ◌∷◌, ◌++◌, length, map, Bool, true, false}
+use Rattle.std.proofs.Common.{◌≡◌, ℕ, zero, suc, ◌+◌, ◌-◌, ◌<◌, ◌⊎◌, inl, inr, List, [], ◌∷◌, ◌++◌, length, map, Bool, true, false}
 use Rattle.std.proofs.Common.{Option, Some, None, refl, sym, ap, ap₂, ◌∙◌, subst, arith, ⊎_elim}
 use Rattle.std.specs.Prelude.{ℤ, ◌||◌, ◌&&◌, not, is_some, is_none, nat_eq, slice_get, slice_set, slice_index_or, if◌then◌else◌}
 use Rattle.std.proofs.lemmas.Bool.{cases_eq, eq-eqb, ne_eqb, true≢false}
@@ -12,9 +12,9 @@ use Rattle.jade_base.specs.Rights.{mode_of, no_rights, has_rights}
 use Rattle.jade_base.specs.Specification.{kept, settled}
 use Rattle.jade_base.specs.Held.{Held}
 use Rattle.access_spec.specs.Copies.{copied, copied_in}
-use Rattle.jade_meaning.specs.Specification.{Specification, numbers, rights_on, same_hold}
+use Rattle.jade_meaning.specs.Specification.{Specification, rights_on, same_hold}
 use Rattle.jade_meaning.specs.Course.{NoDraft}
-use Rattle.jade_meaning.specs.Talk.{Event, Take, held, take_in, given_back, taken_anew, events}
+use Rattle.jade_meaning.specs.Talk.{Take, held, take_in, given_back, taken_anew, events}
 use Rattle.task_machine.specs.declared.holdings.Row.{Row}
 use Rattle.task_machine.specs.declared.section.Section.TheVariants as section
 use Rattle.task_machine.specs.declared.next.Phase.{Phase}
@@ -22,7 +22,7 @@ use Rattle.task_machine.specs.declared.next.Phase.TheVariants as phase
 use Rattle.task_machine.specs.Stages.{id, rights_at, beyond}
 use Rattle.task_machine.specs.Executions.{Execution, has_row, held_by, moved_on, objects_in}
 use Rattle.task_machine.specs.Left.{Due, due_anew, has_mode, to_take, IsNone, left_to_tell}
-use Rattle.task_machine.specs.Machines.{Machine, IsOrdered, NoneIsNext, amended_at, child_of, course_at, due_at, due_in, holds_at, is_to_move, left, left_in}
+use Rattle.task_machine.specs.Machines.{Machine, IsOrdered, NoneIsNext, amended_at, child_of, due_at, due_in, holds_at, is_to_move, left, left_in}
 use Rattle.task_machine.specs.Asks.{changed, shifts_from}
 use Rattle.task_machine.specs.steps.Holding.{RowsAbove, RowsAscend}
 use Rattle.task_machine.specs.declared.machine.Ask.{Ask}

@@ -48,6 +48,21 @@ fn is_at(spec: &Spec, place: usize, object: ObjectId) -> bool
     }
 }
 
+// The place of an object's entry, if it has one, found by a look at one after another.
+fn place_among_few(spec: &Spec, object: ObjectId) -> Option<usize>
+    ensures found { IfSome result (λ place. IsPlaceOf object place spec.now.entries) }
+    ensures none { IfNone result (HasNoEntry object spec.now.entries) }
+    ensures ascending { IsAscending spec.now.entries }
+{
+    'few: for place in 0..spec.len() {
+        let (found, _) = spec.entry(place);
+        if found.0 == object.0 {
+            return Some(place);
+        }
+    }
+    None
+}
+
 /// The place of an object's entry, if it has one. Where a task has rights on all objects, it is the
 /// object's number. It takes no memory.
 pub(crate) fn place_of(spec: &Spec, object: ObjectId) -> Option<usize>
@@ -58,6 +73,9 @@ pub(crate) fn place_of(spec: &Spec, object: ObjectId) -> Option<usize>
     let number = object.0 as usize;
     if is_at(spec, number, object) {
         return Some(number);
+    }
+    if spec.len() <= FEW {
+        return place_among_few(spec, object);
     }
     let place = place_from(spec, object);
     if is_at(spec, place, object) {

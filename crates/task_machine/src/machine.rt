@@ -197,7 +197,7 @@ fn pause_ask(execution: &Execution, due: &[bool], pause: Pause) -> Ask
         → Asked result (phase_of pause) (machine execution.now due.now (phase_of pause) part) }
 {
     match pause {
-        Pause::Take(object) => take(execution, ObjectId(object as u32)),
+        Pause::Take(object) => take(execution, ObjectId(object)),
         Pause::End => give(execution, due, Phase::Ending(None), START),
         Pause::Fault(blame) => give(execution, due, Phase::Ending(Some(blame)), START),
         Pause::Create(number) => give(execution, due, Phase::Creating(number), START),

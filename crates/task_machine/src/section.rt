@@ -1,6 +1,6 @@
 //! The specification of a task, and what its sections make.
 
-ghost use Rattle.std.specs.Prelude.{◌≡◌, ◌<◌, true, false, [], None, Some, replicate, slice_set, IfOk, OnOk, OnErr};
+ghost use Rattle.std.specs.Prelude.{◌≡◌, ◌<◌, ◌≤◌, ◌^◌, true, false, [], None, Some, replicate, slice_set, IfOk, OnOk, OnErr};
 ghost use Rattle.jade_base.specs.Rights.{both_rights, is_immediate, join, no_rights};
 ghost use Rattle.jade_base.specs.Specification.{joined_in, kept, rights_in, settled};
 ghost use Rattle.jade_meaning.specs.Specification.{rights_on, covers};
@@ -63,7 +63,8 @@ fn rights_among(spec: &Spec, object: ObjectId) -> Rights
 
 // The rights of the task on an object.
 fn rights_on(own: &Own, object: usize) -> Rights
-    ensures { result ≡ rights_on (rights_of own.now) object }
+    ensures rights { result ≡ rights_on (rights_of own.now) object }
+    ensures narrow { 2 ^ 32 ≤ object → result ≡ no_rights }
 {
     if object < own.objects as usize {
         rights_among(own.spec.spec(), ObjectId(object as u32))
@@ -112,14 +113,16 @@ pub(crate) fn made_for(own: &Own, object: ObjectId) -> Rights
 
 /// Whether the task has an immediate right to read an object.
 pub fn may_read(own: &Own, object: usize) -> bool
-    ensures { result ≡ is_immediate (rights_on (rights_of own.now) object).reads }
+    ensures right { result ≡ is_immediate (rights_on (rights_of own.now) object).reads }
+    ensures narrow { result ≡ true → object < 2 ^ 32 }
 {
     matches!(rights_on(own, object).reads, Right::Immediate)
 }
 
 /// Whether the task has an immediate right to write an object.
 pub fn may_write(own: &Own, object: usize) -> bool
-    ensures { result ≡ is_immediate (rights_on (rights_of own.now) object).writes }
+    ensures right { result ≡ is_immediate (rights_on (rights_of own.now) object).writes }
+    ensures narrow { result ≡ true → object < 2 ^ 32 }
 {
     matches!(rights_on(own, object).writes, Right::Immediate)
 }

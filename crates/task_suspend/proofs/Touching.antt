@@ -1,45 +1,12 @@
 -- A pass that goes past the touches on the way of a course comes to what the course is played up to.
-use Rattle.std.proofs.Common.{
-  ◌≡◌,
-  ◌⊎◌,
-  ℕ,
-  zero,
-  suc,
-  ◌+◌,
-  length,
-  arith,
-  List,
-  [],
-  ◌∷◌,
-  ◌++◌,
-  Bool,
-  true,
-  false,
-  ◌&&◌,
-  Option,
-  Some,
-  None,
-  refl,
-  sym,
-  ap,
-  ap₂,
-  ◌∙◌,
-  subst,
-  inl,
-  inr,
-}
-use Rattle.std.specs.Prelude.{ℤ, nat_eq, slice_index_or, slice_set, is_none, if◌then◌else◌}
-use Rattle.std.proofs.lemmas.Option.{none-some, same_Some}
+use Rattle.std.proofs.Common.{◌≡◌, ◌⊎◌, ℕ, zero, suc, ◌+◌, length, List, [], ◌∷◌, ◌++◌, true, Option, Some, None, refl, sym, ap, ap₂, ◌∙◌, subst, inl, inr}
+use Rattle.std.specs.Prelude.{ℤ, nat_eq, if◌then◌else◌}
 use Rattle.std.proofs.lemmas.Bool.{cases_eq, eq-eqb, ne_eqb}
-use Rattle.jade_base.specs.declared.rights.Mode.{Mode}
-use Rattle.jade_base.specs.declared.rights.Mode.TheVariants.{Reading, Writing, Commuting}
-use Rattle.jade_base.specs.Rights.{mode_of}
 use Rattle.jade_base.specs.Held.{Held}
-use Rattle.jade_meaning.specs.Specification.{Specification, rights_on}
+use Rattle.jade_meaning.specs.Specification.{Specification}
 use Rattle.jade_meaning.specs.Course.{Course, Reads, Writes, Steps, Creates, Changes, Ends}
-use Rattle.jade_meaning.specs.Talk.{Event, Enter, Enroll, Take, TouchRead, TouchWrite, Wants, Give, Leave, Shift, Resign, Holds, held, take_in, first_take}
-use Rattle.jade_meaning.specs.Talk.{touched as touched_holds, events}
-use Rattle.jade_meaning.specs.Walk.{upcoming}
+use Rattle.jade_meaning.specs.Talk.{TouchRead, TouchWrite, Wants, Holds, held}
+use Rattle.jade_meaning.specs.Talk.{events}
 use Rattle.object_shelf.specs.Whole.{with_cell as content_with}
 use Rattle.object_shelf.specs.Shelves.{value_in}
 use Rattle.schedule_core.specs.Plain.{seat_after}
@@ -48,7 +15,7 @@ use Rattle.object_table.specs.Touches.{held_at, put_held, cells_of, touches_firs
 use Rattle.object_table.proofs.Lists.{held_here, held_else}
 use Rattle.object_table.proofs.Touching.{and_left, and_right}
 use Rattle.object_table.proofs.Passing.{both}
-use Rattle.task_machine.specs.Playing.{Contents, Played, with_cell, put_in, where_held, writable, for_writing, cell_of, counted, played, touches}
+use Rattle.task_machine.specs.Playing.{Contents, Played, with_cell, put_in, where_held, writable, cell_of, counted, played, touches}
 use Rattle.task_machine.specs.Telling.{Agrees}
 use Rattle.task_machine.proofs.Telling.{no_take, same_holds, kept_fit, held_to_write}
 use Rattle.task_suspend.specs.Ties.{to_go}

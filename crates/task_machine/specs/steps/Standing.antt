@@ -6,7 +6,6 @@ use Rattle.jade_base.specs.declared.report.Blame.{Blame}
 use Rattle.jade_base.specs.declared.rights.Mode.{Mode}
 use Rattle.jade_base.specs.declared.rights.Rights.{Rights}
 use Rattle.jade_base.specs.Rights.{mode_of}
-use Rattle.jade_base.specs.Held.{Held}
 use Rattle.jade_meaning.specs.Specification.{rights_on}
 use Rattle.jade_meaning.specs.Course.{Ends}
 use Rattle.task_machine.specs.declared.holdings.Row.{Row}

@@ -1,10 +1,10 @@
 -- A content that was surrendered.
-use Rattle.std.specs.Prelude.{◌≡◌, false, Some, None}
+use Rattle.std.specs.Prelude.{◌≡◌, Some, None}
 use Rattle.jade_base.specs.declared.place.ObjectId.{ObjectId}
 use Rattle.jade_base.specs.Held.{Held}
 use Rattle.task_machine.specs.declared.machine.Ask.TheVariants as ask
 use Rattle.task_machine.specs.Executions.{held_by}
-use Rattle.task_machine.specs.Machines.{due_at, surrendered}
+use Rattle.task_machine.specs.Machines.{surrendered}
 use Rattle.task_machine.specs.Asks.{Asking}
 use Rattle.task_machine.specs.steps.Standing.{IsKept}
 

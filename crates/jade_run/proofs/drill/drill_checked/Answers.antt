@@ -2,7 +2,6 @@ use Rattle.std.specs.Prelude.{ℤ}
 use Rattle.std.proofs.Common.{◌≡◌, ℕ, ◌≤◌, true, [], length, ap, ◌∙◌, sym, subst, List}
 use Rattle.std.specs.List.{sum_by}
 use Rattle.jade_base.specs.declared.report.Report.{Report}
-use Rattle.jade_syntax.specs.Abstract.{AbstractProgram}
 use Rattle.jade_syntax.specs.CheckedProgram.{CheckedProgram}
 use Rattle.jade_syntax.specs.Image.{program}
 use Rattle.jade_syntax.specs.Limits.{within_limits}

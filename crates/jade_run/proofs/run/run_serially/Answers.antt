@@ -1,5 +1,5 @@
 use Rattle.std.specs.Prelude.{ℤ}
-use Rattle.std.proofs.Common.{◌≡◌, ℕ, ap, subst, List, ◌∙◌}
+use Rattle.std.proofs.Common.{◌≡◌, ℕ, subst, List}
 use Rattle.jade_syntax.specs.CheckedProgram.{CheckedProgram}
 use Rattle.jade_syntax.specs.Image.{program}
 use Rattle.jade_meaning.specs.Answer.{Answer, answer}

@@ -1,4 +1,4 @@
-use Rattle.task_codegen.proofs.Whole.{put_together, rules_kept}
+use Rattle.task_codegen.proofs.Whole.{rules_kept}
 use Rattle.task_codegen.proofs.program.code_of.Goals as goal
 
 pub of-requires : goal.of-requires

@@ -1,4 +1,4 @@
-use Rattle.std.proofs.Common.{◌+◌, sym, ◌∙◌, refl, arith, ◌≡◌}
+use Rattle.std.proofs.Common.{◌+◌, sym, ◌∙◌, arith, ◌≡◌}
 use Rattle.task_machine.proofs.Answering.{mark_none, mark_some, set_short}
 use Rattle.task_machine.proofs.machine.set_mark.Goals as goal
 

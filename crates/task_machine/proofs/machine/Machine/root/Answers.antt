@@ -1,4 +1,4 @@
-use Rattle.std.proofs.Common.{ap, ap₂, length, sym, subst, ◌∙◌, ◌≡◌, true}
+use Rattle.std.proofs.Common.{ap, ap₂, length, ◌∙◌, true}
 use Rattle.std.specs.Prelude.{replicate}
 use Rattle.jade_base.specs.Rights.{both_rights}
 use Rattle.jade_meaning.specs.Course.{Course}
