@@ -13,11 +13,13 @@ use task_roll::rows::push;
 /// The roll, but for the paths of its live tasks: how many they are, and the notes of the parts that
 /// have ended, in the order in which they ended. No code asks for the paths, so contracts see an
 /// empty one for each task. There is always room for the note of each live task, so that none wants
-/// memory when it ends.
+/// memory when it ends. The words behind are not used: a slot has room for each of its kinds, so what
+/// lies in one slot is on other cache lines of 64 bytes than what lies in the next.
 #[derive(Drop)]
 pub(crate) struct Tally {
     live: usize,
     notes: Vec<PartNote>,
+    apart: [u64; 16],
 }
 
 impl Model for Tally {
@@ -38,7 +40,11 @@ impl Tally {
     {
         let mut notes = Vec::new(alloc);
         notes.reserve(1)?;
-        Ok(Tally { live: 1, notes })
+        Ok(Tally {
+            live: 1,
+            notes,
+            apart: [0; 16],
+        })
     }
 
     /// A live task of this path makes its child of the number `children`, counted from 0, and begins
