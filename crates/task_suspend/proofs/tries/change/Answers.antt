@@ -23,7 +23,7 @@ invariant_of-capsule g c =
     let x = c.args.capsule in
     record {
       tied = changed_so g.N.RunName.mark g.N.RunName.plan x.pass x.machine.value x.from x.events x.tied
-        c.requires.asked c.changed.new.self (rw c.deref.ensures at c.in-None.ensures.none)
+          c.requires.asked c.changed.new.self (rw c.deref.ensures at c.in-None.ensures.none)
           (rw c.deref_mut.ensures.value at c.changed.ensures);
     }
 

@@ -52,7 +52,7 @@ invariant_of-child g c =
           c.in_ok-machine-in-Done.machine.value (c.in_ok-young-in-Done.ensures.child.0 ∙ c.in_ok-enroll.ensures.mark)
           (enrolled_done o x.pass.shows w c.in_ok-enroll.field-0 c.in-Done.is c.in_ok-enroll.ensures.answer) c.in_ok-young-in-Done.ensures.child.1
           (rw (sym c.in_ok-machine-in-Done.ensures) at (rw c.deref_mut.ensures.value at c.in_ok-theirs-in-Done.ensures.begins))
-           (rw (sym c.in_ok-machine-in-Done.ensures) at (rw c.deref_mut.ensures.value at c.in_ok-theirs-in-Done.ensures.objects));
+          (rw (sym c.in_ok-machine-in-Done.ensures) at (rw c.deref_mut.ensures.value at c.in_ok-theirs-in-Done.ensures.objects));
     }
 
 pub invariant_of-capsule : goal.invariant_of-capsule
@@ -94,8 +94,12 @@ returns-in_ok-machine-in-Done g c =
       bore = subst B (roll_at g.N.RunName.mark g.N.RunName.plan x.pass x.machine.value x.from x.events x.tied c.args.table.now.plan c.requires.table.1)
           (enrolled_done o x.pass.shows w c.in_ok-enroll.field-0 c.in-Done.is c.in_ok-enroll.ensures.answer);
       parent = c.in_ok-young-in-Done.ensures.parent;
-      answered = record { machine = (rw c.deref_mut.ensures.value at c.in_ok-theirs-in-Done.ensures.created);
-        from = refl; events = c.in_ok-done.ensures; gate = refl };
+      answered = record {
+        machine = (rw c.deref_mut.ensures.value at c.in_ok-theirs-in-Done.ensures.created);
+        from = refl;
+        events = c.in_ok-done.ensures;
+        gate = refl;
+      };
       young = c.in_ok-young-in-Done.ensures.child.1;
       begins = (rw (sym c.in_ok-machine-in-Done.ensures) at (rw c.deref_mut.ensures.value at c.in_ok-theirs-in-Done.ensures.begins));
       from = refl;

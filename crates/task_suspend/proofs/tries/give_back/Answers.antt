@@ -38,7 +38,7 @@ give-requires-clause-held g c =
     let x = c.args.capsule in
     give_held g.N.RunName.mark g.N.RunName.plan x.pass x.machine.value x.from x.events x.tied c.args.object c.requires.asked
     ((rw c.deref.ensures at c.stands.ensures) (ask.GiveBack c.args.object) c.requires.asked)
-      c.surrender-content.result (rw c.deref_mut.ensures.value at c.surrender-content.ensures.content)
+    c.surrender-content.result (rw c.deref_mut.ensures.value at c.surrender-content.ensures.content)
 
 pub place-requires : goal.place-requires
 place-requires g c =
@@ -62,9 +62,11 @@ invariant_of-capsule g c =
 pub restore-requires : goal.restore-requires
 restore-requires g c =
     let x = c.args.capsule in
-    let P : Held → Type 0 = λ h. IsSurrendered c.args.object h x.machine.value c.surrender-content.new.self in
-    (x.machine.value, rw (sym c.deref_mut-in-Err.ensures.value) at
-     (subst P (sym c.in-Err.ensures.busy.0) (rw c.deref_mut.ensures.value at c.surrender-content.ensures.given)))
+    let P : Held → Type 0 = λ h. IsSurrendered c.args.object h x.machine.value c.surrender-content.new.self in (
+      x.machine.value,
+      rw (sym c.deref_mut-in-Err.ensures.value) at
+          (subst P (sym c.in-Err.ensures.busy.0) (rw c.deref_mut.ensures.value at c.surrender-content.ensures.given)),
+    )
 
 pub invariant_of-capsule-in-Err : goal.invariant_of-capsule-in-Err
 invariant_of-capsule-in-Err g c =
@@ -89,8 +91,12 @@ returns-in-Ok g c =
     subst F (sym c.place.ensures) (gives_back (record {
       asked = c.requires.asked;
       did = c.in-Ok.ensures.done;
-      answered = record { machine = (rw c.deref_mut.ensures.value at c.surrender-content.ensures.surrendered);
-        from = refl; events = c.in_ok-done.ensures; gate = refl };
+      answered = record {
+        machine = (rw c.deref_mut.ensures.value at c.surrender-content.ensures.surrendered);
+        from = refl;
+        events = c.in_ok-done.ensures;
+        gate = refl;
+      };
     }))
 
 pub returns-in-Err : goal.returns-in-Err

@@ -10,9 +10,11 @@ pass_on-requires g c =
     let x = c.args.capsule in
     let b = c.advance.new.self in
     let sum : c.in_ok-done.done ≡ x.events + b.touched = c.in_ok-done.ensures ∙ ap (λ n. x.events + n) (rw c.deref-2.ensures at c.touched.ensures) in
-    let P : ℕ → Type 0 = λ n. Comes b.touched n x.pass.shows in
-    (b.touched, subst P (sym sum) (comes g.N.RunName.mark g.N.RunName.plan x.pass x.machine.value x.from x.events x.tied b c.requires
-      (rw c.deref_mut.ensures.value at c.in_ok-_ask.ensures.goes)))
+    let P : ℕ → Type 0 = λ n. Comes b.touched n x.pass.shows in (
+      b.touched,
+      subst P (sym sum) (comes g.N.RunName.mark g.N.RunName.plan x.pass x.machine.value x.from x.events x.tied b c.requires
+          (rw c.deref_mut.ensures.value at c.in_ok-_ask.ensures.goes)),
+    )
 
 pub invariant_of-result : goal.invariant_of-result
 invariant_of-result g c =
@@ -22,12 +24,12 @@ invariant_of-result g c =
     let sum : c.in_ok-done.done ≡ x.events + b.touched = c.in_ok-done.ensures ∙ ap (λ n. x.events + n) (rw c.deref-2.ensures at c.touched.ensures) in
     let P : ℕ → Type 0 = λ n. Comes b.touched n x.pass.shows in
     let touches = subst P (sym sum) (comes g.N.RunName.mark g.N.RunName.plan x.pass x.machine.value x.from x.events x.tied b c.requires
-      (rw c.deref_mut.ensures.value at c.in_ok-_ask.ensures.goes)) in
+    (rw c.deref_mut.ensures.value at c.in_ok-_ask.ensures.goes)) in
     let Q : ℕ → Type 0 = λ n. Tied g.N.RunName.mark g.N.RunName.plan q b 0 n in
     record {
       tied = subst Q (sym sum)
           (advanced g.N.RunName.mark g.N.RunName.plan x.pass x.machine.value x.from x.events x.tied b c.in_ok-_ask._ask
-            q c.requires (rw c.deref_mut.ensures.value at c.in_ok-_ask.ensures.goes)
+          q c.requires (rw c.deref_mut.ensures.value at c.in_ok-_ask.ensures.goes)
           c.in_ok-_ask.ensures.asks ((rw c.deref.ensures at c.stands.ensures) c.in_ok-_ask._ask c.in_ok-_ask.ensures.asks) c.pass_on.ensures.mark
           (c.pass_on.ensures.shows b.touched touches));
     }
@@ -39,7 +41,7 @@ returns g c =
     let sum : c.in_ok-done.done ≡ x.events + b.touched = c.in_ok-done.ensures ∙ ap (λ n. x.events + n) (rw c.deref-2.ensures at c.touched.ensures) in
     let P : ℕ → Type 0 = λ n. Comes b.touched n x.pass.shows in
     let touches = subst P (sym sum) (comes g.N.RunName.mark g.N.RunName.plan x.pass x.machine.value x.from x.events x.tied b c.requires
-      (rw c.deref_mut.ensures.value at c.in_ok-_ask.ensures.goes)) in
+    (rw c.deref_mut.ensures.value at c.in_ok-_ask.ensures.goes)) in
     advances (record {
       idle = c.requires;
       next = c.in_ok-_ask._ask;

@@ -76,7 +76,7 @@ returns-in-Busy g c =
       asked = c.requires.asked;
       event = Leave c.args.object.0;
       next = last_next g.N.RunName.mark g.N.RunName.plan x.pass x.machine.value x.from x.events x.tied
-        c.args.blame (Some (ending c.args.blame)) c.requires.asked
+          c.args.blame (Some (ending c.args.blame)) c.requires.asked
           (ends_so c.args.blame x.machine.value.at) c.args.object.0 c.requires.entry;
       read = found.after;
       unmoved = record { machine = refl; from = refl; events = refl; gate = refl };

@@ -67,7 +67,7 @@ returns g c =
       asked = c.requires.asked;
       event = Resign c.args.blame c.steps-steps.result;
       next = resign_next g.N.RunName.mark g.N.RunName.plan x.pass x.machine.value x.from x.events x.tied
-        c.args.blame (Some (ending c.args.blame)) c.requires.asked
+          c.args.blame (Some (ending c.args.blame)) c.requires.asked
           (ends_so c.args.blame x.machine.value.at) c.steps-steps.result (rw c.deref.ensures at c.steps-steps.ensures) c.requires.over;
       read = found.after ∙ ap (λ k. found_busy k x.pass.shows)
           (roll_at g.N.RunName.mark g.N.RunName.plan x.pass x.machine.value x.from x.events x.tied c.args.table.now.plan c.requires.table.1);

@@ -56,7 +56,7 @@ invariant_of-capsule g c =
           (took g.N.RunName.mark g.N.RunName.plan x.pass x.machine.value x.from x.events x.tied c.args.object c.args.mode c.requires.asked
           ((rw c.deref.ensures at c.stands.ensures) (ask.Take c.args.object c.args.mode) c.requires.asked) c.in-Got.content q b c.in_ok-content.ensures.mark
           (subst P c.in-Got.is c.in_ok-content.ensures.answer) (rw c.deref_mut.ensures.value at c.supply.ensures.supplied)
-            (rw c.deref_mut.ensures.value at c.supply.ensures.held));
+          (rw c.deref_mut.ensures.value at c.supply.ensures.held));
     }
 
 pub invariant_of-capsule-in-NotYet : goal.invariant_of-capsule-in-NotYet

@@ -14,9 +14,9 @@ pub invariant_of-result : goal.invariant_of-result
 invariant_of-result g c = record {
   tied = rooted c.args.compiled.now.program c.decoded.result.now c.args.numbers.now c.args.limit c.decoded.ensures.code (c.decoded.ensures.follows c.args.limit)
       (c.requires.given ∙ inputs_many c.args.compiled.now.program.items) g.N.RunName.mark g.N.RunName.plan
-        c.args.pass c.in_ok-machine.machine.value c.requires.mark
+      c.args.pass c.in_ok-machine.machine.value c.requires.mark
       c.requires.shows c.requires.plan (rw (sym c.in_ok-machine.ensures) at c.in_ok-begun.ensures.begins)
-        (rw (sym c.in_ok-machine.ensures) at c.in_ok-begun.ensures.objects);
+      (rw (sym c.in_ok-machine.ensures) at c.in_ok-begun.ensures.objects);
 }
 
 pub root-requires-clause-objects : goal.root-requires-clause-objects
