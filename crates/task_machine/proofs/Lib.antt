@@ -3,6 +3,7 @@ pub mod Sparse
 mod Sections
 pub mod Meanings
 mod Fitting
+mod Following
 mod Naming
 pub mod Acting
 mod Running
