@@ -15,7 +15,7 @@ const BUSY_TRIES: u32 = 40;
 const LONGEST_PAUSE: u32 = 3;
 
 /// The tries in vain since the task last went on: how often another had a turn, and whether it was
-/// seen to wait, and how often its object was freed before.
+/// seen to wait, in which case it is counted as waiting, and how often its object was freed before.
 #[derive(Clone, Copy)]
 pub(crate) struct Tries {
     busy: u32,
@@ -60,8 +60,18 @@ pub(crate) fn settle<'c, N: RunName, R: Wait>(
     match went {
         Ok(Went::Waits(place, task)) => wait(rt, board, worker, place, task, tries),
         Ok(Went::Busy(task)) => pause(board, worker, task, tries),
-        Ok(went) => go_on(rt, board, worker, went),
+        Ok(went) => {
+            no_longer_waits(board, tries);
+            go_on(rt, board, worker, went)
+        }
         Err(_) => Err(Memory),
+    }
+}
+
+// A task that was seen to wait is not counted as waiting any more.
+fn no_longer_waits<'c, N: RunName>(board: &Board<'c, N>, tries: Tries) {
+    if tries.waited.is_some() {
+        board.signals.task_left();
     }
 }
 
@@ -139,18 +149,18 @@ fn part<'c, N: RunName, R: Wait>(
     }
 }
 
-// The object was freed: the tasks that wait for it are ready. Where no task waits at all, none lies in
-// its room, or the one that comes there just now sees that the object was freed meanwhile.
+// The object was freed: the tasks that wait for it are ready. Where no task is counted as waiting, none
+// lies in its room, and one that is counted from now on is tried once more before it goes there.
 fn free<'c, N: RunName, R: Wait>(
     rt: &R,
     board: &Board<'c, N>,
     worker: &mut TaskWorker<'c, N>,
     place: Place<N>,
 ) -> Result<(), Memory> {
-    board.count_freed(&place);
     if !board.signals.has_waiting() {
         return Ok(());
     }
+    board.count_freed(&place);
     let tasks = board.rooms.drain(rt, place.object);
     requeue(board, worker, tasks)
 }
@@ -178,9 +188,9 @@ pub(crate) fn requeue<'c, N: RunName>(
     Ok(())
 }
 
-// The task waits for an object. It is tried once more, and goes then to the object's room. Where the
-// object was freed since before the second try, nobody else may know that it waits, so the room is
-// drained.
+// The task waits for an object. It is counted as waiting and tried once more, and goes then to the
+// object's room. Where the object was freed since before the second try, nobody else may know that it
+// waits, so the room is drained.
 fn wait<'c, N: RunName, R: Wait>(
     rt: &R,
     board: &Board<'c, N>,
@@ -189,15 +199,14 @@ fn wait<'c, N: RunName, R: Wait>(
     task: Capsule<'c, N>,
     tries: Tries,
 ) -> Result<Option<Hand<'c, N>>, Memory> {
-    let freed = board.times_freed(&place);
     let Some(before) = tries.waited else {
+        board.signals.task_waits();
         let tries = Tries {
             busy: tries.busy,
-            waited: Some(freed),
+            waited: Some(board.times_freed(&place)),
         };
         return Ok(Some(Hand { task, tries }));
     };
-    board.signals.task_waits();
     match board.rooms.put(rt, place.object, task) {
         Ok(()) => {}
         Err(_) => return Err(Memory),
@@ -218,6 +227,7 @@ fn pause<'c, N: RunName>(
     tries: Tries,
 ) -> Result<Option<Hand<'c, N>>, Memory> {
     if tries.busy >= BUSY_TRIES {
+        no_longer_waits(board, tries);
         make_ready(board, worker, task)?;
         return Ok(None);
     }
