@@ -1,11 +1,11 @@
 -- A pass that goes past the touches on the way of a course comes to what the course is played up to.
-use Rattle.std.proofs.Common.{◌≡◌, ◌⊎◌, ℕ, zero, suc, ◌+◌, length, List, [], ◌∷◌, ◌++◌, true, Option, Some, None, refl, sym, ap, ap₂, ◌∙◌, subst, inl, inr}
+use Rattle.std.proofs.Common.{◌≡◌, ◌⊎◌, ℕ, zero, suc, length, List, [], ◌∷◌, ◌++◌, true, Option, Some, None, refl, sym, ap, ap₂, ◌∙◌, subst, inl, inr}
 use Rattle.std.specs.Prelude.{ℤ, nat_eq, if◌then◌else◌}
 use Rattle.std.proofs.lemmas.Bool.{cases_eq, eq-eqb, ne_eqb}
 use Rattle.jade_base.specs.Held.{Held}
 use Rattle.jade_meaning.specs.Specification.{Specification}
 use Rattle.jade_meaning.specs.Course.{Course, Reads, Writes, Steps, Creates, Changes, Ends}
-use Rattle.jade_meaning.specs.Talk.{TouchRead, TouchWrite, Wants, Holds, held}
+use Rattle.jade_meaning.specs.Talk.{TouchRead, TouchWrite, Wants, Holds}
 use Rattle.jade_meaning.specs.Talk.{events}
 use Rattle.object_shelf.specs.Whole.{with_cell as content_with}
 use Rattle.object_shelf.specs.Shelves.{value_in}

@@ -10,6 +10,7 @@ use Rattle.task_machine.specs.Asks.{Asking, left_from}
 use Rattle.object_table.specs.Calls.{Pass}
 use Rattle.object_table.specs.Touches.{held_at}
 use Rattle.object_table.specs.Views.{count_of}
+use Rattle.task_suspend.specs.declared.capsule.Running.{Running}
 
 -- the events of a task from the next one on, where its further reads are answered by this list
 abbrev pub to_go : Walk → List ℤ → List Event
@@ -27,3 +28,7 @@ pub record Tied (mark : TableId) (plan : RunPlan) (p : Pass) (a : Asking) (from 
   pub left : (vs : List ℤ) → to_go p.shows.seat.walker vs ≡ left_from from a.ask a.at vs
   pub held : (o : ℕ) → held_at o p.shows.held ≡ held_by a.at.execution o
   pub done : p.shows.seat.walker.done ≡ events
+
+-- A task that runs is one of the run of this table and this plan, and its pass and its machine are at the same ask.
+abbrev pub TiedTo : TableId → RunPlan → Running → Type 0
+TiedTo mark plan r = Tied mark plan r.pass r.machine r.from r.events

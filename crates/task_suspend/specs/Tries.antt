@@ -32,7 +32,13 @@ pub record Carried : Type 0 where
   pub gate : Bool
 
 abbrev pub carried : {N : Type 0} {g : Ghosts N} → Capsule N g → Carried
-carried c = record { pass = c.pass; machine = c.machine.value; from = c.from; events = c.events; gate = c.passed }
+carried c = record {
+  pass = c.task.value.pass;
+  machine = c.task.value.machine;
+  from = c.task.value.from;
+  events = c.task.value.events;
+  gate = c.task.value.passed;
+}
 
 -- the entries of a child, the changes of entries, and the entries that leave, on the objects from a number on
 abbrev pub entries_from : ℕ → Carried → List Event

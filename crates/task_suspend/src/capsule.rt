@@ -3,8 +3,8 @@
 ghost use Rattle.std.specs.Prelude.{◌≡◌, IfOk, ◌-◌, ◌^◌, ◌+◌, ◌%◌, is_some, length, true};
 ghost use Rattle.jade_syntax.specs.Objects.{input_names};
 ghost use Rattle.object_table.specs.Rule.{first_view};
-ghost use Rattle.task_suspend.specs.Ties.{Tied};
-ghost use Rattle.task_suspend.specs.steps.Facts.{Tied-prop};
+ghost use Rattle.task_suspend.specs.Ties.{TiedTo};
+ghost use Rattle.task_suspend.specs.steps.Facts.{TiedTo-prop};
 
 use crate::name::RunName;
 use jade_base::{Memory, Path};
@@ -14,26 +14,33 @@ use std::marker::PhantomData;
 use task_codegen::Compiled;
 use task_machine::Machine;
 
-/// A task in a worker's hands: the pass and the machine of one task of the run `N`, at the same ask.
-/// What the ask that stands stands for is done on the objects below the number `from`; so many events
-/// of the task are done; and `passed` says whether the gate was called for the ask that stands.
+/// A task that runs: the pass and the machine of one task, at the same ask. What the ask that stands
+/// stands for is done on the objects below the number `from`; so many events of the task are done; and
+/// `passed` says whether the gate was called for the ask that stands.
 #[derive(Drop)]
-pub struct Capsule<'c, N: RunName> {
+pub struct Running<'c> {
     pub pass: TaskPass,
-    pub machine: Box<Machine<'c>>,
+    pub machine: Machine<'c>,
     pub from: u32,
     pub events: u64,
     pub passed: bool,
-    pub name: PhantomData<N>,
-    pub ghost tied: { Tied N.mark N.plan pass machine.value from events } by { Tied-prop N.mark N.plan pass machine.value from events },
 }
 
-/// A machine in a place of its own, so that a capsule is small to move. The error is want of memory.
-pub(crate) fn boxed<'c>(alloc: Global, machine: Machine<'c>) -> Result<Box<Machine<'c>>, Memory>
-    ensures { IfOk result (λ b. b.value ≡ machine.entry) }
+/// A task in a worker's hands, of the run `N`. It lies in a place of its own, so that it is small to
+/// move.
+#[derive(Drop)]
+pub struct Capsule<'c, N: RunName> {
+    pub task: Box<Running<'c>>,
+    pub name: PhantomData<N>,
+    pub ghost tied: { TiedTo N.mark N.plan task.value } by { TiedTo-prop N.mark N.plan task.value },
+}
+
+/// A task that runs in a place of its own. The error is want of memory.
+pub(crate) fn boxed<'c>(alloc: Global, task: Running<'c>) -> Result<Box<Running<'c>>, Memory>
+    ensures { IfOk result (λ b. b.value ≡ task.entry) }
 {
-    match Box::new(alloc, machine) {
-        Ok(machine) => Ok(machine),
+    match Box::new(alloc, task) {
+        Ok(task) => Ok(task),
         Err(_) => Err(Memory),
     }
 }
@@ -54,53 +61,56 @@ impl<'c, N: RunName> Capsule<'c, N> {
         requires given { length numbers.now ≡ length (input_names compiled.now.program.items) }
     {
         let _objects = compiled.checked().objects();
-        let begun = Machine::root(alloc, compiled.decoded(), numbers, limit)?;
-        let machine = boxed(alloc, begun)?;
-        Ok(Capsule {
+        let machine = Machine::root(alloc, compiled.decoded(), numbers, limit)?;
+        let running = Running {
             pass,
             machine,
             from: 0,
             events: 0,
             passed: false,
+        };
+        let task = boxed(alloc, running)?;
+        Ok(Capsule {
+            task,
             name: PhantomData,
         })
     }
 
     /// The path of its task. It takes no memory.
     pub fn path(&self) -> &Path
-        ensures { result.now ≡ self.now.pass.shows.seat.path }
+        ensures { result.now ≡ self.now.task.value.pass.shows.seat.path }
     {
-        self.pass.path()
+        self.task.pass.path()
     }
 
     /// Whether an ask stands. It takes no memory.
     pub fn is_asking(&self) -> bool
-        ensures { result ≡ is_some self.now.machine.value.ask }
+        ensures { result ≡ is_some self.now.task.value.machine.ask }
     {
-        self.machine.asked().is_some()
+        self.task.machine.asked().is_some()
     }
 
     /// The number of the last ask, from 0, modulo 2^64: how many asks were made, less one. It takes no
     /// memory.
     pub fn ask_number(&self) -> u64
-        ensures { result ≡ (self.now.machine.value.asks + (2 ^ 64 - 1)) % 2 ^ 64 }
+        ensures { result ≡ (self.now.task.value.machine.asks + (2 ^ 64 - 1)) % 2 ^ 64 }
     {
-        self.machine.asks().wrapping_sub(1)
+        self.task.machine.asks().wrapping_sub(1)
     }
 
     /// Whether the gate was called for the ask that stands. It takes no memory.
     pub fn passed(&self) -> bool
-        ensures { result ≡ self.now.passed }
+        ensures { result ≡ self.now.task.value.passed }
     {
-        self.passed
+        self.task.passed
     }
 
     /// Notes that the gate was called for the ask that stands. It takes no memory.
     pub fn set_passed(&mut self)
-        ensures passed { self.new.passed ≡ true }
-        ensures pass { self.new.pass ≡ self.old.pass }
-        ensures machine { self.new.machine ≡ self.old.machine }
+        ensures passed { self.new.task.value.passed ≡ true }
+        ensures pass { self.new.task.value.pass ≡ self.old.task.value.pass }
+        ensures machine { self.new.task.value.machine ≡ self.old.task.value.machine }
     {
-        self.passed = true;
+        self.task.passed = true;
     }
 }

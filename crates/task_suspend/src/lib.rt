@@ -10,7 +10,7 @@ pub mod sequence;
 pub mod tries;
 pub mod went;
 
-pub use capsule::Capsule;
+pub use capsule::{Capsule, Running};
 pub use list::CapsuleList;
 pub use name::RunName;
 pub use rooms::Rooms;

@@ -10,7 +10,7 @@ ghost use Rattle.task_machine.specs.Machines.{made_at, amended_at};
 ghost use Rattle.task_machine.specs.Asks.{enters_from, shifts_from, leaves_from, follows};
 ghost use Rattle.task_suspend.specs.Tries.{WentAs, ending};
 
-use crate::capsule::{Capsule, boxed};
+use crate::capsule::{Capsule, Running, boxed};
 use crate::name::RunName;
 use crate::went::{Place, Resigned, Went};
 use jade_base::{Blame, Memory, Mode, ObjectId, Rights};
@@ -30,7 +30,7 @@ pub fn attempt<'c, N: RunName>(
     requires { (table.now.mark ≡ N.mark) × (table.now.plan ≡ N.plan) }
     ensures { IfOk result (λ went. WentAs capsule.entry went) }
 {
-    match capsule.machine.asked() {
+    match capsule.task.machine.asked() {
         None => go_on(alloc, capsule),
         Some(Ask::Take(object, mode)) => take(alloc, table, capsule, object, mode),
         Some(Ask::GiveBack(object)) => give_back(table, capsule, object),
@@ -73,29 +73,19 @@ fn place<N: RunName>(object: ObjectId) -> Place<N>
 }
 
 // No ask stands: the task goes on to the next one, past the cells that it touches on the way.
-fn go_on<'c, N: RunName>(alloc: Global, capsule: Capsule<'c, N>) -> Result<Went<'c, N>, Memory>
-    requires { capsule.machine.value.ask ≡ None }
+fn go_on<'c, N: RunName>(alloc: Global, mut capsule: Capsule<'c, N>) -> Result<Went<'c, N>, Memory>
+    requires { capsule.task.value.machine.ask ≡ None }
     ensures { IfOk result (λ went. WentAs capsule.entry went) }
 {
-    let Capsule {
-        mut pass,
-        mut machine,
-        events,
-        name,
-        ..
-    } = capsule;
-    let _ask = machine.advance(alloc)?;
-    machine.stands();
-    let done = more(events, machine.touched())?;
-    pass.pass_on(done);
-    Ok(Went::Ready(Capsule {
-        pass,
-        machine,
-        from: 0,
-        events: done,
-        passed: false,
-        name,
-    }))
+    let task = &mut *capsule.task;
+    let _ask = task.machine.advance(alloc)?;
+    task.machine.stands();
+    let done = more(task.events, task.machine.touched())?;
+    task.pass.pass_on(done);
+    task.from = 0;
+    task.events = done;
+    task.passed = false;
+    Ok(Went::Ready(capsule))
 }
 
 // A content is asked for.
@@ -107,16 +97,17 @@ fn take<'c, N: RunName>(
     mode: Mode,
 ) -> Result<Went<'c, N>, Memory>
     requires table { (table.now.mark ≡ N.mark) × (table.now.plan ≡ N.plan) }
-    requires asked { capsule.machine.value.ask ≡ Some (Ask.Take object mode) }
+    requires asked { capsule.task.value.machine.ask ≡ Some (Ask.Take object mode) }
     ensures { IfOk result (λ went. WentAs capsule.entry went) }
 {
-    capsule.machine.stands();
-    let done = more(capsule.events, 1)?;
-    match table.take(alloc, &mut capsule.pass, object, mode)? {
+    let task = &mut *capsule.task;
+    task.machine.stands();
+    let done = more(task.events, 1)?;
+    match table.take(alloc, &mut task.pass, object, mode)? {
         Taken::Got(content) => {
-            capsule.machine.supply(object, content);
-            capsule.events = done;
-            capsule.passed = false;
+            task.machine.supply(object, content);
+            task.events = done;
+            task.passed = false;
             Ok(Went::Ready(capsule))
         }
         Taken::NotYet(keeper) => {
@@ -134,20 +125,21 @@ fn give_back<'c, N: RunName>(
     object: ObjectId,
 ) -> Result<Went<'c, N>, Memory>
     requires table { (table.now.mark ≡ N.mark) × (table.now.plan ≡ N.plan) }
-    requires asked { capsule.machine.value.ask ≡ Some (Ask.GiveBack object) }
+    requires asked { capsule.task.value.machine.ask ≡ Some (Ask.GiveBack object) }
     ensures { IfOk result (λ went. WentAs capsule.entry went) }
 {
-    capsule.machine.stands();
-    let done = more(capsule.events, 1)?;
-    let content = capsule.machine.surrender(object);
-    match table.give(&mut capsule.pass, object, content) {
+    let task = &mut *capsule.task;
+    task.machine.stands();
+    let done = more(task.events, 1)?;
+    let content = task.machine.surrender(object);
+    match table.give(&mut task.pass, object, content) {
         Ok(()) => {
-            capsule.events = done;
-            capsule.passed = false;
+            task.events = done;
+            task.passed = false;
             Ok(Went::Freed(place(object), capsule))
         }
         Err((back, _)) => {
-            capsule.machine.restore(object, back);
+            task.machine.restore(object, back);
             Ok(Went::Busy(capsule))
         }
     }
@@ -160,10 +152,11 @@ fn create<'c, N: RunName>(
     capsule: Capsule<'c, N>,
 ) -> Result<Went<'c, N>, Memory>
     requires table { (table.now.mark ≡ N.mark) × (table.now.plan ≡ N.plan) }
-    requires asked { capsule.machine.value.ask ≡ Some Ask.Create }
+    requires asked { capsule.task.value.machine.ask ≡ Some Ask.Create }
     ensures { IfOk result (λ went. WentAs capsule.entry went) }
 {
-    match capsule.machine.next_enter(ObjectId(capsule.from)) {
+    let task = &*capsule.task;
+    match task.machine.next_enter(ObjectId(task.from)) {
         Some((object, rights)) => enter(alloc, table, capsule, object, rights),
         None => enroll(alloc, table, capsule),
     }
@@ -178,18 +171,19 @@ fn enter<'c, N: RunName>(
     rights: Rights,
 ) -> Result<Went<'c, N>, Memory>
     requires table { (table.now.mark ≡ N.mark) × (table.now.plan ≡ N.plan) }
-    requires asked { capsule.machine.value.ask ≡ Some Ask.Create }
-    requires inside { object.0 < capsule.machine.value.at.execution.stage.objects }
-    requires entry { let made = made_at capsule.machine.value.at.execution
-        in enters_from capsule.from made ≡ Enter object.0 rights ∷ enters_from (object.0 + 1) made }
+    requires asked { capsule.task.value.machine.ask ≡ Some Ask.Create }
+    requires inside { object.0 < capsule.task.value.machine.at.execution.stage.objects }
+    requires entry { let made = made_at capsule.task.value.machine.at.execution
+        in enters_from capsule.task.value.from made ≡ Enter object.0 rights ∷ enters_from (object.0 + 1) made }
     ensures { IfOk result (λ went. WentAs capsule.entry went) }
 {
-    let done = more(capsule.events, 1)?;
+    let task = &mut *capsule.task;
+    let done = more(task.events, 1)?;
     let next = above(object)?;
-    match table.enter(alloc, &mut capsule.pass, object, rights)? {
+    match table.enter(alloc, &mut task.pass, object, rights)? {
         Tried::Done => {
-            capsule.from = next;
-            capsule.events = done;
+            task.from = next;
+            task.events = done;
             Ok(Went::Ready(capsule))
         }
         Tried::Busy(_) => Ok(Went::Busy(capsule)),
@@ -203,27 +197,31 @@ fn enroll<'c, N: RunName>(
     mut capsule: Capsule<'c, N>,
 ) -> Result<Went<'c, N>, Memory>
     requires table { (table.now.mark ≡ N.mark) × (table.now.plan ≡ N.plan) }
-    requires asked { capsule.machine.value.ask ≡ Some Ask.Create }
-    requires entered { enters_from capsule.from (made_at capsule.machine.value.at.execution) ≡ [] }
+    requires asked { capsule.task.value.machine.ask ≡ Some Ask.Create }
+    requires entered { enters_from capsule.task.value.from (made_at capsule.task.value.machine.at.execution) ≡ [] }
     ensures { IfOk result (λ went. WentAs capsule.entry went) }
 {
-    let done = more(capsule.events, 1)?;
-    let steps = capsule.machine.steps();
-    match table.enroll(alloc, &mut capsule.pass, steps)? {
+    let task = &mut *capsule.task;
+    let done = more(task.events, 1)?;
+    let steps = task.machine.steps();
+    match table.enroll(alloc, &mut task.pass, steps)? {
         Tried::Done => {
-            let young = table.split(alloc, &mut capsule.pass)?;
-            let theirs = capsule.machine.child(alloc)?;
-            let machine = boxed(alloc, theirs)?;
-            let child = Capsule {
+            let young = table.split(alloc, &mut task.pass)?;
+            let machine = task.machine.child(alloc)?;
+            let running = Running {
                 pass: young,
                 machine,
                 from: 0,
                 events: 0,
                 passed: false,
+            };
+            let theirs = boxed(alloc, running)?;
+            let child = Capsule {
+                task: theirs,
                 name: PhantomData,
             };
-            capsule.events = done;
-            capsule.passed = false;
+            task.events = done;
+            task.passed = false;
             Ok(Went::Parted(capsule, child))
         }
         Tried::Busy(_) => Ok(Went::Busy(capsule)),
@@ -237,14 +235,16 @@ fn change<'c, N: RunName>(
     mut capsule: Capsule<'c, N>,
 ) -> Result<Went<'c, N>, Memory>
     requires table { (table.now.mark ≡ N.mark) × (table.now.plan ≡ N.plan) }
-    requires asked { capsule.machine.value.ask ≡ Some Ask.Change }
+    requires asked { capsule.task.value.machine.ask ≡ Some Ask.Change }
     ensures { IfOk result (λ went. WentAs capsule.entry went) }
 {
-    match capsule.machine.next_change(ObjectId(capsule.from)) {
+    let task = &*capsule.task;
+    match task.machine.next_change(ObjectId(task.from)) {
         Some((object, rights)) => follow(table, capsule, object, rights),
         None => {
-            capsule.machine.changed();
-            capsule.passed = false;
+            let task = &mut *capsule.task;
+            task.machine.changed();
+            task.passed = false;
             Ok(Went::Ready(capsule))
         }
     }
@@ -274,18 +274,19 @@ fn follow<'c, N: RunName>(
     rights: Rights,
 ) -> Result<Went<'c, N>, Memory>
     requires table { (table.now.mark ≡ N.mark) × (table.now.plan ≡ N.plan) }
-    requires asked { capsule.machine.value.ask ≡ Some Ask.Change }
-    requires inside { object.0 < capsule.machine.value.at.execution.stage.objects }
-    requires change { let old = rights_at capsule.machine.value.at.execution.stage in let new = amended_at capsule.machine.value.at.execution
-        in shifts_from capsule.from old new ≡ follows object.0 rights ∷ shifts_from (object.0 + 1) old new }
+    requires asked { capsule.task.value.machine.ask ≡ Some Ask.Change }
+    requires inside { object.0 < capsule.task.value.machine.at.execution.stage.objects }
+    requires change { let old = rights_at capsule.task.value.machine.at.execution.stage in let new = amended_at capsule.task.value.machine.at.execution
+        in shifts_from capsule.task.value.from old new ≡ follows object.0 rights ∷ shifts_from (object.0 + 1) old new }
     ensures { IfOk result (λ went. WentAs capsule.entry went) }
 {
-    let done = more(capsule.events, 1)?;
+    let task = &mut *capsule.task;
+    let done = more(task.events, 1)?;
     let next = above(object)?;
-    match try_follow(table, &mut capsule.pass, object, rights) {
+    match try_follow(table, &mut task.pass, object, rights) {
         Tried::Done => {
-            capsule.from = next;
-            capsule.events = done;
+            task.from = next;
+            task.events = done;
             Ok(Went::Freed(place(object), capsule))
         }
         Tried::Busy(_) => Ok(Went::Busy(capsule)),
@@ -299,10 +300,11 @@ fn end<'c, N: RunName>(
     blame: Option<Blame>,
 ) -> Result<Went<'c, N>, Memory>
     requires table { (table.now.mark ≡ N.mark) × (table.now.plan ≡ N.plan) }
-    requires asked { capsule.machine.value.ask ≡ Some (ending blame) }
+    requires asked { capsule.task.value.machine.ask ≡ Some (ending blame) }
     ensures { IfOk result (λ went. WentAs capsule.entry went) }
 {
-    match capsule.machine.next_leave(ObjectId(capsule.from)) {
+    let task = &*capsule.task;
+    match task.machine.next_leave(ObjectId(task.from)) {
         Some(object) => leave(table, capsule, blame, object),
         None => resign(table, capsule, blame),
     }
@@ -316,18 +318,19 @@ fn leave<'c, N: RunName>(
     object: ObjectId,
 ) -> Result<Went<'c, N>, Memory>
     requires table { (table.now.mark ≡ N.mark) × (table.now.plan ≡ N.plan) }
-    requires asked { capsule.machine.value.ask ≡ Some (ending blame) }
-    requires inside { object.0 < capsule.machine.value.at.execution.stage.objects }
-    requires entry { let old = rights_at capsule.machine.value.at.execution.stage
-        in leaves_from capsule.from old ≡ Leave object.0 ∷ leaves_from (object.0 + 1) old }
+    requires asked { capsule.task.value.machine.ask ≡ Some (ending blame) }
+    requires inside { object.0 < capsule.task.value.machine.at.execution.stage.objects }
+    requires entry { let old = rights_at capsule.task.value.machine.at.execution.stage
+        in leaves_from capsule.task.value.from old ≡ Leave object.0 ∷ leaves_from (object.0 + 1) old }
     ensures { IfOk result (λ went. WentAs capsule.entry went) }
 {
-    let done = more(capsule.events, 1)?;
+    let task = &mut *capsule.task;
+    let done = more(task.events, 1)?;
     let next = above(object)?;
-    match table.leave(&mut capsule.pass, object) {
+    match table.leave(&mut task.pass, object) {
         Tried::Done => {
-            capsule.from = next;
-            capsule.events = done;
+            task.from = next;
+            task.events = done;
             Ok(Went::Freed(place(object), capsule))
         }
         Tried::Busy(_) => Ok(Went::Busy(capsule)),
@@ -341,14 +344,15 @@ fn resign<'c, N: RunName>(
     blame: Option<Blame>,
 ) -> Result<Went<'c, N>, Memory>
     requires table { (table.now.mark ≡ N.mark) × (table.now.plan ≡ N.plan) }
-    requires asked { capsule.machine.value.ask ≡ Some (ending blame) }
-    requires over { leaves_from capsule.from (rights_at capsule.machine.value.at.execution.stage) ≡ [] }
+    requires asked { capsule.task.value.machine.ask ≡ Some (ending blame) }
+    requires over { leaves_from capsule.task.value.from (rights_at capsule.task.value.machine.at.execution.stage) ≡ [] }
     ensures { IfOk result (λ went. WentAs capsule.entry went) }
 {
-    let steps = capsule.machine.steps();
-    match table.resign(&mut capsule.pass, blame, steps) {
+    let task = &mut *capsule.task;
+    let steps = task.machine.steps();
+    match table.resign(&mut task.pass, blame, steps) {
         Tried::Done => Ok(Went::Ended(Resigned {
-            pass: capsule.pass,
+            pass: Box::into_inner(capsule.task).pass,
             name: capsule.name,
         })),
         Tried::Busy(_) => Ok(Went::Busy(capsule)),

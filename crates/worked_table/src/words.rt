@@ -74,9 +74,10 @@ fn end_word(alloc: Global, machine: &Machine, from: u32, end: &str) -> Result<St
 /// A try: the task, how many events it has done, and what it asks for.
 pub(crate) fn try_word<'c, N: RunName>(
     alloc: Global,
-    task: &Capsule<'c, N>,
+    capsule: &Capsule<'c, N>,
 ) -> Result<String, Stop> {
-    let path = path_word(alloc, task.path())?;
+    let path = path_word(alloc, capsule.path())?;
+    let task = &*capsule.task;
     let ask = ask_word(alloc, &task.machine, task.from)?;
     Ok(format!(in alloc; "{path} at event {} {ask}", task.events)?)
 }

@@ -11,117 +11,133 @@ use Rattle.task_suspend.proofs.Tying.{roll_at}
 use Rattle.task_suspend.proofs.tries.enroll.Goals as goal
 
 pub enroll-requires-clause-mark : goal.enroll-requires-clause-mark
-enroll-requires-clause-mark g c = c.args.capsule.tied.table ∙ sym c.requires.table.0
+enroll-requires-clause-mark g c = (rw (← c.deref_mut-task.ensures.value) at c.args.capsule.tied).table ∙ sym c.requires.table.0
 
 pub enroll-requires-clause-next : goal.enroll-requires-clause-next
 enroll-requires-clause-next g c =
-    let x = c.args.capsule in (
-      child_task (number_of x.machine.value.at.phase) x.machine.value.at.execution,
-      enroll_next g.N.RunName.mark g.N.RunName.plan x.pass x.machine.value x.from x.events x.tied c.requires.asked c.requires.entered c.steps-steps.result
-          (rw c.deref.ensures at c.steps-steps.ensures),
+    let x = c.deref_mut-task.result.now in
+    let tied = rw (← c.deref_mut-task.ensures.value) at c.args.capsule.tied in
+    let was_asked = rw (← c.deref_mut-task.ensures.value) at c.requires.asked in
+    let was_entered = rw (← c.deref_mut-task.ensures.value) at c.requires.entered in (
+      child_task (number_of x.machine.at.phase) x.machine.at.execution,
+      enroll_next g.N.RunName.mark g.N.RunName.plan x.pass x.machine x.from x.events tied was_asked was_entered c.steps-steps.result
+          c.steps-steps.ensures,
     )
 
 pub split-requires-clause-mark : goal.split-requires-clause-mark
-split-requires-clause-mark g c = c.in_ok-enroll.ensures.mark ∙ c.args.capsule.tied.table ∙ sym c.requires.table.0
+split-requires-clause-mark g c =
+    let tied = rw (← c.deref_mut-task.ensures.value) at c.args.capsule.tied in
+    c.in_ok-enroll.ensures.mark ∙ tied.table ∙ sym c.requires.table.0
 
 pub split-requires-clause-live : goal.split-requires-clause-live
 split-requires-clause-live g c =
-    let v = c.args.capsule.pass.shows in
+    let x = c.deref_mut-task.result.now in
+    let tied = rw (← c.deref_mut-task.ensures.value) at c.args.capsule.tied in
+    let v = x.pass.shows in
     let w = c.enroll.new.pass.shows in
     let o = count_of c.args.table.now.plan in
-    bore_live o v w (enrolled_done o v w c.in_ok-enroll.field-0 c.in-Done.is c.in_ok-enroll.ensures.answer) c.args.capsule.tied.live
+    bore_live o v w (enrolled_done o v w c.in_ok-enroll.field-0 c.in-Done.is c.in_ok-enroll.ensures.answer) tied.live
 
 pub split-requires-clause-kid : goal.split-requires-clause-kid
 split-requires-clause-kid g c =
-    let v = c.args.capsule.pass.shows in
+    let x = c.deref_mut-task.result.now in
+    let v = x.pass.shows in
     let w = c.enroll.new.pass.shows in
     let o = count_of c.args.table.now.plan in
     bore_kid o v w (enrolled_done o v w c.in_ok-enroll.field-0 c.in-Done.is c.in_ok-enroll.ensures.answer)
 
 pub child-requires : goal.child-requires
-child-requires g c = rw (sym c.deref_mut.ensures.value) at c.requires.asked
+child-requires g c = rw (← c.deref_mut-task.ensures.value) at c.requires.asked
 
 pub invariant_of-child : goal.invariant_of-child
 invariant_of-child g c =
-    let x = c.args.capsule in
+    let x = c.deref_mut-task.result.now in
+    let tied = rw (← c.deref_mut-task.ensures.value) at c.args.capsule.tied in
+    let was_asked = rw (← c.deref_mut-task.ensures.value) at c.requires.asked in
+    let was_entered = rw (← c.deref_mut-task.ensures.value) at c.requires.entered in
     let w = c.enroll.new.pass.shows in
     let q = c.in_ok-young-in-Done.young in
     let o = count_of c.args.table.now.plan in
     record {
-      tied = born_so g.N.RunName.mark g.N.RunName.plan x.pass x.machine.value x.from x.events x.tied c.requires.asked c.requires.entered o w q
-          c.in_ok-machine-in-Done.machine.value (c.in_ok-young-in-Done.ensures.child.0 ∙ c.in_ok-enroll.ensures.mark)
+      tied = rw c.in_ok-theirs-in-Done.ensures
+          (born_so g.N.RunName.mark g.N.RunName.plan x.pass x.machine x.from x.events tied was_asked was_entered o w q
+          c.in_ok-machine-in-Done.machine (c.in_ok-young-in-Done.ensures.child.0 ∙ c.in_ok-enroll.ensures.mark)
           (enrolled_done o x.pass.shows w c.in_ok-enroll.field-0 c.in-Done.is c.in_ok-enroll.ensures.answer) c.in_ok-young-in-Done.ensures.child.1
-          (rw (sym c.in_ok-machine-in-Done.ensures) at (rw c.deref_mut.ensures.value at c.in_ok-theirs-in-Done.ensures.begins))
-          (rw (sym c.in_ok-machine-in-Done.ensures) at (rw c.deref_mut.ensures.value at c.in_ok-theirs-in-Done.ensures.objects));
+          c.in_ok-machine-in-Done.ensures.begins c.in_ok-machine-in-Done.ensures.objects);
     }
 
 pub invariant_of-capsule : goal.invariant_of-capsule
 invariant_of-capsule g c =
-    let x = c.args.capsule in
+    let x = c.deref_mut-task.result.now in
+    let tied = rw (← c.deref_mut-task.ensures.value) at c.args.capsule.tied in
+    let was_asked = rw (← c.deref_mut-task.ensures.value) at c.requires.asked in
+    let was_entered = rw (← c.deref_mut-task.ensures.value) at c.requires.entered in
     let w = c.enroll.new.pass.shows in
     let q = c.split.new.pass in
     let b = c.child.new.self in
     let o = count_of c.args.table.now.plan in
     record {
       tied = numbered g.N.RunName.mark g.N.RunName.plan q b x.from (x.events + 1) x.from c.in_ok-done.done
-          (parted g.N.RunName.mark g.N.RunName.plan x.pass x.machine.value x.from x.events x.tied c.requires.asked c.requires.entered o
-          ((x.machine.value.children + 1) % 2 ^ 32) w q b (c.in_ok-young-in-Done.ensures.mark ∙ c.in_ok-enroll.ensures.mark)
+          (parted g.N.RunName.mark g.N.RunName.plan x.pass x.machine x.from x.events tied was_asked was_entered o
+          ((x.machine.children + 1) % 2 ^ 32) w q b (c.in_ok-young-in-Done.ensures.mark ∙ c.in_ok-enroll.ensures.mark)
           (enrolled_done o x.pass.shows w c.in_ok-enroll.field-0 c.in-Done.is c.in_ok-enroll.ensures.answer) c.in_ok-young-in-Done.ensures.parent
-          (rw c.deref_mut.ensures.value at c.in_ok-theirs-in-Done.ensures.created)) refl c.in_ok-done.ensures;
+          c.in_ok-machine-in-Done.ensures.created) refl c.in_ok-done.ensures;
     }
 
 pub invariant_of-capsule-in-Busy : goal.invariant_of-capsule-in-Busy
 invariant_of-capsule-in-Busy g c =
-    let x = c.args.capsule in
+    let x = c.deref_mut-task.result.now in
+    let tied = rw (← c.deref_mut-task.ensures.value) at c.args.capsule.tied in
     let q = c.enroll.new.pass in
     let o = count_of c.args.table.now.plan in
     let n = c.in-Busy.field-0 in
     record {
-      tied = busy g.N.RunName.mark g.N.RunName.plan x.pass x.machine.value x.from x.events x.tied q n o c.in_ok-enroll.ensures.mark
+      tied = busy g.N.RunName.mark g.N.RunName.plan x.pass x.machine x.from x.events tied q n o c.in_ok-enroll.ensures.mark
           (enrolled_busy o x.pass.shows q.shows c.in_ok-enroll.field-0 n c.in-Busy.is c.in_ok-enroll.ensures.answer);
     }
 
-pub returns-in_ok-machine-in-Done : goal.returns-in_ok-machine-in-Done
-returns-in_ok-machine-in-Done g c =
-    let x = c.args.capsule in
+pub returns-in_ok-theirs-in-Done : goal.returns-in_ok-theirs-in-Done
+returns-in_ok-theirs-in-Done g c =
+    let x = c.deref_mut-task.result.now in
+    let tied = rw (← c.deref_mut-task.ensures.value) at c.args.capsule.tied in
+    let was_asked = rw (← c.deref_mut-task.ensures.value) at c.requires.asked in
+    let was_entered = rw (← c.deref_mut-task.ensures.value) at c.requires.entered in
     let w = c.enroll.new.pass.shows in
     let o = count_of c.args.table.now.plan in
     let B : ℕ → Type 0 = λ n. Bore n x.pass.shows w in
-    record {
-      asked = c.requires.asked;
-      entered = c.requires.entered;
+    rw (← c.deref_mut-task.ensures.value, c.in_ok-theirs-in-Done.ensures) (record {
+      asked = was_asked;
+      entered = was_entered;
       enrolled = w;
-      bore = subst B (roll_at g.N.RunName.mark g.N.RunName.plan x.pass x.machine.value x.from x.events x.tied c.args.table.now.plan c.requires.table.1)
+      bore = subst B (roll_at g.N.RunName.mark g.N.RunName.plan x.pass x.machine x.from x.events tied c.args.table.now.plan c.requires.table.1)
           (enrolled_done o x.pass.shows w c.in_ok-enroll.field-0 c.in-Done.is c.in_ok-enroll.ensures.answer);
       parent = c.in_ok-young-in-Done.ensures.parent;
-      answered = record {
-        machine = (rw c.deref_mut.ensures.value at c.in_ok-theirs-in-Done.ensures.created);
-        from = refl;
-        events = c.in_ok-done.ensures;
-        gate = refl;
-      };
+      answered = record { machine = c.in_ok-machine-in-Done.ensures.created; from = refl; events = c.in_ok-done.ensures; gate = refl };
       young = c.in_ok-young-in-Done.ensures.child.1;
-      begins = (rw (sym c.in_ok-machine-in-Done.ensures) at (rw c.deref_mut.ensures.value at c.in_ok-theirs-in-Done.ensures.begins));
+      begins = c.in_ok-machine-in-Done.ensures.begins;
       from = refl;
       events = refl;
       gate = refl;
-    }
+    })
 
 pub returns-in-Busy : goal.returns-in-Busy
 returns-in-Busy g c =
-    let x = c.args.capsule in
+    let x = c.deref_mut-task.result.now in
+    let tied = rw (← c.deref_mut-task.ensures.value) at c.args.capsule.tied in
+    let was_asked = rw (← c.deref_mut-task.ensures.value) at c.requires.asked in
+    let was_entered = rw (← c.deref_mut-task.ensures.value) at c.requires.entered in
     let w = c.enroll.new.pass.shows in
     let o = count_of c.args.table.now.plan in
-    let child = child_task (number_of x.machine.value.at.phase) x.machine.value.at.execution in
+    let child = child_task (number_of x.machine.at.phase) x.machine.at.execution in
     let found = enrolled_busy o x.pass.shows w c.in_ok-enroll.field-0 c.in-Busy.field-0 c.in-Busy.is c.in_ok-enroll.ensures.answer in
-    record {
+    rw (← c.deref_mut-task.ensures.value) (record {
       wanted = ask.Create;
-      asked = c.requires.asked;
+      asked = was_asked;
       event = Enroll child c.steps-steps.result;
       next =
-          enroll_next g.N.RunName.mark g.N.RunName.plan x.pass x.machine.value x.from x.events x.tied c.requires.asked c.requires.entered c.steps-steps.result
-          (rw c.deref.ensures at c.steps-steps.ensures);
+          enroll_next g.N.RunName.mark g.N.RunName.plan x.pass x.machine x.from x.events tied was_asked was_entered c.steps-steps.result
+          c.steps-steps.ensures;
       read = found.after ∙ ap (λ n. found_busy n x.pass.shows)
-          (roll_at g.N.RunName.mark g.N.RunName.plan x.pass x.machine.value x.from x.events x.tied c.args.table.now.plan c.requires.table.1);
+          (roll_at g.N.RunName.mark g.N.RunName.plan x.pass x.machine x.from x.events tied c.args.table.now.plan c.requires.table.1);
       unmoved = record { machine = refl; from = refl; events = refl; gate = refl };
-    }
+    })

@@ -10,66 +10,78 @@ use Rattle.task_suspend.proofs.Tying.{roll_at}
 use Rattle.task_suspend.proofs.tries.resign.Goals as goal
 
 pub resign-requires-clause-mark : goal.resign-requires-clause-mark
-resign-requires-clause-mark g c = c.args.capsule.tied.table ∙ sym c.requires.table.0
+resign-requires-clause-mark g c = (rw (← c.deref_mut-task.ensures.value) at c.args.capsule.tied).table ∙ sym c.requires.table.0
 
 pub resign-requires-clause-next : goal.resign-requires-clause-next
 resign-requires-clause-next g c =
-    let x = c.args.capsule in
-    resign_next g.N.RunName.mark g.N.RunName.plan x.pass x.machine.value x.from x.events x.tied c.args.blame (Some (ending c.args.blame)) c.requires.asked
-    (ends_so c.args.blame x.machine.value.at) c.steps-steps.result (rw c.deref.ensures at c.steps-steps.ensures) c.requires.over
+    let x = c.deref_mut-task.result.now in
+    let tied = rw (← c.deref_mut-task.ensures.value) at c.args.capsule.tied in
+    let was_asked = rw (← c.deref_mut-task.ensures.value) at c.requires.asked in
+    let was_over = rw (← c.deref_mut-task.ensures.value) at c.requires.over in
+    resign_next g.N.RunName.mark g.N.RunName.plan x.pass x.machine x.from x.events tied c.args.blame (Some (ending c.args.blame)) was_asked
+    (ends_so c.args.blame x.machine.at) c.steps-steps.result c.steps-steps.ensures was_over
 
 pub invariant_of-result : goal.invariant_of-result
 invariant_of-result g c =
-    let x = c.args.capsule in
+    let x = c.deref_mut-task.result.now in
+    let tied = rw (← c.deref_mut-task.ensures.value) at c.args.capsule.tied in
     let q = c.resign.new.pass in
     let o = count_of c.args.table.now.plan in
     record {
-      of = gone g.N.RunName.mark g.N.RunName.plan x.pass x.machine.value x.from x.events x.tied o c.steps-steps.result c.args.blame q c.resign.ensures.mark
-          (resigned_done o x.pass.shows q.shows c.resign.result c.args.blame c.steps-steps.result c.in-Done.is c.resign.ensures.answer);
+      of = rw c.into_inner.ensures
+          (gone g.N.RunName.mark g.N.RunName.plan x.pass x.machine x.from x.events tied o c.steps-steps.result c.args.blame q c.resign.ensures.mark
+          (resigned_done o x.pass.shows q.shows c.resign.result c.args.blame c.steps-steps.result c.in-Done.is c.resign.ensures.answer));
     }
 
 pub invariant_of-capsule : goal.invariant_of-capsule
 invariant_of-capsule g c =
-    let x = c.args.capsule in
+    let x = c.deref_mut-task.result.now in
+    let tied = rw (← c.deref_mut-task.ensures.value) at c.args.capsule.tied in
     let q = c.resign.new.pass in
     let o = count_of c.args.table.now.plan in
     let n = c.in-Busy.field-0 in
     record {
-      tied = busy g.N.RunName.mark g.N.RunName.plan x.pass x.machine.value x.from x.events x.tied q n o c.resign.ensures.mark
+      tied = busy g.N.RunName.mark g.N.RunName.plan x.pass x.machine x.from x.events tied q n o c.resign.ensures.mark
           (resigned_busy o x.pass.shows q.shows c.resign.result c.args.blame c.steps-steps.result n c.in-Busy.is c.resign.ensures.answer);
     }
 
 pub returns-in-Done : goal.returns-in-Done
 returns-in-Done g c =
-    let x = c.args.capsule in
+    let x = c.deref_mut-task.result.now in
+    let tied = rw (← c.deref_mut-task.ensures.value) at c.args.capsule.tied in
+    let was_asked = rw (← c.deref_mut-task.ensures.value) at c.requires.asked in
+    let was_over = rw (← c.deref_mut-task.ensures.value) at c.requires.over in
     let q = c.resign.new.pass in
     let o = count_of c.args.table.now.plan in
-    let E : ℕ → Type 0 = λ n. Ended n c.args.blame (steps_at x.machine.value.at) x.pass.shows q.shows in
+    let E : ℕ → Type 0 = λ n. Ended n c.args.blame (steps_at x.machine.at) x.pass.shows q.shows in
     let S : ℕ → Type 0 = λ n. Ended o c.args.blame n x.pass.shows q.shows in
-    record {
+    rw (← c.deref_mut-task.ensures.value, c.into_inner.ensures) (record {
       fault = c.args.blame;
-      asked = c.requires.asked;
-      left = c.requires.over;
-      ended = subst E (roll_at g.N.RunName.mark g.N.RunName.plan x.pass x.machine.value x.from x.events x.tied c.args.table.now.plan c.requires.table.1)
-          (subst S (rw c.deref.ensures at c.steps-steps.ensures)
+      asked = was_asked;
+      left = was_over;
+      ended = subst E (roll_at g.N.RunName.mark g.N.RunName.plan x.pass x.machine x.from x.events tied c.args.table.now.plan c.requires.table.1)
+          (subst S c.steps-steps.ensures
           (resigned_done o x.pass.shows q.shows c.resign.result c.args.blame c.steps-steps.result c.in-Done.is c.resign.ensures.answer));
-    }
+    })
 
-pub returns : goal.returns
-returns g c =
-    let x = c.args.capsule in
+pub returns-in-Busy : goal.returns-in-Busy
+returns-in-Busy g c =
+    let x = c.deref_mut-task.result.now in
+    let tied = rw (← c.deref_mut-task.ensures.value) at c.args.capsule.tied in
+    let was_asked = rw (← c.deref_mut-task.ensures.value) at c.requires.asked in
+    let was_over = rw (← c.deref_mut-task.ensures.value) at c.requires.over in
     let q = c.resign.new.pass in
     let o = count_of c.args.table.now.plan in
     let n = c.in-Busy.field-0 in
     let found = resigned_busy o x.pass.shows q.shows c.resign.result c.args.blame c.steps-steps.result n c.in-Busy.is c.resign.ensures.answer in
-    record {
+    rw (← c.deref_mut-task.ensures.value) (record {
       wanted = ending c.args.blame;
-      asked = c.requires.asked;
+      asked = was_asked;
       event = Resign c.args.blame c.steps-steps.result;
-      next = resign_next g.N.RunName.mark g.N.RunName.plan x.pass x.machine.value x.from x.events x.tied
-          c.args.blame (Some (ending c.args.blame)) c.requires.asked
-          (ends_so c.args.blame x.machine.value.at) c.steps-steps.result (rw c.deref.ensures at c.steps-steps.ensures) c.requires.over;
+      next = resign_next g.N.RunName.mark g.N.RunName.plan x.pass x.machine x.from x.events tied
+          c.args.blame (Some (ending c.args.blame)) was_asked
+          (ends_so c.args.blame x.machine.at) c.steps-steps.result c.steps-steps.ensures was_over;
       read = found.after ∙ ap (λ k. found_busy k x.pass.shows)
-          (roll_at g.N.RunName.mark g.N.RunName.plan x.pass x.machine.value x.from x.events x.tied c.args.table.now.plan c.requires.table.1);
+          (roll_at g.N.RunName.mark g.N.RunName.plan x.pass x.machine x.from x.events tied c.args.table.now.plan c.requires.table.1);
       unmoved = record { machine = refl; from = refl; events = refl; gate = refl };
-    }
+    })

@@ -12,11 +12,10 @@ root-requires-clause-numbers g c =
 
 pub invariant_of-result : goal.invariant_of-result
 invariant_of-result g c = record {
-  tied = rooted c.args.compiled.now.program c.decoded.result.now c.args.numbers.now c.args.limit c.decoded.ensures.code (c.decoded.ensures.follows c.args.limit)
-      (c.requires.given ∙ inputs_many c.args.compiled.now.program.items) g.N.RunName.mark g.N.RunName.plan
-      c.args.pass c.in_ok-machine.machine.value c.requires.mark
-      c.requires.shows c.requires.plan (rw (sym c.in_ok-machine.ensures) at c.in_ok-begun.ensures.begins)
-      (rw (sym c.in_ok-machine.ensures) at c.in_ok-begun.ensures.objects);
+  tied = rw c.in_ok-task.ensures
+      (rooted c.args.compiled.now.program c.decoded.result.now c.args.numbers.now c.args.limit c.decoded.ensures.code (c.decoded.ensures.follows c.args.limit)
+      (c.requires.given ∙ inputs_many c.args.compiled.now.program.items) g.N.RunName.mark g.N.RunName.plan c.args.pass c.in_ok-machine.machine
+      c.requires.mark c.requires.shows c.requires.plan c.in_ok-machine.ensures.begins c.in_ok-machine.ensures.objects);
 }
 
 pub root-requires-clause-objects : goal.root-requires-clause-objects
