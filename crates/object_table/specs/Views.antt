@@ -1,5 +1,5 @@
 -- What a pass shows of its task, and what the slots show of the objects and of the roll.
-use Rattle.std.specs.Prelude.{ℕ, ◌*◌, Bool, true, false, List, [], ◌∷◌, length, Option, Some, None, ℤ, if◌then◌else◌, nat_eq}
+use Rattle.std.specs.Prelude.{ℕ, ◌+◌, ◌*◌, Bool, true, false, List, [], ◌∷◌, length, Option, Some, None, ℤ, if◌then◌else◌, nat_eq}
 use Rattle.jade_base.specs.Held.{Held}
 use Rattle.jade_syntax.specs.Objects.{sizes}
 use Rattle.object_shelf.specs.Views.{ObjectView, ShelfView}
@@ -17,9 +17,9 @@ use Rattle.object_table.specs.declared.slot.Slot.TheVariants as slot
 abbrev pub count_of : RunPlan → ℕ
 count_of k = length (sizes k.program.items)
 
--- the number of the word of a place: words lie so far apart that no two share a cache line
+-- the number of the word of a place: words lie so far apart that no two share a cache line, and the table's first is that of no place
 abbrev pub word_of : ℕ → ℕ
-word_of o = o * 8
+word_of o = o * 8 + 8
 
 -- what a pass shows: the plan; whether its task is live; the seat of the child that it enrolled last, while that has no pass; its task's seat,
 -- with its path, the values read and the events done; by object the contents held; whether the roll was left empty by it, or by a pass taken

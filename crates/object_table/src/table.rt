@@ -88,7 +88,10 @@ fn words_for(places: usize) -> Result<usize, Memory>
     ensures { IfOk result (λ n. n ≡ word_of places) }
 {
     match places.checked_mul(8) {
-        Some(words) => Ok(words),
+        Some(words) => match words.checked_add(8) {
+            Some(words) => Ok(words),
+            None => Err(Memory),
+        },
         None => Err(Memory),
     }
 }

@@ -12,6 +12,13 @@ overflow_mul-place c =
     let lt = c.requires.table.1 in
     record { fits = omega (arith, wide, few, lt) }
 
+pub overflow_add-place : goal.overflow_add-place
+overflow_add-place c =
+    let wide = c.requires.laid.wide in
+    let few = c.requires.laid.few in
+    let lt = c.requires.table.1 in
+    record { fits = omega (arith, wide, few, lt) }
+
 pub compare_exchange-found-requires : goal.compare_exchange-found-requires
 compare_exchange-found-requires c =
     let words = c.args.words.now in
