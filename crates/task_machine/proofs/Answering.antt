@@ -12,7 +12,7 @@ use Rattle.jade_base.specs.Rights.{mode_of, has_rights}
 use Rattle.jade_base.specs.Specification.{kept, settled}
 use Rattle.jade_base.specs.Held.{Held}
 use Rattle.jade_meaning.specs.Specification.{Specification, numbers, rights_on}
-use Rattle.jade_meaning.specs.Talk.{Task, talk, Enter, Enroll, Take, Leave, Resign, held, when, shift}
+use Rattle.jade_meaning.specs.Talk.{Task, talk, Enter, Enroll, Leave, Resign, held, when, shift}
 use Rattle.jade_meaning.specs.Talk.{given_back, enters, shifts, end_leaves, events}
 use Rattle.task_machine.specs.declared.holdings.Row.{Row}
 use Rattle.task_machine.specs.declared.section.Section.TheVariants as section

@@ -28,7 +28,7 @@ use Rattle.task_machine.specs.Playing.{Contents, Played, played, touches}
 use Rattle.task_machine.specs.Stages.{id, rights_at, Wants, Tells, beyond}
 use Rattle.task_machine.specs.Executions.{Execution, Advanced, created_by, has_row, held_by, objects_in}
 use Rattle.task_machine.specs.Left.{Touches, IsLeast, IsNone, to_take, left_to_change, no_due}
-use Rattle.task_machine.specs.Machines.{Machine, IsOrdered, NoDue, IsNext, course_at, child_of, due_at, due_in, holds_at, amended_at, left_in, left}
+use Rattle.task_machine.specs.Machines.{Machine, IsOrdered, NoDue, IsNext, course_at, child_of, due_at, due_in, holds_at, amended_at, left_in}
 use Rattle.task_machine.specs.Machines.{is_event, rest_of}
 use Rattle.task_machine.specs.Asks.{PlaysTo, GoesTo, plays}
 use Rattle.task_machine.specs.steps.Standing.{has_entry, HasRows, Knows, Asked, machine, asking, IsKept, TakenAs, RunsOn, marks_in, phase_of}
