@@ -2,15 +2,19 @@ ghost use Rattle.std.specs.Prelude.{◌≡◌, ◌<◌, [], ◌∷◌, ◌++◌,
 ghost use Rattle.jade_base.specs.Places.{path_order, same_path};
 
 use crate::Memory;
+use smallvec::SmallVec;
 use std::alloc::Global;
 use std::cmp::Ordering;
 use std::marker::Model;
+
+/// So many numbers lie in the path itself: one of so many or fewer takes no memory.
+const SHORT: usize = 4;
 
 /// The name of a task: the root is `0`, and the child number k (from 0) of the task `p` is `p.k`.
 /// Contracts see it as the list of its numbers.
 #[derive(Debug, Drop)]
 pub struct Path {
-    numbers: Vec<u32>,
+    numbers: SmallVec<u32, SHORT>,
 }
 
 impl Model for Path {
@@ -28,7 +32,7 @@ impl Path {
     pub fn root(alloc: Global) -> Result<Path, Memory>
         ensures { IfOk result (λ path. path ≡ 0 ∷ []) }
     {
-        let mut numbers = Vec::new(alloc);
+        let mut numbers = SmallVec::new(alloc);
         numbers.push(0)?;
         Ok(Path { numbers })
     }
@@ -38,7 +42,7 @@ impl Path {
         ensures { IfOk result (λ path. path ≡ self.now ++ number ∷ []) }
     {
         let count = self.numbers.len().saturating_add(1);
-        let mut numbers = Vec::with_capacity(alloc, count)?;
+        let mut numbers = SmallVec::with_capacity(alloc, count)?;
         numbers.extend_from_slice(self.numbers.as_slice())?;
         numbers.push(number)?;
         Ok(Path { numbers })
@@ -48,7 +52,7 @@ impl Path {
     pub fn copy(&self, alloc: Global) -> Result<Path, Memory>
         ensures { IfOk result (λ path. path ≡ self.now) }
     {
-        let numbers = Vec::from_slice(alloc, self.numbers.as_slice())?;
+        let numbers = SmallVec::from_slice(alloc, self.numbers.as_slice())?;
         Ok(Path { numbers })
     }
 

@@ -166,6 +166,12 @@ module _ {X : Type 0} (f : X → List ℕ) where
       go g false w zero r lt q =
           subst (λ b. 0 ≡ (if b then 0 else suc (place_among p (map f es)))) (sym (ap (λ z. same_path p (f z)) (sym q) ∙ h)) refl
 
+  -- the first row is the path's
+  pub first-found : (p : List ℕ) (es : List X) (e : X) → 0 < length es → e ≡ slice_index_or es 0 e → same_path p (f e) ≡ true → place_among p (map f es) ≡ 0
+  first-found p [] e lt q h = refl
+  first-found p (x ∷ es) e lt q h =
+      subst (λ b. (if b then 0 else suc (place_among p (map f es))) ≡ 0) (sym (ap (λ z. same_path p (f z)) (sym q) ∙ h)) refl
+
   -- where it is another's, the path has no row
   pub missed : (p : List ℕ) (es : List X) (n : ℕ) (e : X) → is_ordered (map f es) ≡ true → n ≡ rank p (map f es) → n < length es →
       e ≡ slice_index_or es n e → same_path p (f e) ≡ false → length es ≡ place_among p (map f es)

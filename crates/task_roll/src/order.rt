@@ -64,11 +64,25 @@ fn rank_of<T: OnPath>(rows: &VecDeque<T>, path: &Path) -> usize
     low
 }
 
-/// How many rows stand before the path's, found by halves; where it has none, their number.
+// Whether the first row is the path's.
+fn is_first<T: OnPath>(rows: &VecDeque<T>, path: &Path) -> bool
+    ensures { result ≡ true → place_among path.now (map T.task rows.now.items) ≡ 0 }
+{
+    if rows.len() == 0 {
+        return false;
+    }
+    path.is_same(rows[0].path())
+}
+
+/// How many rows stand before the path's; where it has none, their number. The first row is looked
+/// at before others, since tasks end in the serial order; else the path's is found by halves.
 pub fn place_of<T: OnPath>(rows: &VecDeque<T>, path: &Path) -> usize
     requires { is_ordered (map T.task rows.now.items) ≡ true }
     ensures { result ≡ place_among path.now (map T.task rows.now.items) }
 {
+    if is_first(rows, path) {
+        return 0;
+    }
     let place = rank_of(rows, path);
     if place < rows.len() && path.is_same(rows[place].path()) {
         return place;
