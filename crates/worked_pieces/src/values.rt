@@ -17,24 +17,37 @@ const WRITES: Rights = Rights {
     commutes: Right::Absent,
 };
 
+/// Prints the last of four paths, and how they stand to one another.
+fn show_order(
+    rt: &HostRuntime,
+    root: &Path,
+    first: &Path,
+    second: &Path,
+    deep: &Path,
+) -> Result<(), Stop> {
+    println!(rt; "path {:?}", deep.numbers())?;
+    println!(rt; "root to first child: {:?}", root.compare(first))?;
+    println!(rt; "second child to grandchild: {:?}", second.compare(deep))?;
+    println!(rt; "first child to grandchild: {:?}", first.compare(deep))?;
+    println!(rt; "grandchild to itself: {:?}", deep.compare(deep))?;
+    println!(rt; "the same: {} {}", deep.is_same(deep), deep.is_same(first))?;
+    Ok(())
+}
+
+/// The eighth child of a task, whose path is made of a copy.
+fn eighth_child(alloc: Global, task: &Path) -> Result<Path, Stop> {
+    let copy = task.copy(alloc)?;
+    Ok(copy.child(alloc, 7)?)
+}
+
 /// The root, its first two children and the eighth child of the first, each beside the next.
 pub fn paths(rt: &HostRuntime) -> Result<(), Stop> {
     let alloc = rt.alloc();
     let root = Path::root(alloc)?;
     let first = root.child(alloc, 0)?;
     let second = root.child(alloc, 1)?;
-    let deep = first.copy(alloc)?.child(alloc, 7)?;
-    println!(rt; "path {:?}", deep.numbers())?;
-    println!(rt; "root to first child: {:?}", root.compare(&first))?;
-    println!(rt; "second child to grandchild: {:?}", second.compare(&deep))?;
-    println!(rt; "first child to grandchild: {:?}", first.compare(&deep))?;
-    println!(rt; "grandchild to itself: {:?}", deep.compare(&deep))?;
-    println!(rt;
-        "the same: {} {}",
-        deep.is_same(&deep),
-        deep.is_same(&first)
-    )?;
-    Ok(())
+    let deep = eighth_child(alloc, &first)?;
+    show_order(rt, &root, &first, &second, &deep)
 }
 
 /// Prints the entries of a specification.
