@@ -75,7 +75,8 @@ fn is_first<T: OnPath>(rows: &VecDeque<T>, path: &Path) -> bool
 }
 
 /// How many rows stand before the path's; where it has none, their number. The first row is looked
-/// at before others, since tasks end in the serial order; else the path's is found by halves.
+/// at before others, since it is the path's where tasks go on in the serial order, as with one
+/// worker; else the path's is found by halves.
 pub fn place_of<T: OnPath>(rows: &VecDeque<T>, path: &Path) -> usize
     requires { is_ordered (map T.task rows.now.items) ≡ true }
     ensures { result ≡ place_among path.now (map T.task rows.now.items) }
