@@ -1,5 +1,5 @@
 -- Rows of what is held.
-use Rattle.std.proofs.Common.{◌≡◌, ℕ, zero, suc, ◌+◌, ◌<◌, ◌≤◌, ◌⊎◌, inl, inr, List, [], ◌∷◌, ◌++◌, take, length, Bool, false, eqb, cond, Option, Some}
+use Rattle.std.proofs.Common.{◌≡◌, ℕ, zero, suc, ◌+◌, ◌<◌, ◌≤◌, ◌⊎◌, inl, inr, List, [], ◌∷◌, ◌++◌, take, drop, length, Bool, false, eqb, cond, Option, Some}
 use Rattle.std.proofs.Common.{None, refl, sym, ap, ◌∙◌, subst, arith}
 use Rattle.std.specs.Prelude.{ℤ, slice_get, slice_index_or, slice_set}
 use Rattle.std.proofs.lemmas.Bool.{cases_eq, eq-eqb, ne_eqb}
@@ -33,6 +33,22 @@ row_here o n (r ∷ rs) (suc k) d h lt e =
     let far = above_at r.object.0 rs k d h.0 (omega (arith, lt)) in
     let z : suc n + k ≡ n + suc k = omega arith in
     rw (ne_eqb r.object.0 o (λ q. omega (arith, far, e, q))) (row_here o (suc n) rs k d h.1 (omega (arith, lt)) e ∙ ap Some z)
+
+-- the rows from a place on begin with the one there
+row_there : (o n : ℕ) (rs : List Row) (k : ℕ) (d : Row) → k < length rs
+    → row_from o n (drop k rs) ≡ cond (eqb (slice_index_or rs k d).object.0 o) (Some n) (row_from o (suc n) (drop (suc k) rs))
+row_there o n [] k d lt = absurd (omega (arith, lt))
+row_there o n (r ∷ rs) zero d lt = refl
+row_there o n (r ∷ rs) (suc k) d lt = row_there o n rs k d (omega (arith, lt))
+
+-- the row at this place is the object's: it is the first from there on
+pub row_at : (o n : ℕ) (rs : List Row) (k : ℕ) (d : Row) → k < length rs → (slice_index_or rs k d).object.0 ≡ o → row_from o n (drop k rs) ≡ Some n
+row_at o n rs k d lt e = row_there o n rs k d lt ∙ ap (λ b. cond b (Some n) (row_from o (suc n) (drop (suc k) rs))) (eq-eqb _ o e)
+
+-- the row at this place is another's: the object's stands behind it
+pub row_behind : (o n : ℕ) (rs : List Row) (k : ℕ) (d : Row) → k < length rs → ((slice_index_or rs k d).object.0 ≡ o → ⊥)
+    → row_from o n (drop k rs) ≡ row_from o (suc n) (drop (suc k) rs)
+row_behind o n rs k d lt ne = row_there o n rs k d lt ∙ ap (λ b. cond b (Some n) (row_from o (suc n) (drop (suc k) rs))) (ne_eqb _ o ne)
 
 -- the row of an object
 pub record IsRow (rs : List Row) (o j : ℕ) : Type 0 where

@@ -95,7 +95,7 @@ impl Holdings {
     pub(crate) fn row_of(&self, object: usize) -> Option<usize>
         ensures { result ≡ row_from object 0 self.now }
     {
-        place_of(self.rows.as_slice(), object, object)
+        place_of(self.rows.as_slice(), object)
     }
 
     /// The mode in which an object is held, if it is.
@@ -105,21 +105,19 @@ impl Holdings {
         mode_among(self.rows.as_slice(), object)
     }
 
-    /// The number in a cell of an object, where the object is held; a cell that is not there has 0. The
-    /// object's row is sought at the place `near` before others.
-    pub fn cell(&self, object: usize, near: usize, cell: usize) -> Option<i64>
+    /// The number in a cell of an object, where the object is held; a cell that is not there has 0.
+    pub fn cell(&self, object: usize, cell: usize) -> Option<i64>
         ensures { result ≡ cell_in (contents_of self.now object) cell }
     {
-        cell_among(self.rows.as_slice(), object, near, cell)
+        cell_among(self.rows.as_slice(), object, cell)
     }
 
-    /// Writes a number into a cell of an object; whether the object is held for more than reading. The
-    /// object's row is sought at the place `near` before others.
-    pub fn write(&mut self, object: usize, near: usize, cell: usize, number: i64) -> bool
+    /// Writes a number into a cell of an object; whether the object is held for more than reading.
+    pub fn write(&mut self, object: usize, cell: usize, number: i64) -> bool
         ensures written { Written (contents_of self.old) object cell number result (contents_of self.new) }
         ensures objects { objects_in self.new ≡ objects_in self.old }
     {
-        write_among(self.rows.as_mut_slice(), object, near, cell, number)
+        write_among(self.rows.as_mut_slice(), object, cell, number)
     }
 
     /// Another content of an object, or none, in place of the one that it has, which is the result.
@@ -152,7 +150,7 @@ fn take_among(rows: &mut [Row], object: usize) -> Option<Content>
     ensures left { contents_of rows.new ≡ without object (contents_of rows.old) }
     ensures ascend { RowsAscend rows.new }
 {
-    match place_of(rows, object, object) {
+    match place_of(rows, object) {
         None => None,
         Some(place) => rows[place].content.take(),
     }
@@ -182,9 +180,22 @@ fn place_from(rows: &[Row], object: usize) -> usize
     high
 }
 
+// The place of an object's row, found by a look at one after another.
+fn place_among_few(rows: &[Row], object: usize) -> Option<usize>
+    ensures row { result ≡ row_from object 0 rows.now }
+    ensures within { IfSome result (λ place. place < length rows.now) }
+{
+    'few: for place in 0..rows.len() {
+        if rows[place].object.0 as usize == object {
+            return Some(place);
+        }
+    }
+    None
+}
+
 // The place of an object's row. Where all objects of a program are there, it is the object's number;
-// next it is sought at the place `near`.
-fn place_of(rows: &[Row], object: usize, near: usize) -> Option<usize>
+// else it is sought by halves, or one by one among few.
+fn place_of(rows: &[Row], object: usize) -> Option<usize>
     requires { RowsAscend rows.now }
     ensures row { result ≡ row_from object 0 rows.now }
     ensures within { IfSome result (λ place. place < length rows.now) }
@@ -192,8 +203,8 @@ fn place_of(rows: &[Row], object: usize, near: usize) -> Option<usize>
     if object < rows.len() && rows[object].object.0 as usize == object {
         return Some(object);
     }
-    if near < rows.len() && rows[near].object.0 as usize == object {
-        return Some(near);
+    if rows.len() <= FEW {
+        return place_among_few(rows, object);
     }
     let place = place_from(rows, object);
     if place < rows.len() && rows[place].object.0 as usize == object {
@@ -214,11 +225,11 @@ fn at_cell(content: &Content, cell: usize) -> i64
 }
 
 // The number in a cell of an object, where the object is held.
-fn cell_among(rows: &[Row], object: usize, near: usize, cell: usize) -> Option<i64>
+fn cell_among(rows: &[Row], object: usize, cell: usize) -> Option<i64>
     requires { RowsAscend rows.now }
     ensures { result ≡ cell_in (contents_of rows.now object) cell }
 {
-    match place_of(rows, object, near) {
+    match place_of(rows, object) {
         None => None,
         Some(place) => match &rows[place].content {
             None => None,
@@ -232,7 +243,7 @@ fn mode_among(rows: &[Row], object: usize) -> Option<Mode>
     requires { RowsAscend rows.now }
     ensures { result ≡ mode_held (contents_of rows.now object) }
 {
-    match place_of(rows, object, object) {
+    match place_of(rows, object) {
         None => None,
         Some(place) => match &rows[place].content {
             None => None,
@@ -242,13 +253,13 @@ fn mode_among(rows: &[Row], object: usize) -> Option<Mode>
 }
 
 // Writes a number into a cell of an object; whether the object is held for more than reading.
-fn write_among(rows: &mut [Row], object: usize, near: usize, cell: usize, number: i64) -> bool
+fn write_among(rows: &mut [Row], object: usize, cell: usize, number: i64) -> bool
     requires { RowsAscend rows.old }
     ensures written { Written (contents_of rows.old) object cell number result (contents_of rows.new) }
     ensures objects { objects_in rows.new ≡ objects_in rows.old }
     ensures ascend { RowsAscend rows.new }
 {
-    match place_of(rows, object, near) {
+    match place_of(rows, object) {
         None => false,
         Some(place) => write_at(&mut rows[place].content, cell, number),
     }
@@ -261,7 +272,7 @@ fn put_among(rows: &mut [Row], object: usize, content: Option<Content>) -> Optio
     ensures rows { rows.new ≡ with_content object content rows.old }
     ensures ascend { RowsAscend rows.new }
 {
-    match place_of(rows, object, object) {
+    match place_of(rows, object) {
         None => None,
         Some(place) => mem::replace(&mut rows[place].content, content),
     }

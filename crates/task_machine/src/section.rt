@@ -51,25 +51,25 @@ pub enum Said {
     Refused,
 }
 
-// The rights on an object, and the place of its entry, or any, where it has none.
-fn rights_among(spec: &Spec, object: ObjectId) -> (Rights, usize)
-    ensures { result.0 ≡ rights_in spec.now.entries object }
+// The rights on an object.
+fn rights_among(spec: &Spec, object: ObjectId) -> Rights
+    ensures { result ≡ rights_in spec.now.entries object }
 {
     match place_of(spec, object) {
-        None => (Rights::NONE, 0),
-        Some(place) => (spec.entry(place).1, place),
+        None => Rights::NONE,
+        Some(place) => spec.entry(place).1,
     }
 }
 
-// The rights of the task on an object, and the place of its entry, or any, where it has none.
-fn rights_on(own: &Own, object: usize) -> (Rights, usize)
-    ensures rights { result.0 ≡ rights_on (rights_of own.now) object }
-    ensures narrow { 2 ^ 32 ≤ object → result.0 ≡ no_rights }
+// The rights of the task on an object.
+fn rights_on(own: &Own, object: usize) -> Rights
+    ensures rights { result ≡ rights_on (rights_of own.now) object }
+    ensures narrow { 2 ^ 32 ≤ object → result ≡ no_rights }
 {
     if object < own.objects as usize {
         rights_among(own.spec.spec(), ObjectId(object as u32))
     } else {
-        (Rights::NONE, 0)
+        Rights::NONE
     }
 }
 
@@ -77,8 +77,7 @@ fn rights_on(own: &Own, object: usize) -> (Rights, usize)
 pub(crate) fn rights_for(own: &Own, object: ObjectId) -> Rights
     ensures { result ≡ rights_on (rights_of own.now) object.0 }
 {
-    let (rights, _) = rights_on(own, object.0 as usize);
-    rights
+    rights_on(own, object.0 as usize)
 }
 
 /// The rights on an object in the copy that a section of the task changes.
@@ -106,31 +105,26 @@ pub(crate) fn made_for(own: &Own, object: ObjectId) -> Rights
     ensures { result ≡ rights_on (spread own.now.objects own.now.child.entries) object.0 }
 {
     if object.0 < own.objects {
-        let (rights, _) = rights_among(&own.child, object);
-        rights
+        rights_among(&own.child, object)
     } else {
         Rights::NONE
     }
 }
 
-/// Whether the task has an immediate right to read an object, and the place near which its content is
-/// sought: that of its entry, since a task that has just begun has a row for each entry.
-pub fn may_read(own: &Own, object: usize) -> (bool, usize)
-    ensures right { result.0 ≡ is_immediate (rights_on (rights_of own.now) object).reads }
-    ensures narrow { result.0 ≡ true → object < 2 ^ 32 }
+/// Whether the task has an immediate right to read an object.
+pub fn may_read(own: &Own, object: usize) -> bool
+    ensures right { result ≡ is_immediate (rights_on (rights_of own.now) object).reads }
+    ensures narrow { result ≡ true → object < 2 ^ 32 }
 {
-    let (rights, near) = rights_on(own, object);
-    (matches!(rights.reads, Right::Immediate), near)
+    matches!(rights_on(own, object).reads, Right::Immediate)
 }
 
-/// Whether the task has an immediate right to write an object, and the place near which its content is
-/// sought.
-pub fn may_write(own: &Own, object: usize) -> (bool, usize)
-    ensures right { result.0 ≡ is_immediate (rights_on (rights_of own.now) object).writes }
-    ensures narrow { result.0 ≡ true → object < 2 ^ 32 }
+/// Whether the task has an immediate right to write an object.
+pub fn may_write(own: &Own, object: usize) -> bool
+    ensures right { result ≡ is_immediate (rights_on (rights_of own.now) object).writes }
+    ensures narrow { result ≡ true → object < 2 ^ 32 }
 {
-    let (rights, near) = rights_on(own, object);
-    (matches!(rights.writes, Right::Immediate), near)
+    matches!(rights_on(own, object).writes, Right::Immediate)
 }
 
 /// A section of a child begins.

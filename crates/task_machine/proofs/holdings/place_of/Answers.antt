@@ -13,12 +13,6 @@ returns-then-rows-object-clause-row c =
     let z : 0 + c.args.object ≡ c.args.object = omega arith in
     sym (h ∙ ap Some z)
 
-pub returns-then-rows-near-clause-row : goal.returns-then-rows-near-clause-row
-returns-then-rows-near-clause-row c =
-    let h = row_here c.args.object 0 c.args.rows.now c.args.near c.index-rows-near.result c.requires c.if-near-rows.true c.if-rows-near.true in
-    let z : 0 + c.args.near ≡ c.args.near = omega arith in
-    sym (h ∙ ap Some z)
-
 pub returns-then-rows-place-clause-row : goal.returns-then-rows-place-clause-row
 returns-then-rows-place-clause-row c =
     let place = c.place_from-place.result in
