@@ -13,7 +13,7 @@ use task_suspend::{Capsule, Resigned, RunName};
 #[derive(Drop)]
 pub(crate) struct Done<'c, N: RunName> {
     pub task: Capsule<'c, N>,
-    pub kept: Option<Resigned<N>>,
+    pub kept: Option<Resigned<'c, N>>,
     pub ended: u32,
 }
 
@@ -41,7 +41,11 @@ pub(crate) fn run_cycles<'c, N: RunName>(
 }
 
 /// Keeps one pass more.
-fn keep<N: RunName>(table: &ObjectTable, kept: &mut Option<Resigned<N>>, more: Resigned<N>)
+fn keep<'c, N: RunName>(
+    table: &ObjectTable,
+    kept: &mut Option<Resigned<'c, N>>,
+    more: Resigned<'c, N>,
+)
     requires { (table.now.mark ≡ N.mark) × (table.now.plan ≡ N.plan) }
 {
     match kept {
@@ -51,9 +55,9 @@ fn keep<N: RunName>(table: &ObjectTable, kept: &mut Option<Resigned<N>>, more: R
 }
 
 /// Adds what one pass knows to another.
-fn merge<N: RunName>(table: &ObjectTable, keeper: &mut Resigned<N>, more: Resigned<N>)
+fn merge<'c, N: RunName>(table: &ObjectTable, keeper: &mut Resigned<'c, N>, more: Resigned<'c, N>)
     requires { (table.now.mark ≡ N.mark) × (table.now.plan ≡ N.plan) }
 {
-    let Resigned { pass, name: _ } = more;
-    table.end(&mut keeper.pass, pass);
+    let task = &mut *keeper.task;
+    table.end(&mut task.pass, Box::into_inner(more.task).pass);
 }

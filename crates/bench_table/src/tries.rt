@@ -17,7 +17,7 @@ enum Came<'c, N: RunName> {
     /// The task has created a child: the task, and the child at its begin.
     Parted(Capsule<'c, N>, Capsule<'c, N>),
     /// The task has ended.
-    Ended(Resigned<N>),
+    Ended(Resigned<'c, N>),
 }
 
 /// Another has a turn: the next try is made after a while. The answer is how often another had one
@@ -88,7 +88,7 @@ pub(crate) fn end_of<'c, N: RunName>(
     alloc: Global,
     table: &ObjectTable,
     task: Capsule<'c, N>,
-) -> Result<Resigned<N>, Stop>
+) -> Result<Resigned<'c, N>, Stop>
     requires { (table.now.mark ≡ N.mark) × (table.now.plan ≡ N.plan) }
 {
     match drive(alloc, table, task) {

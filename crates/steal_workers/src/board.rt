@@ -4,6 +4,7 @@ ghost use Rattle.std.specs.Prelude.{◌≡◌, ◌<◌, vec_len};
 ghost use Rattle.object_table.specs.Views.{count_of};
 ghost use Rattle.steal_workers.specs.steps.Facts.{Of-prop};
 
+use crate::keeper::Kept;
 use crate::signals::Signals;
 use crate::worker::Worker;
 use crossbeam_utils::CachePadded;
@@ -11,10 +12,10 @@ use fair_deque::Thief;
 use object_table::ObjectTable;
 use std::sync::Mutex;
 use std::sync::atomic::{AtomicU64, Ordering};
-use task_suspend::{Capsule, CapsuleList, Place, Resigned, Rooms, RunName};
+use task_suspend::{Capsule, CapsuleList, Place, Rooms, RunName};
 
 /// A worker of the run.
-pub(crate) type TaskWorker<'c, N> = Worker<Capsule<'c, N>, Resigned<N>>;
+pub(crate) type TaskWorker<'c, N> = Worker<Capsule<'c, N>, Kept<N>>;
 
 /// The ready tasks of one worker, as the others see them.
 pub(crate) type OtherDeque<'c, N> = Thief<Capsule<'c, N>>;

@@ -1,7 +1,7 @@
 //! What a worker does after a try.
 
 use crate::board::{Board, TaskWorker};
-use crate::keeper::with_one_more;
+use crate::keeper::{pass_of, with_one_more};
 use jade_base::Memory;
 use std::hint::spin_loop;
 use std::sync::Wait;
@@ -106,9 +106,9 @@ fn go_on<'c, N: RunName, R: Wait>(
 fn end<'c, N: RunName>(
     board: &Board<'c, N>,
     worker: &mut TaskWorker<'c, N>,
-    resigned: Resigned<N>,
+    resigned: Resigned<'c, N>,
 ) {
-    let kept = with_one_more(board, worker.hand_over(), resigned);
+    let kept = with_one_more(board, worker.hand_over(), pass_of(resigned));
     let over = kept.pass.over();
     worker.keep(kept);
     if over {

@@ -214,4 +214,4 @@ WentAs a (went.Busy b) = FindsTaken (carried a) (carried b)
 WentAs a (went.Waits p b) = Waits p.object (carried a) (carried b)
 WentAs a (went.Freed p b) = Frees p.object (carried a) (carried b)
 WentAs a (went.Parted b c) = Parts (carried a) (carried b) (carried c)
-WentAs a (went.Ended r) = Resigns (carried a) r.pass
+WentAs a (went.Ended r) = Resigns (carried a) r.task.value.pass

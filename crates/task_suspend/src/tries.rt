@@ -352,7 +352,7 @@ fn resign<'c, N: RunName>(
     let steps = task.machine.steps();
     match table.resign(&mut task.pass, blame, steps) {
         Tried::Done => Ok(Went::Ended(Resigned {
-            pass: Box::into_inner(capsule.task).pass,
+            task: capsule.task,
             name: capsule.name,
         })),
         Tried::Busy(_) => Ok(Went::Busy(capsule)),

@@ -5,10 +5,9 @@ ghost use Rattle.object_table.specs.Views.{count_of};
 ghost use Rattle.object_table.specs.Calls.{IsGone};
 ghost use Rattle.task_suspend.specs.steps.Facts.{Gone-prop};
 
-use crate::capsule::Capsule;
+use crate::capsule::{Capsule, Running};
 use crate::name::RunName;
 use jade_base::ObjectId;
-use object_table::TaskPass;
 use std::marker::PhantomData;
 
 /// An object of the run `N`.
@@ -19,12 +18,13 @@ pub struct Place<N: RunName> {
     pub ghost inside: { object.0 < count_of N.plan },
 }
 
-/// A pass of the run `N` whose task has ended.
+/// A task of the run `N` that has ended, as its pass knows. It lies where it ran, so that it is small
+/// to move.
 #[derive(Drop)]
-pub struct Resigned<N: RunName> {
-    pub pass: TaskPass,
+pub struct Resigned<'c, N: RunName> {
+    pub task: Box<Running<'c>>,
     pub name: PhantomData<N>,
-    pub ghost of: { (pass.mark ≡ N.mark) × IsGone pass.shows } by { Gone-prop N.mark pass.mark pass.shows },
+    pub ghost of: { (task.value.pass.mark ≡ N.mark) × IsGone task.value.pass.shows } by { Gone-prop N.mark task.value.pass.mark task.value.pass.shows },
 }
 
 /// How a try went.
@@ -41,5 +41,5 @@ pub enum Went<'c, N: RunName> {
     /// A child was created: the parent, which goes on, and the child, at its begin.
     Parted(Capsule<'c, N>, Capsule<'c, N>),
     /// The task has ended.
-    Ended(Resigned<N>),
+    Ended(Resigned<'c, N>),
 }

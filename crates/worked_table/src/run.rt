@@ -68,7 +68,7 @@ fn play<'c, N: RunName, R: Wait + Print>(
     table: &ObjectTable,
     root: Capsule<'c, N>,
     schedule: &Schedule,
-) -> Result<Option<Resigned<N>>, Stop>
+) -> Result<Option<Resigned<'c, N>>, Stop>
     requires { (table.now.mark ≡ N.mark) × (table.now.plan ≡ N.plan) }
 {
     let mut tasks = Tasks::with_rooms(alloc, schedule.rooms)?;
@@ -142,14 +142,14 @@ fn closed<'c, N: RunName>(
     alloc: Global,
     table: ObjectTable<'c>,
     compiled: &'c Compiled,
-    last: Resigned<N>,
+    last: Resigned<'c, N>,
 ) -> Result<Ran<'c>, Stop>
     requires table { (table.mark ≡ N.mark) × (table.plan ≡ N.plan) }
     requires plan { N.plan ≡ record { program = compiled.now.program; numbers = []; limit = 1000 } }
 {
-    if !last.pass.over() {
+    if !last.task.pass.over() {
         return Err(Stop::Schedule);
     }
-    let Resigned { pass, .. } = last;
+    let pass = Box::into_inner(last.task).pass;
     Ok(table.finish(alloc, plan_of(compiled), pass)?)
 }

@@ -36,7 +36,7 @@ pub(crate) enum Answer {
 pub(crate) struct Tasks<'c, N: RunName> {
     live: Vec<Capsule<'c, N>>,
     rooms: Rooms<'c, N>,
-    last: Option<Resigned<N>>,
+    last: Option<Resigned<'c, N>>,
 }
 
 /// The place of the task of a path.
@@ -156,14 +156,14 @@ impl<'c, N: RunName> Tasks<'c, N> {
     }
 
     /// Keeps the pass of a task that has ended.
-    fn end(&mut self, resigned: Resigned<N>) -> Answer {
-        let over = resigned.pass.over();
+    fn end(&mut self, resigned: Resigned<'c, N>) -> Answer {
+        let over = resigned.task.pass.over();
         self.last = Some(resigned);
         if over { Answer::Over } else { Answer::Ended }
     }
 
     /// The pass of the task that ended last, if one did.
-    pub fn last(self) -> Option<Resigned<N>> {
+    pub fn last(self) -> Option<Resigned<'c, N>> {
         self.last
     }
 }

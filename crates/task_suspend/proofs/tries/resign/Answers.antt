@@ -28,9 +28,8 @@ invariant_of-result g c =
     let q = c.resign.new.pass in
     let o = count_of c.args.table.now.plan in
     record {
-      of = rw c.into_inner.ensures
-          (gone g.N.RunName.mark g.N.RunName.plan x.pass x.machine x.from x.events tied o c.steps-steps.result c.args.blame q c.resign.ensures.mark
-          (resigned_done o x.pass.shows q.shows c.resign.result c.args.blame c.steps-steps.result c.in-Done.is c.resign.ensures.answer));
+      of = gone g.N.RunName.mark g.N.RunName.plan x.pass x.machine x.from x.events tied o c.steps-steps.result c.args.blame q c.resign.ensures.mark
+          (resigned_done o x.pass.shows q.shows c.resign.result c.args.blame c.steps-steps.result c.in-Done.is c.resign.ensures.answer);
     }
 
 pub invariant_of-capsule : goal.invariant_of-capsule
@@ -55,7 +54,7 @@ returns-in-Done g c =
     let o = count_of c.args.table.now.plan in
     let E : ℕ → Type 0 = λ n. Ended n c.args.blame (steps_at x.machine.at) x.pass.shows q.shows in
     let S : ℕ → Type 0 = λ n. Ended o c.args.blame n x.pass.shows q.shows in
-    rw (← c.deref_mut-task.ensures.value, c.into_inner.ensures) (record {
+    rw (← c.deref_mut-task.ensures.value) (record {
       fault = c.args.blame;
       asked = was_asked;
       left = was_over;
