@@ -17,9 +17,9 @@ use Rattle.object_table.specs.declared.slot.Slot.TheVariants as slot
 abbrev pub count_of : RunPlan → ℕ
 count_of k = length (sizes k.program.items)
 
--- the number of the word of a place: words lie so far apart that no two share a cache line, and the table's first is that of no place
+-- the number of the word of a place: words lie so far apart that no two share a pair of cache lines, and the table's first is that of no place
 abbrev pub word_of : ℕ → ℕ
-word_of o = o * 8 + 8
+word_of o = o * 16 + 16
 
 -- what a pass shows: the plan; whether its task is live; the seat of the child that it enrolled last, while that has no pass; its task's seat,
 -- with its path, the values read and the events done; by object the contents held; whether the roll was left empty by it, or by a pass taken

@@ -87,8 +87,8 @@ fn first_objects(alloc: Global, root: &Path, plan: &Plan) -> Result<Vec<Slot>, M
 fn words_for(places: usize) -> Result<usize, Memory>
     ensures { IfOk result (λ n. n ≡ word_of places) }
 {
-    match places.checked_mul(8) {
-        Some(words) => match words.checked_add(8) {
+    match places.checked_mul(16) {
+        Some(words) => match words.checked_add(16) {
             Some(words) => Ok(words),
             None => Err(Memory),
         },

@@ -44,9 +44,10 @@ fn core_laws()
     schedule_core::laws::holders_are_live();
 }
 
-// One try at a turn. The word of a place lies 8 words behind that of the one before, so that no two
-// share a cache line of 64 bytes. The first word of the table is that of no place, and nothing writes
-// it: each split and each join of passes reads it.
+// One try at a turn. The word of a place lies 16 words behind that of the one before, so that no two
+// share a cache line of 64 bytes, nor a pair of such lines, which processors fetch together. The
+// first word of the table is that of no place, and nothing writes it: each split and each join of
+// passes reads it.
 pub(crate) fn take_turn(words: &Words, seat: &mut Seat<Slot, View>, place: usize) -> Result<(), u64>
     requires laid { Laid words.now.table_id words.now.key }
     requires table { (seat.old.table_id ≡ words.now.table_id) × (place < words.now.table_id.slots) }
@@ -55,7 +56,7 @@ pub(crate) fn take_turn(words: &Words, seat: &mut Seat<Slot, View>, place: usize
     ensures got { IfOk result (λ _. (y : SlotOf) × InTurn words.now.table_id.slots place y (bare y) seat.old.me seat.new.me) }
     ensures busy { IfErr result (λ n. (n ≡ 1) × (seat.new.me ≡ (tried_at place 1 seat.old.me.0, []))) }
 {
-    let found = words.compare_exchange::<Try>(seat, place * 8 + 8, 0, 1);
+    let found = words.compare_exchange::<Try>(seat, place * 16 + 16, 0, 1);
     if found != 0 {
         return Err(found);
     }
@@ -74,7 +75,7 @@ pub(crate) fn leave_turn<P: Play<Slot, View>>(
     ensures mark { seat.new.table_id ≡ seat.old.table_id }
     ensures done { P.then (step words.now.table_id.slots (word_of place) 0 0 none) seat.old.me 0 seat.new.me }
 {
-    words.store::<P>(seat, place * 8 + 8, 0);
+    words.store::<P>(seat, place * 16 + 16, 0);
 }
 
 // An event is done, with the touches before it.
