@@ -19,3 +19,5 @@ pub mod RollCalls
 pub mod Endings
 pub mod Sizes
 pub mod Leaving
+pub mod Links
+pub mod Boxes

@@ -1,3 +1,4 @@
+pub mod Links
 pub mod Tallies
 pub mod Views
 pub mod Codes
