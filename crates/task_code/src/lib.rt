@@ -5,5 +5,5 @@ pub mod decoded;
 pub mod valid;
 
 pub use code_meaning::code::{BinaryOp, Body, Instruction, Logic, Operand};
-pub use decoded::{DecodedBody, DecodedCode, DecodedInstruction, Form};
+pub use decoded::{DecodedBody, DecodedCode, DecodedInstruction, Form, power};
 pub use valid::{At, Bad, Code, Raw, validate};
