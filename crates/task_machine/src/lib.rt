@@ -11,6 +11,7 @@ pub mod machine;
 pub mod next;
 mod numbers;
 pub mod play;
+mod quick;
 pub mod section;
 mod slots;
 
