@@ -1,6 +1,6 @@
 //! A task in a worker's hands.
 
-ghost use Rattle.std.specs.Prelude.{◌≡◌, IfOk, ◌-◌, ◌^◌, ◌+◌, ◌%◌, is_some, length, true};
+ghost use Rattle.std.specs.Prelude.{◌≡◌, IfOk, ◌-◌, ◌^◌, ◌+◌, ◌%◌, is_some, length, true, false, None};
 ghost use Rattle.jade_syntax.specs.Objects.{input_names};
 ghost use Rattle.object_table.specs.Rule.{first_view};
 ghost use Rattle.task_suspend.specs.Ties.{TiedTo};
@@ -46,8 +46,8 @@ pub(crate) fn boxed<'c>(alloc: Global, task: Running<'c>) -> Result<Box<Running<
 }
 
 impl<'c, N: RunName> Capsule<'c, N> {
-    /// The root of a run at its begin: its pass is the one that its table gave for it. The error is
-    /// want of memory.
+    /// The root of a run at its begin: its pass is the one that its table gave for it, it asks for
+    /// nothing yet, and nothing of it is done. The error is want of memory.
     pub fn root(
         alloc: Global,
         pass: TaskPass,
@@ -59,6 +59,9 @@ impl<'c, N: RunName> Capsule<'c, N> {
         requires shows { pass.shows ≡ first_view N.plan }
         requires plan { N.plan ≡ record { program = compiled.now.program; numbers = numbers.now; limit = limit } }
         requires given { length numbers.now ≡ length (input_names compiled.now.program.items) }
+        ensures pass { IfOk result (λ capsule. capsule.task.value.pass ≡ pass) }
+        ensures asks { IfOk result (λ capsule. (capsule.task.value.machine.ask ≡ None) × (capsule.task.value.machine.asks ≡ 0)) }
+        ensures begins { IfOk result (λ capsule. (capsule.task.value.from ≡ 0) × (capsule.task.value.events ≡ 0) × (capsule.task.value.passed ≡ false)) }
     {
         let _objects = compiled.checked().objects();
         let machine = Machine::root(alloc, compiled.decoded(), numbers, limit)?;
