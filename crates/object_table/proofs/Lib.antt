@@ -19,5 +19,3 @@ pub mod RollCalls
 pub mod Endings
 pub mod Sizes
 pub mod Leaving
-pub mod Links
-pub mod Boxes

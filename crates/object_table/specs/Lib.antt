@@ -1,4 +1,3 @@
-pub mod Links
 pub mod Tallies
 pub mod Views
 pub mod Codes

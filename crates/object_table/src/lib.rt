@@ -3,7 +3,6 @@
 
 mod answers;
 mod finish;
-mod notes;
 mod pass;
 mod ran;
 mod slot;

@@ -13,7 +13,6 @@ ghost use Rattle.object_table.specs.steps.Kept.{FirstSlots, start_slots};
 
 use crate::answers::{Taken, Tried};
 use crate::finish::finish_with;
-use crate::notes::SpareNote;
 use crate::pass::TaskPass;
 use crate::ran::Ran;
 use crate::slot::Slot;
@@ -65,7 +64,7 @@ fn first_slots(alloc: Global, root: &Path, plan: &Plan) -> Result<Vec<Slot>, Mem
     ensures { IfOk result (λ slots. FirstSlots (sizes plan.now.program.items) slots.items) }
 {
     let mut slots = first_objects(alloc, root, plan)?;
-    let tally = Tally::start();
+    let tally = Tally::start(alloc)?;
     slots.push(Slot::Roll(tally))?;
     Ok(slots)
 }
@@ -105,7 +104,7 @@ impl<'c> ObjectTable<'c> {
         ensures pass { IfOk result (λ r. (r.1.mark ≡ r.0.mark) × (r.1.shows ≡ first_view plan.now)) }
     {
         let path = Path::root(alloc)?;
-        let spare = SpareNote::of(alloc, &path)?;
+        let spare = path.copy(alloc)?;
         let slots = first_slots(alloc, &path, plan)?;
         let words = Vec::from_elem(alloc, 0, words_for(slots.len())?)?;
         match Table::new(alloc, words.as_slice(), slots, plan) {

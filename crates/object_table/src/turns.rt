@@ -22,7 +22,6 @@ ghost use Rattle.object_table.specs.declared.task.Task.{Task as TaskState};
 ghost use Rattle.jade_meaning.specs.Plan.{RunPlan};
 
 use crate::answers::{Taken, Tried};
-use crate::notes::SpareNote;
 use crate::slot::Slot;
 use crate::tally::Tally;
 use crate::task::Task;
@@ -147,13 +146,13 @@ fn bear(words: &Words, task: &mut Task, place: usize, children: u32)
     task.children = children;
 }
 
-// The note that is kept for the last part.
-fn taken_out(spare: &mut Option<SpareNote>) -> SpareNote
+// The path that is kept for the last note.
+fn taken_out(spare: &mut Option<Path>) -> Path
     requires { IsSome spare.old }
     ensures { spare.old ≡ Some result }
 {
     match spare.take() {
-        Some(note) => note,
+        Some(path) => path,
         None => unreachable!(),
     }
 }
@@ -169,9 +168,9 @@ fn depart(words: &Words, task: &mut Task, place: usize, blame: Option<Blame>, st
         → Ended place blame steps (shown p.before) (shown task.new) }
 {
     core_laws();
-    let spare = taken_out(&mut task.spare);
+    let path = taken_out(&mut task.spare);
     let slot = task.seat.slot_mut(&*words, place);
-    let over = one_fewer(slot, spare, task.children, blame, steps);
+    let over = one_fewer(slot, path, task.children, blame, steps);
     leave_turn::<Resigning>(words, &mut task.seat, place);
     settle(task);
     task.over = over;
@@ -282,35 +281,29 @@ fn enter_to(
 }
 
 // A live task makes a child, and its part that ends leaves a note in the roll's slot.
-fn one_more(slot: &mut Slot, spare: SpareNote, children: u32, steps: u64) -> Result<(), Memory>
+fn one_more(slot: &mut Slot, path: Path, children: u32, steps: u64) -> Result<(), Memory>
     requires { IsRoll slot.old }
     ensures done { OnOk result ((r : RollView) → slot.old ≡ SlotOf.Roll r
-        → slot.new ≡ SlotOf.Roll (one_more (record { path = spare; children = children; steps = steps; blame = None }) r)) }
+        → slot.new ≡ SlotOf.Roll (one_more (record { path = path; children = children; steps = steps; blame = None }) r)) }
     ensures unchanged { OnErr result (slot.new ≡ slot.old) }
 {
     match slot {
-        Slot::Roll(tally) => tally.enroll(spare, children, steps),
+        Slot::Roll(tally) => tally.enroll(path, children, steps),
         Slot::Away => unreachable!(),
         Slot::Object(_) => unreachable!(),
     }
 }
 
 // A live task ends, and its last part leaves a note in the roll's slot; whether no task is live now.
-fn one_fewer(
-    slot: &mut Slot,
-    spare: SpareNote,
-    children: u32,
-    blame: Option<Blame>,
-    steps: u64,
-) -> bool
+fn one_fewer(slot: &mut Slot, path: Path, children: u32, blame: Option<Blame>, steps: u64) -> bool
     requires { (r : RollView) × (slot.old ≡ SlotOf.Roll r) × (0 < length r.live) }
     ensures done { (r : RollView) → slot.old ≡ SlotOf.Roll r
-        → slot.new ≡ SlotOf.Roll (one_fewer (record { path = spare; children = children; steps = steps; blame = blame }) r) }
+        → slot.new ≡ SlotOf.Roll (one_fewer (record { path = path; children = children; steps = steps; blame = blame }) r) }
     ensures last { result ≡ is_deserted slot.new }
 {
     match slot {
         Slot::Roll(tally) => {
-            tally.resign(spare, children, blame, steps);
+            tally.resign(path, children, blame, steps);
             is_over(tally)
         }
         Slot::Away => unreachable!(),
@@ -479,13 +472,13 @@ pub(crate) fn enroll_at(
         Some(children) => children,
         None => return Err(Memory),
     };
-    let spare = SpareNote::of(alloc, &task.path)?;
+    let path = task.path.copy(alloc)?;
     match begin(words, task, place) {
         Ok(()) => {}
         Err(word) => return Ok(Tried::Busy(word)),
     }
     let slot = task.seat.slot_mut(&*words, place);
-    match one_more(slot, spare, task.children, steps) {
+    match one_more(slot, path, task.children, steps) {
         Ok(()) => {
             bear(words, task, place, children);
             Ok(Tried::Done)
@@ -535,7 +528,7 @@ pub(crate) fn split_off(words: &Words, alloc: Global, task: &mut Task) -> Result
     ensures unchanged { OnErr result (shown task.new ≡ shown task.old) }
 {
     let path = task.path.child(alloc, task.children - 1)?;
-    let spare = SpareNote::of(alloc, &path)?;
+    let spare = path.copy(alloc)?;
     let seat = words.split_seat::<Bearing>(&mut task.seat);
     Ok(Task {
         seat,

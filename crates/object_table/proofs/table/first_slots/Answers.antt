@@ -6,6 +6,6 @@ use Rattle.object_table.proofs.table.first_slots.Goals as goal
 
 pub returns : goal.returns
 returns c = record {
-  is = c.in_ok-push.ensures.items ∙ ap (λ r. c.in_ok-slots.slots.items ++ slot.Roll r ∷ []) c.start-tally.ensures
+  is = c.in_ok-push.ensures.items ∙ ap (λ r. c.in_ok-slots.slots.items ++ slot.Roll r ∷ []) c.in_ok-tally.ensures
       ∙ ap (λ xs. xs ++ slot.Roll (counted begun) ∷ []) c.in_ok-slots.ensures;
 }

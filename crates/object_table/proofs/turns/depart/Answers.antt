@@ -4,8 +4,8 @@ use Rattle.object_table.specs.Tallies.{counted}
 use Rattle.object_table.proofs.Leaving.{may_lend, lent_is, has_spare, one_live, may_depart, departed_rests, departed}
 use Rattle.object_table.proofs.turns.depart.Goals as goal
 
-pub taken_out-spare-requires : goal.taken_out-spare-requires
-taken_out-spare-requires c =
+pub taken_out-path-requires : goal.taken_out-path-requires
+taken_out-path-requires c =
     let words = c.args.words.now in
     let laws = c.core_laws.ensures words.key in
     subst IsSome (sym (has_spare words.key laws words.table_id.slots c.args.place c.args.task.now c.args.blame c.args.steps c.requires.departure)) refl
@@ -29,7 +29,7 @@ leave_turn-requires-clause-allowed c =
     let laws = c.core_laws.ensures words.key in
     let p = c.requires.departure in
     may_depart words.key laws words.table_id.slots c.args.place c.args.task.now c.args.blame c.args.steps p
-    c.taken_out-spare.result c.taken_out-spare.ensures c.one_fewer-over.new.slot
+    c.taken_out-path.result c.taken_out-path.ensures c.one_fewer-over.new.slot
     (c.one_fewer-over.ensures.done (counted p.roll) (lent_is p.begun c.slot_mut-slot.result.now c.slot_mut-slot.ensures.value))
 
 pub returns-clause-rests : goal.returns-clause-rests
@@ -39,7 +39,7 @@ returns-clause-rests c =
     let s = c.settle.ensures in
     let p = c.requires.departure in
     departed_rests words.key laws words.table_id.slots c.args.place c.args.task.now c.args.blame c.args.steps p
-    c.taken_out-spare.result c.taken_out-spare.ensures c.one_fewer-over.new.slot
+    c.taken_out-path.result c.taken_out-path.ensures c.one_fewer-over.new.slot
     (c.one_fewer-over.ensures.done (counted p.roll) (lent_is p.begun c.slot_mut-slot.result.now c.slot_mut-slot.ensures.value))
     (record c.settle.new.task { over = c.one_fewer-over.result }) c.leave_turn.new.seat s.seat c.leave_turn.ensures.done s.events c.one_fewer-over.ensures.last
     s.path.0 s.path.1
@@ -50,6 +50,6 @@ returns-clause-done c = λ p.
     let laws = c.core_laws.ensures words.key in
     let s = c.settle.ensures in
     departed words.key laws words.table_id.slots c.args.place c.args.task.now c.args.blame c.args.steps p
-    c.taken_out-spare.result c.taken_out-spare.ensures c.one_fewer-over.new.slot
+    c.taken_out-path.result c.taken_out-path.ensures c.one_fewer-over.new.slot
     (c.one_fewer-over.ensures.done (counted p.roll) (lent_is p.begun c.slot_mut-slot.result.now c.slot_mut-slot.ensures.value))
     (record c.settle.new.task { over = c.one_fewer-over.result }) c.leave_turn.new.seat s.seat c.leave_turn.ensures.done s.events c.one_fewer-over.ensures.last

@@ -15,7 +15,7 @@ bear-requires-clause-birth c =
     let got = c.in-Ok.ensures.got in
     let g = roll_lent c.args.words.now.table_id.slots c.args.place got.0 c.args.task.now c.begin.new.task got.1 c.args.words.now.key f.laid.deep f.place
     c.slot_mut-slot.result.now c.slot_mut-slot.ensures.value in
-    roll_grows g.1 f.place c.requires.next.1 c.in_ok-spare.ensures (c.in-Ok-one_more.ensures.done (counted g.0) g.2)
+    roll_grows g.1 f.place c.requires.next.1 c.in_ok-path.ensures (c.in-Ok-one_more.ensures.done (counted g.0) g.2)
 
 pub returns-in-Ok-one_more-clause-answer : goal.returns-in-Ok-one_more-clause-answer
 returns-in-Ok-one_more-clause-answer c =
@@ -23,7 +23,7 @@ returns-in-Ok-one_more-clause-answer c =
     let got = c.in-Ok.ensures.got in
     let g = roll_lent c.args.words.now.table_id.slots c.args.place got.0 c.args.task.now c.begin.new.task got.1 c.args.words.now.key f.laid.deep f.place
     c.slot_mut-slot.result.now c.slot_mut-slot.ensures.value in
-    c.bear.ensures.done (roll_grows g.1 f.place c.requires.next.1 c.in_ok-spare.ensures (c.in-Ok-one_more.ensures.done (counted g.0) g.2))
+    c.bear.ensures.done (roll_grows g.1 f.place c.requires.next.1 c.in_ok-path.ensures (c.in-Ok-one_more.ensures.done (counted g.0) g.2))
 
 pub returns-in-Err-one_more-clause-unchanged : goal.returns-in-Err-one_more-clause-unchanged
 returns-in-Err-one_more-clause-unchanged c =
