@@ -43,7 +43,7 @@ use Rattle.schedule_core.specs.declared.steps.Seat.{Seat as Place}
 use Rattle.schedule_core.specs.ByNumber.{shelf_at}
 use Rattle.schedule_core.specs.Plain.{seat_after}
 use Rattle.jade_meaning.specs.Plan.{RunPlan}
-use Rattle.object_table.specs.Views.{count_of, View, shelf_of, paths_of, bare, core_notes}
+use Rattle.object_table.specs.Views.{count_of, View, shelf_of, core_notes}
 use Rattle.object_table.specs.Touches.{is_touch, touched_first, touched, touch_next, passed, all_touches}
 use Rattle.object_table.specs.Plays.{Told, tried_at, in_turn, turned_off, left_as_it_was, did, Ahead, left_done}
 use Rattle.object_table.specs.Calls.{Next, saw, found_busy, AsBefore}
@@ -56,6 +56,13 @@ use Rattle.object_table.proofs.Touching.{passed_same, Same}
 use Rattle.object_table.proofs.Finishing.{finishing}
 use Rattle.object_table.proofs.Owners.{none_some}
 use Rattle.object_table.proofs.Sizes.{got_sized}
+
+-- a task has what its view says, and its view has what it needs
+pub record Purse (t : Task) (w : View) : Type 0 where
+  pub tickets : t.tickets ≡ w.tickets
+  pub notes : t.notes ≡ w.notes
+  pub fed : w.live ≡ true → 0 < w.tickets
+  pub rich : (s : Place) → w.unborn ≡ Some s → 1 < w.tickets
 
 -- a view with another side of the table's
 abbrev pub on_try : Bool → (tries place word : ℕ) → Slot → View → View
@@ -88,11 +95,8 @@ pub object_there : (slots : ℕ) (v : View) (o : ℕ) (y : Slot) (key : RunPlan)
 object_there slots v o y key deep lt told =
     let n : told.objects ≡ count_of key = let a = told.sized in omega (arith, deep) in
     let ne : o ≢ told.objects = λ e. absurd (omega (arith, e, n, lt)) in
-    subst IsObject (sym (told.shows ∙ ap (λ z. if z then slot.Roll (record {
-      live = paths_of (told.front ++ (v.seat ∷ told.back));
-      notes =
-          told.notes;
-    }) else slot.Object (shelf_of (shelf_at told.shelves o))) (ne_eqb o told.objects ne))) tt
+    subst IsObject
+    (sym (told.shows ∙ ap (λ z. if z then slot.Roll told.tally else slot.Object (shelf_of (shelf_at told.shelves o))) (ne_eqb o told.objects ne))) tt
 
 -- what is handed out of an object has as many cells as the program says
 pub told_sized : (slots : ℕ) (v : View) (o : ℕ) (y : Slot) → Told slots v o y → (z : ShelfView) → y ≡ slot.Object z → (p : List ℕ) (m : Mode) (xs : List ℤ)
@@ -102,18 +106,10 @@ told_sized slots v o y told z is p m xs got = dite (ℕ_discrete o told.objects)
     (λ ne. got_sized v.key told.count (told.front ++ (v.seat ∷ told.back)) told.shelves (core_notes told.notes) told.reached o p m xs
     (ap (hand_in p m) (sym (object_is z (shelf_of (shelf_at told.shelves o)) (sym is ∙ shown_as false (ne_eqb o told.objects ne)))) ∙ got))
   where
-    shown_as : (b : Bool) → nat_eq o told.objects ≡ b → y ≡ (if b then slot.Roll (record {
-      live = paths_of (told.front ++ (v.seat ∷ told.back));
-      notes =
-          told.notes;
-    }) else slot.Object (shelf_of (shelf_at told.shelves o)))
-    shown_as b e = told.shows ∙ ap (λ c. if c then slot.Roll (record {
-      live = paths_of (told.front ++ (v.seat ∷ told.back));
-      notes =
-          told.notes;
-    }) else slot.Object (shelf_of (shelf_at told.shelves o))) e
+    shown_as : (b : Bool) → nat_eq o told.objects ≡ b → y ≡ (if b then slot.Roll told.tally else slot.Object (shelf_of (shelf_at told.shelves o)))
+    shown_as b e = told.shows ∙ ap (λ c. if c then slot.Roll told.tally else slot.Object (shelf_of (shelf_at told.shelves o))) e
 
-    no_roll : slot.Object z ≡ slot.Roll (record { live = paths_of (told.front ++ (v.seat ∷ told.back)); notes = told.notes }) → ⊥
+    no_roll : slot.Object z ≡ slot.Roll told.tally → ⊥
     no_roll e = cc
 
     object_is : (a b : ShelfView) → slot.Object a ≡ slot.Object b → a ≡ b
@@ -146,6 +142,10 @@ module _ (t : Task) (r : Rests t) where
         events = to (λ m. t.events ≡ (passed t.touched m.0).seat.walker.done % 2 ^ 64) (r.events
             ∙ ap (λ (z : View). z.seat.walker.done % 2 ^ 64) (sym (passed_try false n o w y t.touched v0)));
         over = to (λ m. t.over ≡ m.0.over) r.over;
+        tickets = to (λ m. t.tickets ≡ m.0.tickets) r.tickets;
+        notes = to (λ m. t.notes ≡ m.0.notes) r.notes;
+        fed = to (λ m. m.0.live ≡ true → 0 < m.0.tickets) r.fed;
+        rich = to (λ m. (k : Place) → m.0.unborn ≡ Some k → 1 < m.0.tickets) r.rich;
         kid = to (λ m. (k : Place) → m.0.unborn ≡ Some k → Youngest m.0.seat.path m.0.seat.children k) r.kid;
       }
 
@@ -159,6 +159,12 @@ module _ (t : Task) (r : Rests t) where
 
   pub over_is : t.over ≡ v.over
   over_is = r.over ∙ sym same.over
+
+  pub tickets_is : t.tickets ≡ v.tickets
+  tickets_is = r.tickets ∙ sym same.tickets
+
+  pub notes_is : t.notes ≡ v.notes
+  notes_is = r.notes ∙ sym same.notes
 
   pub children_is : t.children ≡ v.seat.children
   children_is = r.children ∙ sym same.children
@@ -213,7 +219,7 @@ module _ (t : Task) (r : Rests t) where
   alive e next = alive_is next.live
 
   -- a turn may be left with nothing done
-  pub may_desist : (slots : ℕ) (seat1 : Seat Slot View) (o : ℕ) (y new : Slot) → InTurn slots o y new t.seat.me seat1.me → (key : RunPlan) → new ≡ bare y
+  pub may_desist : (slots : ℕ) (seat1 : Seat Slot View) (o : ℕ) (y new : Slot) → InTurn slots o y new t.seat.me seat1.me → (key : RunPlan) → new ≡ y
       → Leaves left_as_it_was key slots seat1.id seat1.me o
   may_desist slots seat1 o y new turn key same =
       subst (λ (m : Me Slot View). Leaves left_as_it_was key slots seat1.id m o) (sym turn.me)
@@ -246,10 +252,10 @@ module _ (t : Task) (r : Rests t) where
 
   -- an event done: the fields follow
   pub left_rests : (t3 : Task) (w : View) → t3.seat.me ≡ (w, []) → t3.path ≡ w.seat.path → (w.live ≡ true → t3.spare ≡ Some t3.path)
-      → t3.children ≡ w.seat.children → t3.over ≡ w.over → (t3.touched ≡ 0) × (t3.events ≡ (t.events + 1) % 2 ^ 64) → w.turn ≡ false
+      → t3.children ≡ w.seat.children → t3.over ≡ w.over → Purse t3 w → (t3.touched ≡ 0) × (t3.events ≡ (t.events + 1) % 2 ^ 64) → w.turn ≡ false
       → w.seat.walker.done ≡ suc v.seat.walker.done
       → ((k : Place) → w.unborn ≡ Some k → Youngest w.seat.path w.seat.children k) → Rests t3
-  left_rests t3 w is path spare children over counts off done kid =
+  left_rests t3 w is path spare children over purse counts off done kid =
       let to : (P : Me Slot View → Type 0) → P (w, []) → P t3.seat.me = λ P p. subst P (sym is) p in
       record {
         holds = ap (λ (m : Me Slot View). m.1) is;
@@ -262,6 +268,10 @@ module _ (t : Task) (r : Rests t) where
             ∙ ap (λ x. x % 2 ^ 64) (sym done ∙ sym (ap (λ (m : Me Slot View). m.0.seat.walker.done) is)
             ∙ sym (ap (λ k. (passed k t3.seat.me.0).seat.walker.done) counts.0));
         over = to (λ m. t3.over ≡ m.0.over) over;
+        tickets = to (λ m. t3.tickets ≡ m.0.tickets) purse.tickets;
+        notes = to (λ m. t3.notes ≡ m.0.notes) purse.notes;
+        fed = to (λ m. m.0.live ≡ true → 0 < m.0.tickets) purse.fed;
+        rich = to (λ m. (k : Place) → m.0.unborn ≡ Some k → 1 < m.0.tickets) purse.rich;
         kid = to (λ m. (k : Place) → m.0.unborn ≡ Some k → Youngest m.0.seat.path m.0.seat.children k) kid;
       }
     where
@@ -274,12 +284,20 @@ module _ (t : Task) (r : Rests t) where
 
   -- the same of an event that leaves path, children and the rest as they were
   pub done_rests : (t3 : Task) (w : View) → t3.seat.me ≡ (w, []) → (t3.path ≡ t.path) × (t3.children ≡ t.children) × (t3.over ≡ t.over)
-      × (t3.spare ≡ t.spare) → v.live ≡ true → (t3.touched ≡ 0)
+      × (t3.spare ≡ t.spare) → (t3.tickets ≡ t.tickets) × (t3.notes ≡ t.notes) → (w.tickets ≡ v.tickets) × (w.notes ≡ v.notes)
+      → v.live ≡ true → (t3.touched ≡ 0)
       × (t3.events ≡ (t.events + 1) % 2 ^ 64) → w.turn ≡ false → w.seat.path ≡ v.seat.path → w.seat.children ≡ v.seat.children → w.seat.walker.done
       ≡ suc v.seat.walker.done → w.over ≡ v.over → w.unborn ≡ None → Rests t3
-  done_rests t3 w is fields live counts off path children done over born =
+  done_rests t3 w is fields purse hand live counts off path children done over born =
       left_rests t3 w is (fields.0 ∙ path_is ∙ sym path) (λ l. spare_is t3 live fields.0 fields.3) (fields.1 ∙ children_is ∙ sym children)
-      (fields.2 ∙ over_is ∙ sym over) counts off done
+      (fields.2 ∙ over_is ∙ sym over)
+      (record {
+        tickets = purse.0 ∙ tickets_is ∙ sym hand.0;
+        notes = purse.1 ∙ notes_is ∙ sym hand.1;
+        fed = λ l. subst (λ x. 0 < x) (sym (hand.0 ∙ same.tickets)) (r.fed (alive_is live));
+        rich = λ k e. absurd (none_some k (sym born ∙ e));
+      })
+      counts off done
       (λ k e. absurd (none_some k (sym born ∙ e)))
 
   pub done_shown : (t3 : Task) (w : View) → t3.seat.me ≡ (w, []) → t3.touched ≡ 0 → shown t3 ≡ w

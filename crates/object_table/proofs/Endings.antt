@@ -11,10 +11,12 @@ use lib.ListN.{get_elem?}
 use Rattle.atomic_table.specs.Table as table
 use Rattle.atomic_table.specs.Table.{Final, Seen}
 use Rattle.jade_syntax.specs.Image.{program as abstracted}
+use Rattle.jade_meaning.specs.Laws.{Every}
 use Rattle.jade_meaning.specs.Report.{report}
 use Rattle.object_shelf.specs.declared.queue.Entry.{Entry}
 use Rattle.object_shelf.specs.Views.{ObjectView}
 use Rattle.object_shelf.specs.Whole.{is_out}
+use Rattle.task_roll.specs.declared.note.PartNote.{PartNote}
 use Rattle.task_roll.specs.Rolls.{by_key}
 use Rattle.schedule_core.specs.Notes.{step_note, fault_note}
 use Rattle.schedule_core.specs.Reports.{told_of}
@@ -22,13 +24,17 @@ use Rattle.schedule_core.specs.ByNumber.{shelf_at}
 use Rattle.schedule_core.specs.Plain.{Reached}
 use Rattle.schedule_core.specs.Queued.{Owner}
 use Rattle.jade_meaning.specs.Plan.{RunPlan}
-use Rattle.object_table.specs.Views.{count_of, View, home_if, part_of, bare}
-use Rattle.object_table.specs.Rule.{PlaceOk, free, taken, Ruled}
+use Rattle.object_table.specs.Views.{count_of, View, home_if, part_of, worth, worths, gathered}
+use Rattle.object_table.specs.Rule.{Owned, by_pass, by_maker, PlaceOk, free, taken, Ruled}
 use Rattle.object_table.specs.steps.Endings.{cells_in, notes_in, or_none, on_shelf, LastSlots, EndLaws}
 use Rattle.object_table.specs.declared.slot.Slot.{Slot}
 use Rattle.object_table.specs.declared.slot.Slot.TheVariants as slot
-use Rattle.object_table.proofs.Owners.{not_empty}
+use Rattle.object_table.proofs.Purses.{worth_within, none_in_hand}
 use Rattle.object_table.proofs.Sizes.{how_many}
+
+append_nil : (ns : List PartNote) → ns ++ [] ≡ ns
+append_nil [] = refl
+append_nil (n ∷ ns) = ap (λ ms. n ∷ ms) (append_nil ns)
 
 -- so many values have been taken out
 pub record Out (fs : List Bool) (n : ℕ) (xs ys : List Slot) (i : ℕ) : Type 0 where
@@ -90,40 +96,54 @@ module _ (key : RunPlan) where
     abbrev h : Ruled key s
     h = last.1.0
 
+    none_due : worths s.views ≡ 0
+    none_due = sym h.accounts.due ∙ h.settled id v last.1.1 over
+
+    worthless : (j : ℕ) (z : View) → get_elem? s.views j ≡ some z → worth z ≡ 0
+    worthless j z e = let le = worth_within s.views j z e in let none = none_due in omega (arith, le, none)
+
     none_left : h.owners ≡ []
-    none_left = (h.passes id v last.1.1).sits.over over
+    none_left = go h.owners h.only
+      where
+        no_owner : (x : ℕ) → Owned s.views x → ⊥
+        no_owner x (by_pass j z e live is) =
+            let some = (h.passes j z e).sits.fed live in let none = worthless j z e in absurd (omega (arith, some, none))
+        no_owner x (by_maker j z kid e unborn is) =
+            let some = (h.passes j z e).sits.feeds kid unborn in let none = worthless j z e in absurd (omega (arith, some, none))
+
+        go : (xs : List ℕ) → Every (Owned s.views) xs → xs ≡ []
+        go [] o = refl
+        go (x ∷ xs) o = absurd (no_owner x o.0)
 
     no_roll : map h.seats h.owners ≡ []
     no_roll = ap (map h.seats) none_left
 
-    slot_at : (o : ℕ) → o < suc n → get_elem? xs o ≡ some (bare (part_of n o [] h.shelves h.told))
+    all_handed : gathered h.tally s.views ≡ h.tally.notes
+    all_handed = ap (λ ns. h.tally.notes ++ ns) (none_in_hand s.views none_due) ∙ append_nil h.tally.notes
+
+    slot_at : (o : ℕ) → o < suc n → get_elem? xs o ≡ some (part_of n o h.tally h.shelves)
     slot_at o lt = go (h.places o lt)
       where
-        go : PlaceOk n s h.holder (λ p. part_of n p (map h.seats h.owners) h.shelves h.told) o → get_elem? xs o ≡ some (bare (part_of n o [] h.shelves h.told))
-        go (free y w0 home is) = last.4 o y home ∙ ap some (is ∙ ap (λ r. bare (part_of n o r h.shelves h.told)) no_roll)
+        go : PlaceOk n s h.holder (λ p. part_of n p h.tally h.shelves) o → get_elem? xs o ≡ some (part_of n o h.tally h.shelves)
+        go (free y w0 home is) = last.4 o y home ∙ ap some is
         go (taken z w1 e t l) =
-            let q = h.passes (h.holder o) z e in
-            let there = q.sits.live (q.busy t) in
-            absurd (not_empty h.owners there.spot.front there.spot.back _ there.spot.is none_left)
+            let some = (h.passes (h.holder o) z e).busy t in let none = worthless (h.holder o) z e in absurd (omega (arith, some, none))
 
     pub last_slots : (ys : List Slot) (y : Slot) → ys ≡ take n xs → get_elem? xs n ≡ some y → LastSlots key ys y
     last_slots ys y are at =
-        let reached = subst (λ r. Reached key.program key.numbers key.limit h.count r h.shelves (by_key h.told)) no_roll h.reached in
-        let many : length h.shelves ≡ n = how_many key h.count [] h.shelves (by_key h.told) reached in
+        let reached = subst (λ ns. Reached key.program key.numbers key.limit h.count [] h.shelves (by_key ns)) all_handed
+        (subst (λ r. Reached key.program key.numbers key.limit h.count r h.shelves (by_key (gathered h.tally s.views))) no_roll h.reached) in
+        let many : length h.shelves ≡ n = how_many key h.count [] h.shelves (by_key h.tally.notes) reached in
         record {
           count = h.count;
           shelves = h.shelves;
-          told = h.told;
+          tally = h.tally;
           reached = reached;
           objects = are ∙ ap (λ k. take k xs) (sym many) ∙ objects_are h.shelves xs (λ o lt.
-              slot_at o (omega (arith, lt, many)) ∙ ap (λ c. some (bare (if c then slot.Roll (record {
-                live = [];
-                notes = h.told;
-              }) else on_shelf (shelf_at h.shelves o)))) (ne_eqb o n (λ e. absurd (omega (arith, lt, many, e)))));
-          roll = some-injective y _ (sym at ∙ slot_at n (omega arith) ∙ ap (λ c. some (bare (if c then slot.Roll (record {
-            live = [];
-            notes = h.told;
-          }) else on_shelf (shelf_at h.shelves n)))) (eq-eqb n n refl));
+              slot_at o (omega (arith, lt, many)) ∙ ap (λ c. some (if c then slot.Roll h.tally else on_shelf (shelf_at h.shelves o)))
+              (ne_eqb o n (λ e. absurd (omega (arith, lt, many, e)))));
+          roll = some-injective y _ (sym at ∙ slot_at n (omega arith)
+              ∙ ap (λ c. some (if c then slot.Roll h.tally else on_shelf (shelf_at h.shelves n))) (eq-eqb n n refl));
         }
 
   home_cells : (ss : List ObjectView) → ((o : ℕ) → is_out (shelf_at ss o).queue ≡ false) → map cells_in (map on_shelf ss) ≡
@@ -141,21 +161,21 @@ module _ (key : RunPlan) where
       ≡ report (abstracted key.program) key.numbers key.limit
   reported laws xs y l =
       (λ i. told_of (map cells_in (l.objects i)) (by_key (notes_in (l.roll i))))
-      ∙ ap (λ cs. told_of cs (by_key l.told)) (home_cells l.shelves at_home)
+      ∙ ap (λ cs. told_of cs (by_key l.tally.notes)) (home_cells l.shelves at_home)
       ∙ ap (λ k. record {
         objects = map (λ (x : ObjectView). x.content) l.shelves;
-        faults = filter_map fault_note (by_key l.told);
+        faults = filter_map fault_note (by_key l.tally.notes);
         turns = replicate k [];
-        steps = map step_note (by_key l.told);
+        steps = map step_note (by_key l.tally.notes);
       }) (map_length l.shelves)
-      ∙ laws.shows.reports l.count l.shelves (by_key l.told) l.reached
+      ∙ laws.shows.reports l.count l.shelves (by_key l.tally.notes) l.reached
     where
       nobody_owns : (p : List ℕ) → Owner [] p → ⊥
       nobody_owns p o = let e = o.live in cc
 
       by_queue : (o : ℕ) (es : List Entry) → (shelf_at l.shelves o).queue ≡ es → is_out es ≡ false
       by_queue o [] e = refl
-      by_queue o (d ∷ es) e = absurd (nobody_owns d.path (laws.owned.owner l.count [] l.shelves (by_key l.told) l.reached o 0 d (ap (λ q. slice_get q 0) e)))
+      by_queue o (d ∷ es) e = absurd (nobody_owns d.path (laws.owned.owner l.count [] l.shelves (by_key l.tally.notes) l.reached o 0 d (ap (λ q. slice_get q 0) e)))
 
       at_home : (o : ℕ) → is_out (shelf_at l.shelves o).queue ≡ false
       at_home o = by_queue o (shelf_at l.shelves o).queue refl

@@ -1,13 +1,13 @@
 -- A task makes its next child, which stands before it on the roll and has no pass yet.
-use Rattle.std.proofs.Common.{◌≡◌, ◌≢◌, ℕ, suc, true, false, List, [], ◌∷◌, ◌++◌, map, length, set, refl, sym, ap, ◌∙◌, subst, arith, append_assoc}
-use Rattle.std.proofs.Common.{eq-eqb, ne_eqb, Option, Some, None}
-use Rattle.std.specs.Prelude.{slice_get, is_some, if◌then◌else◌}
+use Rattle.std.proofs.Common.{◌≡◌, ◌≢◌, ℕ, suc, ◌<◌, ◌≤◌, true, false, List, [], ◌∷◌, ◌++◌, map, length, set, refl, sym, ap, ◌∙◌, subst, arith}
+use Rattle.std.proofs.Common.{append_assoc, Option, Some, None}
+use Rattle.std.specs.Prelude.{slice_get, slice_index, is_some}
 use mathlib.Core.Logic.{dite}
 use mathlib.Core.Option.{none, some}
 use native.Mathlib.Decide.{ℕ_discrete}
 use lib.ListN.{get_elem?}
 use Rattle.atomic_table.specs.Table as table
-use Rattle.atomic_table.specs.Table.{Me, step, gives, stepped, Allows, rest}
+use Rattle.atomic_table.specs.Table.{Me, step, keeps, stepped, Allows}
 use Rattle.atomic_table.proofs.Lists.{set_here}
 use Rattle.jade_base.specs.declared.rights.Mode.{Mode}
 use Rattle.jade_base.specs.Places.{same_path}
@@ -18,54 +18,35 @@ use Rattle.jade_meaning.specs.Walk.{upcoming, First, Bears, IsChildOf, moved}
 use Rattle.object_shelf.specs.declared.queue.Entry.{Entry}
 use Rattle.object_shelf.specs.Shelves.{find}
 use Rattle.task_roll.specs.declared.note.PartNote.{PartNote}
-use Rattle.task_roll.specs.Rolls.{RollView, noting}
-use Rattle.task_roll.proofs.Rolls.{by_key-last as by_key_last}
+use Rattle.task_roll.specs.Rolls.{filed}
 use Rattle.schedule_core.specs.declared.steps.Seat.{Seat}
 use Rattle.schedule_core.specs.ByNumber.{shelf_at}
 use Rattle.schedule_core.specs.Plain.{Reached, Born}
 use Rattle.schedule_core.specs.Holders.{IsLive}
 use Rattle.schedule_core.proofs.Lines.{every_append, every_front, every_back}
 use Rattle.jade_meaning.specs.Plan.{RunPlan}
-use Rattle.object_table.specs.Tallies.{counted, one_more}
-use Rattle.object_table.specs.Views.{count_of, word_of, View, shelf_of, paths_of, bare, core_notes}
+use Rattle.object_table.specs.Tallies.{most}
+use Rattle.object_table.specs.Views.{count_of, View, core_notes, worth, gathered}
 use Rattle.object_table.specs.Touches.{passed}
 use Rattle.object_table.specs.Rule.{pass_of, kid_of, hold_of, nothing, Absent, Spot, OnRoll, Agrees, Owned, by_maker, Sits, Ruled}
-use Rattle.object_table.specs.Plays.{bore, Ahead, left_enrolled}
+use Rattle.object_table.specs.Plays.{note_after, bore, Ahead, did_enroll}
 use Rattle.object_table.specs.steps.Kept.{Laws}
 use Rattle.object_table.specs.declared.slot.Slot.{Slot}
-use Rattle.object_table.specs.declared.slot.Slot.TheVariants as slot
 use Rattle.object_table.proofs.Bearing.{child_walk}
 use Rattle.object_table.proofs.Lists.{put_seat, seat_here, seat_else, map_absent, roll_put, place_get, at_inside, every_with, path_same, not_kid}
-use Rattle.object_table.proofs.Owners.{spot_more, not_empty, some_seat, owned_more, no_kid_of, blanks, blanks_more}
-use Rattle.object_table.proofs.Goes.{Goes, parts0, leaving}
-use Rattle.object_table.proofs.Quiet.{on, f, b, roll_is, stands, reach_on}
+use Rattle.object_table.proofs.Owners.{spot_more, some_seat, owned_more, no_kid_of}
+use Rattle.object_table.proofs.Goes.{Goes, loaded}
+use Rattle.object_table.proofs.Quiet.{on, f, b, stands, reach_on}
+use Rattle.object_table.proofs.Noting.{noted_on, noted_accounts, noted_room}
 use Rattle.object_table.proofs.Touching.{set_set, passing, passed_same}
 use Rattle.object_table.proofs.Finishing.{ahead_once}
-
-pub same_roll : (r q : RollView) → slot.Roll r ≡ slot.Roll q → r ≡ q
-same_roll r q e = cc
 
 first_with : (l : List Event) (P Q : Event → Type 0) → ((e : Event) → P e → Q e) → First l P → First l Q
 first_with [] P Q f h = h
 first_with (e ∷ l) P Q f h = f e h
 
 module _ (key : RunPlan) (laws : Laws key) (s : table.State Slot View) (h : Ruled key s) (id : ℕ) (v : View) (at_v : get_elem? s.views id ≡ some v)
-    (alive : v.live ≡ true) (turn : v.turn ≡ true) (place : v.place ≡ count_of key) where
-  -- what a pass with the turn at the roll found there
-  pub roll_found : v.note ≡ slot.Roll (record {
-    live = paths_of (f (count_of key) key s h id v at_v alive ++ (v.seat ∷ b (count_of key) key s h id v at_v alive));
-    notes = h.told;
-  })
-  roll_found =
-      ((h.passes id v at_v).turn turn).found ∙ ap (parts0 (count_of key) key s h id v at_v) place
-      ∙ ap (λ c. if c then slot.Roll (record {
-        live = paths_of (map h.seats h.owners);
-        notes = h.told;
-      }) else slot.Object (shelf_of (shelf_at h.shelves (count_of key)))) (eq-eqb (count_of key) (count_of key) refl)
-      ∙ ap (λ r. slot.Roll (record { live = paths_of r; notes = h.told })) (roll_is (count_of key) key s h id v at_v alive)
-
-module _ (key : RunPlan) (laws : Laws key) (s : table.State Slot View) (h : Ruled key s) (id : ℕ) (v : View) (at_v : get_elem? s.views id ≡ some v)
-    (alive : v.live ≡ true) (turn : v.turn ≡ true) (place : v.place ≡ count_of key) (born : v.unborn ≡ None) (t : Task) (steps : ℕ)
+    (alive : v.live ≡ true) (rich : 2 < v.tickets) (born : v.unborn ≡ None) (t : Task) (steps : ℕ)
     (next : First (upcoming v.seat.walker) (λ x. x ≡ Enroll t steps)) where
   abbrev n : ℕ
   n = count_of key
@@ -116,13 +97,16 @@ module _ (key : RunPlan) (laws : Laws key) (s : table.State Slot View) (h : Rule
   behind = b n key s h id v at_v alive
 
   abbrev w : View
-  w = bore baby v
+  w = bore steps baby v
 
   abbrev note : PartNote
-  note = record { path = v.seat.path; children = v.seat.children; steps = steps; blame = None }
+  note = note_after v steps None
 
-  abbrev told2 : List PartNote
-  told2 = noting note h.told
+  abbrev told : List PartNote
+  told = gathered h.tally s.views
+
+  spent : v.tickets ≡ suc w.tickets
+  spent = omega (arith, rich)
 
   abbrev owners2 : List ℕ
   owners2 = front ++ (kid ∷ (me ∷ back))
@@ -155,11 +139,10 @@ module _ (key : RunPlan) (laws : Laws key) (s : table.State Slot View) (h : Rule
       ∙ ap (λ x. before ++ (baby ∷ (x ∷ map seats1 back))) (seat_here h.seats me u2)
       ∙ ap (λ l. before ++ (baby ∷ (u2 ∷ l))) (map_absent h.seats me u2 back there.spot.after)
 
-  stands2 : Reached key.program key.numbers key.limit (suc h.count) (before ++ (baby ∷ (u2 ∷ behind))) h.shelves (core_notes told2)
-  stands2 = subst (λ ns. Reached key.program key.numbers key.limit (suc h.count) (before ++ (baby ∷ (u2 ∷ behind))) h.shelves ns)
-      (sym (by_key_last note h.told))
-      (reach_on key h.count before v.seat behind h.shelves h.shelves (core_notes h.told) (Enroll t steps) (baby ∷ (u2 ∷ []))
-      (stands n key s h id v at_v alive) next (the_child.0, the_child.1, refl, refl))
+  stands2 : Reached key.program key.numbers key.limit (suc h.count) (before ++ (baby ∷ (u2 ∷ behind))) h.shelves (filed note (core_notes told))
+  stands2 =
+      reach_on key h.count before v.seat behind h.shelves h.shelves (core_notes told) (Enroll t steps) (baby ∷ (u2 ∷ []))
+      (stands n key s h id v at_v alive) next (the_child.0, the_child.1, refl, refl)
 
   on_else : (x : ℕ) (z : Seat) → x ≢ me → x ≢ kid → OnRoll h.owners h.seats x z → OnRoll owners2 seats2 x z
   on_else x z ne nk r = record {
@@ -179,12 +162,12 @@ module _ (key : RunPlan) (laws : Laws key) (s : table.State Slot View) (h : Rule
           absurd (let r : true ≡ false = sym (ap (same_path p) (sym l.path ∙ ap (λ (x : Seat). x.path) is) ∙ path_same p)
           ∙ not_kid p v.seat.children in cc))
           (λ ne. absurd (let r : true ≡ false = sym (ap (λ q. same_path q young) l.path ∙ path_same young)
-          ∙ laws.tells.kids h.count (before ++ (v.seat ∷ behind)) h.shelves (core_notes h.told) (stands n key s h id v at_v alive) l.place (length before)
+          ∙ laws.tells.kids h.count (before ++ (v.seat ∷ behind)) h.shelves (core_notes told) (stands n key s h id v at_v alive) l.place (length before)
           l.seat v.seat l.live (place_get before v.seat behind) ne in cc))
 
       by_hold : (e : Entry) (m : Option Mode) → find young (shelf_at h.shelves o).queue ≡ Some e → e.hold ≡ m → m ≡ None
       by_hold e None q k = refl
-      by_hold e (Some m) q k = absurd (not_live (laws.holders.holder h.count (before ++ (v.seat ∷ behind)) h.shelves (core_notes h.told)
+      by_hold e (Some m) q k = absurd (not_live (laws.holders.holder h.count (before ++ (v.seat ∷ behind)) h.shelves (core_notes told)
           (stands n key s h id v at_v alive) o young e q (ap is_some k)))
 
       by_entry : (x : Option Entry) → find young (shelf_at h.shelves o).queue ≡ x → hold_of (find young (shelf_at h.shelves o).queue) ≡ None
@@ -211,7 +194,8 @@ module _ (key : RunPlan) (laws : Laws key) (s : table.State Slot View) (h : Rule
         held = λ l. q.held alive;
         unborn = λ z e. subst (λ y. OnRoll owners2 seats2 kid y) (some_seat baby z e) (record { spot = kid_spot; is = seat_here seats1 kid baby });
         unheld = λ z e. subst (λ (y : Seat). Agrees y.path h.shelves []) (some_seat baby z e) holds_nothing;
-        over = λ all. absurd (not_empty h.owners front back me there.spot.is (q.over all));
+        fed = λ l. omega (arith, rich);
+        feeds = λ z e. omega (arith, rich);
       }
 
   others : (j : ℕ) (z : View) → j ≢ id → Sits h.owners h.seats h.shelves j z → Sits owners2 seats2 h.shelves j z
@@ -220,7 +204,8 @@ module _ (key : RunPlan) (laws : Laws key) (s : table.State Slot View) (h : Rule
     held = q.held;
     unborn = λ k u. on_else (kid_of j) k (λ r. absurd (omega arith)) (λ r. ne (omega arith)) (q.unborn k u);
     unheld = q.unheld;
-    over = λ all. absurd (not_empty h.owners front back me there.spot.is (q.over all));
+    fed = q.fed;
+    feeds = q.feeds;
   }
 
   owned : Every (Owned (set s.views id w)) owners2
@@ -236,66 +221,53 @@ module _ (key : RunPlan) (laws : Laws key) (s : table.State Slot View) (h : Rule
     owners = owners2;
     seats = seats2;
     shelves = h.shelves;
-    told = told2;
-    reached = subst (λ r. Reached key.program key.numbers key.limit (suc h.count) r h.shelves (core_notes told2)) (sym roll2) stands2;
+    tally = h.tally;
+    reached = noted_on key laws s h id v w at_v note refl spent (suc h.count) (map seats2 owners2) h.shelves
+        (subst (λ r. Reached key.program key.numbers key.limit (suc h.count) r h.shelves (filed note (core_notes told))) (sym roll2) stands2);
+    accounts = noted_accounts key laws s h id v w at_v note refl spent;
+    settled = λ e. e;
+    own_settled = λ e. h.settled id v at_v e;
     plan = λ l. (h.passes id v at_v).plan alive;
     own = mine;
     others = λ j z ne e. others j z ne (h.passes j z e).sits;
     only = owned;
   }
 
-  pub enroll_on : (carried : List (ℕ × Slot)) (new : Slot) → carried ≡ (n, new) ∷ rest carried → (r : RollView) → v.note ≡ slot.Roll r → new
-      ≡ slot.Roll (one_more note (counted r)) → Ruled key (stepped s (word_of n) 0 id carried w gives)
-  enroll_on carried new has r found made =
-      let is : r ≡ record { live = paths_of (before ++ (v.seat ∷ behind)); notes = h.told } =
-      same_roll r _ (sym found ∙ roll_found key laws s h id v at_v alive turn place) in
-      leaving n key s h id v at_v w grown n turn place carried new has refl
-      (made ∙ ap (λ q. slot.Roll (one_more note (counted q))) is
-      ∙ ap (λ ps. slot.Roll (record { live = ps; notes = told2 })) (sym (blanks_more before behind baby u2 v.seat))
-      ∙ ap (λ l. slot.Roll (record { live = blanks l; notes = told2 })) (sym roll2)
-      ∙ sym (ap (λ c. bare (if c then slot.Roll (record {
-        live = paths_of (map seats2 owners2);
-        notes = told2;
-      }) else slot.Object (shelf_of (shelf_at h.shelves n)))) (eq-eqb n n refl)))
-      (λ i ne. ap (λ c. if c then slot.Roll (record {
-        live = paths_of (map h.seats h.owners);
-        notes = h.told;
-      }) else slot.Object (shelf_of (shelf_at h.shelves i))) (ne_eqb i n ne)
-      ∙ sym (ap (λ c. if c then slot.Roll (record {
-        live = paths_of (map seats2 owners2);
-        notes = told2;
-      }) else slot.Object (shelf_of (shelf_at h.shelves i))) (ne_eqb i n ne)))
+  pub enroll_on : (carried : List (ℕ × Slot)) → Ruled key (stepped s 0 (slice_index s.words 0) id carried w keeps)
+  enroll_on carried =
+      loaded n key s h id v at_v w grown (λ p. refl) (record { turn = refl; place = λ e. refl; note = λ e. refl }) (λ e. omega (arith, rich)) carried
 
--- a turn at the roll left with the creation done
-pub enrolling : (key : RunPlan) → Laws key → (slots id : ℕ) (me : Me Slot View) (new : Slot) → me.0.live ≡ true → me.0.unborn ≡ None → me.0.turn ≡ true
-    → me.0.place ≡ count_of key → me.1 ≡ (count_of key, new) ∷ rest me.1 → (k : ℕ) (t : Task) (steps : ℕ) → Ahead k (Enroll t steps) me.0
-    → (r : RollView) → (passed k me.0).note ≡ slot.Roll r
-    → new ≡ slot.Roll (one_more (record {
-      path = (passed k me.0).seat.path;
-      children = (passed k me.0).seat.children;
-      steps = steps;
-      blame = None;
-    }) (counted r))
-    → Allows (Ruled key) slots id me (word_of (count_of key)) (λ x. 0) (λ x. left_enrolled (step slots (word_of (count_of key)) 0 0 none) me 0)
-enrolling key laws slots id me new alive born turn place has k t steps ahead r found made s h _ at _ =
-    let n = count_of key in
+  pub enroll_room : worth w ≤ most
+  enroll_room = noted_room key laws s h id v w at_v note refl spent
+
+same_steps : (t d : Task) (n m : ℕ) → Enroll t n ≡ Enroll d m → n ≡ m
+same_steps t d n m e = cc
+
+-- a creation done at a load of the first word
+pub enrolling : (key : RunPlan) → Laws key → (slots id : ℕ) (me : Me Slot View) → me.0.live ≡ true → me.0.unborn ≡ None → 2 < me.0.tickets
+    → (k : ℕ) (t : Task) (steps : ℕ) → Ahead k (Enroll t steps) me.0
+    → Allows (Ruled key) slots id me 0 (λ x. x) (did_enroll (step slots 0 0 0 none) me)
+enrolling key laws slots id me alive born rich k t steps ahead s h _ at _ =
     let v = passed k me.0 in
     let same = passed_same k me.0 in
+    let rich' : 2 < v.tickets = subst (λ x. 2 < x) (sym same.tickets) rich in
     let s' : table.State Slot View = record { words = s.words; homes = s.homes; views = set s.views id v } in
-    let h' : Ruled key s' = passing n key s h id me.0 at alive laws.tells k ahead.touches in
+    let h' : Ruled key s' = passing (count_of key) key s h id me.0 at alive laws.tells k ahead.touches in
     let at_v = set_here s.views id v (at_inside s.views id me.0 at) in
-    let kid = baby key laws s' h' id v at_v (same.live ∙ alive) (same.turn ∙ turn) (same.place ∙ place) (same.unborn ∙ born) t steps ahead.next in
-    let is_born = born_of key laws s' h' id v at_v (same.live ∙ alive) (same.turn ∙ turn) (same.place ∙ place) (same.unborn ∙ born) t steps ahead.next in (
-      bore kid v,
-      gives,
+    let kid = baby key laws s' h' id v at_v (same.live ∙ alive) rich' (same.unborn ∙ born) t steps ahead.next in
+    let is_born = born_of key laws s' h' id v at_v (same.live ∙ alive) rich' (same.unborn ∙ born) t steps ahead.next in
+    let room = enroll_room key laws s' h' id v at_v (same.live ∙ alive) rich' (same.unborn ∙ born) t steps ahead.next in
+    let w = bore steps kid v in (
+      w,
+      keeps,
       tt,
-      subst (λ l. Ruled key (record { words = set s.words (word_of n) 0; homes = table.put_back s.homes me.1; views = l })) (set_set s.views id v (bore kid v))
-          (enroll_on key laws s' h' id v at_v (same.live ∙ alive) (same.turn ∙ turn) (same.place ∙ place) (same.unborn ∙ born) t steps ahead.next me.1 new has
-          r found made),
+      subst (λ l. Ruled key (record { words = set s.words 0 (slice_index s.words 0); homes = s.homes; views = l })) (set_set s.views id v w)
+          (enroll_on key laws s' h' id v at_v (same.live ∙ alive) rich' (same.unborn ∙ born) t steps ahead.next me.1),
       (
         (λ j d m other.
             let q = ahead_once k j (Enroll t steps) (Enroll d m) me.0 ahead other in
-            subst (λ i. (z : Seat) × Born (passed i me.0).seat z (bore kid v).seat × (bore kid v ≡ bore z (passed i me.0))) q.0 (kid, is_born, refl)),
+            subst (λ i. (z : Seat) × Born (passed i me.0).seat z w.seat × (w ≡ bore m z (passed i me.0)) × (worth w ≤ most)) q.0
+            (subst (λ c. (z : Seat) × Born v.seat z w.seat × (w ≡ bore c z v) × (worth w ≤ most)) (same_steps t d steps m q.1) (kid, is_born, refl, room))),
         refl,
       ),
     )

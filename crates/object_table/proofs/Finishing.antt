@@ -25,7 +25,7 @@ use Rattle.schedule_core.specs.ByNumber.{shelf_at}
 use Rattle.schedule_core.specs.Plain.{seat_after, on_shelf, blocked_at, Does}
 use Rattle.schedule_core.specs.Tells.{CoreTells, EntriesAreThere, MayTake, MayGive}
 use Rattle.jade_meaning.specs.Plan.{RunPlan}
-use Rattle.object_table.specs.Views.{count_of, word_of, View, core_notes, shelf_of}
+use Rattle.object_table.specs.Views.{count_of, word_of, View, core_notes, shelf_of, gathered}
 use Rattle.object_table.specs.Touches.{held_at, put_held, is_touch, touches_first, touch_next, passed, all_touches}
 use Rattle.object_table.specs.Rule.{hold_of, HeldOk, Agrees, Ruled}
 use Rattle.object_table.specs.Plays.{held_in, handed_by, did, Ahead, left_done}
@@ -34,7 +34,7 @@ use Rattle.object_table.specs.declared.slot.Slot.{Slot}
 use Rattle.object_table.specs.declared.slot.Slot.TheVariants as slot
 use Rattle.object_table.proofs.Lists.{shelf_on, shelf_else, held_here, held_else, at_inside}
 use Rattle.object_table.proofs.Entries.{some_entry}
-use Rattle.object_table.proofs.Goes.{parts0, leaving}
+use Rattle.object_table.proofs.Goes.{SamePurse, parts0, leaving}
 use Rattle.object_table.proofs.Quiet.{on, found, seat_on, quiet, part_else, part_here}
 use Rattle.object_table.proofs.Touching.{and_left, and_right, set_set, passing, passed_same}
 use Rattle.object_table.proofs.Effects.{take_shows, take_mine, take_others, give_shows, give_mine, give_others, enter_shows, enter_mine, enter_others}
@@ -79,6 +79,9 @@ module _ (key : RunPlan) (tells : CoreTells key.program key.numbers key.limit) (
       abbrev w : View
       w = record v { seat = seat_after None v.seat; held = held2; turn = false }
 
+      untouched : SamePurse v w
+      untouched = record { tickets = refl; notes = refl; over = refl }
+
       abbrev ss2 : List ObjectView
       ss2 = on_shelf o g h.shelves
 
@@ -105,11 +108,11 @@ module _ (key : RunPlan) (tells : CoreTells key.program key.numbers key.limit) (
 
       pub on_object : Ruled key (stepped s (word_of o) 0 id carried w gives)
       on_object =
-          leaving n key s h id v at_v w (quiet n key s h id v at_v alive tells e (seat_after None v.seat) ss2 w next does silent refl refl refl refl refl refl
+          leaving n key s h id v at_v w (quiet n key s h id v at_v alive tells e (seat_after None v.seat) ss2 w next does silent refl refl refl refl refl untouched
           far mine) o turn place carried new has refl
-          (part_here n key s h id v at_v alive tells e (seat_after None v.seat) ss2 w next does silent refl refl refl refl refl refl far mine o object new
+          (part_here n key s h id v at_v alive tells e (seat_after None v.seat) ss2 w next does silent refl refl refl refl refl untouched far mine o object new
           (shows ∙ ap (λ y. slot.Object (shelf_of y)) (sym here)))
-          (λ i ne. part_else n key s h id v at_v alive tells e (seat_after None v.seat) ss2 w next does silent refl refl refl refl refl refl far mine i
+          (λ i ne. part_else n key s h id v at_v alive tells e (seat_after None v.seat) ss2 w next does silent refl refl refl refl refl untouched far mine i
           (ap shelf_of (sym (shelf_else o i g h.shelves ne))))
 
     found_is : (y : ShelfView) → v.note ≡ slot.Object y → y ≡ shelf_of x
@@ -121,7 +124,7 @@ module _ (key : RunPlan) (tells : CoreTells key.program key.numbers key.limit) (
         let is : y ≡ shelf_of x = found_is y note in
         let clear : keeper_in v.seat.path m x.queue ≡ None = ap (λ (z : ShelfView). keeper_in v.seat.path m z.queue) (sym is) ∙ free in
         let next' : First (upcoming v.seat.walker) (λ z. z ≡ Take o m) = subst (λ i. First (upcoming v.seat.walker) (λ z. z ≡ Take i m)) same next in
-        let may : MayTake m v.seat.path x.queue = tells.takes h.count (map h.seats h.owners) h.shelves (core_notes h.told) h.reached _ v.seat seat_here o m
+        let may : MayTake m v.seat.path x.queue = tells.takes h.count (map h.seats h.owners) h.shelves (core_notes (gathered h.tally s.views)) h.reached _ v.seat seat_here o m
         next' clear in
         let now : Option Held = held_in m (hand_in v.seat.path m (shelf_of x)) in
         let handed_is : held_in m (handed_by v.seat.path m v.note) ≡ now = ap (λ z. held_in m (handed_by v.seat.path m z)) note_is in
@@ -140,7 +143,7 @@ module _ (key : RunPlan) (tells : CoreTells key.program key.numbers key.limit) (
     event_on (Give q) next (same, y, c, note, has_it, made) =
         let is : y ≡ shelf_of x = found_is y note in
         let next' : First (upcoming v.seat.walker) (λ z. z ≡ Give o) = subst (λ i. First (upcoming v.seat.walker) (λ z. z ≡ Give i)) same next in
-        let may : MayGive v.seat.path x.queue = entries.gives h.count (map h.seats h.owners) h.shelves (core_notes h.told) h.reached _ v.seat seat_here o
+        let may : MayGive v.seat.path x.queue = entries.gives h.count (map h.seats h.owners) h.shelves (core_notes (gathered h.tally s.views)) h.reached _ v.seat seat_here o
         next' in
         let holds : HeldOk v.seat.path x (Some c) = subst (λ k. HeldOk v.seat.path x k) has_it (held.each o) in
         subst (λ i. Ruled key (stepped s (word_of o) 0 id carried (did (Give i) v) gives)) (sym same)
@@ -162,7 +165,7 @@ module _ (key : RunPlan) (tells : CoreTells key.program key.numbers key.limit) (
     event_on (Shift q a) next (same, y, note, made) =
         let is : y ≡ shelf_of x = found_is y note in
         let next' : First (upcoming v.seat.walker) (λ z. z ≡ Shift o a) = subst (λ i. First (upcoming v.seat.walker) (λ z. z ≡ Shift i a)) same next in
-        let may = entries.shifts h.count (map h.seats h.owners) h.shelves (core_notes h.told) h.reached _ v.seat seat_here o a next' in
+        let may = entries.shifts h.count (map h.seats h.owners) h.shelves (core_notes (gathered h.tally s.views)) h.reached _ v.seat seat_here o a next' in
         on_object (Shift o a) (shifted v.seat.path a) refl v.held next' (refl, refl) (λ ns. refl)
         (λ r off kin k b. shift_others v.seat.path x a r off k b)
         (shift_mine v.seat.path x a may.entry may.there (held_at o v.held) (held.each o)) (λ i ne. refl)
@@ -170,11 +173,11 @@ module _ (key : RunPlan) (tells : CoreTells key.program key.numbers key.limit) (
     event_on (Leave q) next (same, y, note, made) =
         let is : y ≡ shelf_of x = found_is y note in
         let next' : First (upcoming v.seat.walker) (λ z. z ≡ Leave o) = subst (λ i. First (upcoming v.seat.walker) (λ z. z ≡ Leave i)) same next in
-        let may = entries.leaves h.count (map h.seats h.owners) h.shelves (core_notes h.told) h.reached _ v.seat seat_here o next' in
+        let may = entries.leaves h.count (map h.seats h.owners) h.shelves (core_notes (gathered h.tally s.views)) h.reached _ v.seat seat_here o next' in
         on_object (Leave o) (left v.seat.path) refl v.held next' (refl, refl) (λ ns. refl)
         (λ r off kin k b. leave_others v.seat.path x r off k b)
         (leave_mine v.seat.path x may.entry may.there may.free
-        (ap hold_of (once.each h.count (map h.seats h.owners) h.shelves (core_notes h.told) h.reached o v.seat.path)) (held_at o v.held) (held.each o))
+        (ap hold_of (once.each h.count (map h.seats h.owners) h.shelves (core_notes (gathered h.tally s.views)) h.reached o v.seat.path)) (held_at o v.held) (held.each o))
         (λ i ne. refl)
         (made ∙ ap (λ z. slot.Object (on_queue (without v.seat.path) z)) is ∙ ap slot.Object (leave_shows v.seat.path x may.entry may.there may.free))
     event_on (Enroll t m) next made = absurd made

@@ -1,7 +1,7 @@
 -- The core goes on under a pass's new view, and the rule is kept: where no word changes, where a turn is taken, and where it is left.
-use Rattle.std.proofs.Common.{◌≡◌, ◌≢◌, ◌⊎◌, inl, inr, ℕ, suc, ◌<◌, true, false, eqb, List, ◌∷◌, ◌++◌}
+use Rattle.std.proofs.Common.{◌≡◌, ◌≢◌, ◌⊎◌, inl, inr, ℕ, suc, ◌+◌, ◌<◌, Bool, true, false, eqb, List, ◌∷◌, ◌++◌}
 use Rattle.std.proofs.Common.{set, map, length, refl, sym, ap, ◌∙◌, subst, arith, eq-eqb, ne_eqb, length-set, get_or-set_same}
-use Rattle.std.specs.Prelude.{slice_index}
+use Rattle.std.specs.Prelude.{slice_index, if◌then◌else◌}
 use mathlib.Core.Logic.{dite}
 use mathlib.Core.Option.{none, some}
 use native.Mathlib.Decide.{ℕ_discrete}
@@ -13,13 +13,16 @@ use Rattle.atomic_table.proofs.Lists.{at_set, set_here, set_else, set_again}
 use Rattle.jade_meaning.specs.Laws.{Every}
 use Rattle.object_shelf.specs.Views.{ObjectView}
 use Rattle.schedule_core.specs.declared.steps.Seat.{Seat}
-use Rattle.task_roll.specs.declared.note.PartNote.{PartNote}
+use Rattle.schedule_core.specs.ByNumber.{shelf_at}
 use Rattle.schedule_core.specs.Plain.{Reached}
 use Rattle.jade_meaning.specs.Plan.{RunPlan}
-use Rattle.object_table.specs.Views.{count_of, word_of, View, part_of, bare, core_notes}
-use Rattle.object_table.specs.Rule.{pass_of, Owned, Sits, TurnOk, PlaceOk, free, taken, SeatOk, Shown, Ruled}
-use Rattle.object_table.specs.Plays.{Told, tried_at, in_turn, tried_there, tried, turned_off, left_as_it_was}
+use Rattle.object_table.specs.Tallies.{TallyView}
+use Rattle.object_table.specs.Views.{count_of, word_of, View, shelf_of, part_of, core_notes, worth, gathered}
+use Rattle.object_table.specs.Rule.{pass_of, Owned, Sits, Accounts, TurnOk, PlaceOk, free, taken, SeatOk, Shown, Ruled}
+use Rattle.object_table.specs.Plays.{Told, ToldRoll, tried_at, in_turn, tried_there, tried, turned_off, left_as_it_was}
 use Rattle.object_table.specs.declared.slot.Slot.{Slot}
+use Rattle.object_table.specs.declared.slot.Slot.TheVariants as slot
+use Rattle.object_table.proofs.Purses.{hand_kept, worths_kept, worth_within}
 use Rattle.object_table.proofs.Lists.{word_else, at_word, put, put_same, put_other, roll_split, at_inside, same_view, owned_set, every_with}
 
 -- places that differ have words that differ
@@ -29,6 +32,15 @@ same_place o p e = omega (arith, e)
 pub apart_words : (p o : ℕ) → p ≢ o → word_of p ≢ word_of o
 apart_words p o ne e = ne (same_place p o e)
 
+-- a pass has the same of what may still come, under another view
+pub record SamePurse (v w : View) : Type 0 where
+  pub tickets : w.tickets ≡ v.tickets
+  pub notes : w.notes ≡ v.notes
+  pub over : w.over ≡ v.over
+
+pub same_worth : (v w : View) → SamePurse v w → worth w ≡ worth v
+same_worth v w p = λ i. p.tickets i + length (p.notes i)
+
 -- a pass's turn is the same under another view
 pub record Still (v w : View) : Type 0 where
   pub turn : w.turn ≡ v.turn
@@ -37,7 +49,7 @@ pub record Still (v w : View) : Type 0 where
 
 module _ (n : ℕ) (key : RunPlan) (s : table.State Slot View) (h : Shown n key s) (id : ℕ) (v : View) (at_v : get_elem? s.views id ≡ some v) where
   abbrev pub parts0 : ℕ → Slot
-  parts0 o = part_of n o (map h.seats h.owners) h.shelves h.told
+  parts0 o = part_of n o h.tally h.shelves
 
   -- seats, objects and notes that events reach, under a new view of this pass
   pub record Goes (w : View) : Type 0 where
@@ -45,8 +57,11 @@ module _ (n : ℕ) (key : RunPlan) (s : table.State Slot View) (h : Shown n key 
     pub owners : List ℕ
     pub seats : ℕ → Seat
     pub shelves : List ObjectView
-    pub told : List PartNote
-    pub reached : Reached key.program key.numbers key.limit count (map seats owners) shelves (core_notes told)
+    pub tally : TallyView
+    pub reached : Reached key.program key.numbers key.limit count (map seats owners) shelves (core_notes (gathered tally (set s.views id w)))
+    pub accounts : Accounts tally (set s.views id w)
+    pub settled : h.tally.due ≡ 0 → tally.due ≡ 0
+    pub own_settled : w.over ≡ true → tally.due ≡ 0
     pub plan : w.live ≡ true → w.key ≡ key
     pub own : Sits owners seats shelves id w
     pub others : (j : ℕ) (z : View) → j ≢ id → get_elem? s.views j ≡ some z → Sits owners seats shelves j z
@@ -55,15 +70,34 @@ module _ (n : ℕ) (key : RunPlan) (s : table.State Slot View) (h : Shown n key 
   abbrev pub mine : SeatOk n s.words h.owners h.seats h.holder h.shelves parts0 key id v
   mine = h.passes id v at_v
 
+  -- where the pass has the same, all notes and all accounts are the same
+  module _ (w : View) (purse : SamePurse v w) where
+    pub same_gathered : gathered h.tally (set s.views id w) ≡ gathered h.tally s.views
+    same_gathered = ap (λ ns. h.tally.notes ++ ns) (hand_kept s.views id v w at_v purse.notes)
+
+    pub same_accounts : Accounts h.tally (set s.views id w)
+    same_accounts = record { due = h.accounts.due ∙ sym (worths_kept s.views id v w at_v (same_worth v w purse)); room = h.accounts.room }
+
+    pub same_settled : w.over ≡ true → h.tally.due ≡ 0
+    same_settled e = h.settled id v at_v (sym purse.over ∙ e)
+
+    pub same_pays : v.turn ≡ true → 0 < worth w
+    same_pays t = subst (λ k. 0 < k) (sym (same_worth v w purse)) (mine.busy t)
+
   -- nothing is done
-  abbrev pub stays : (w : View) → (w.live ≡ true → w.key ≡ key) → w.live ≡ v.live → w.unborn ≡ v.unborn → Sits h.owners h.seats h.shelves id w → Goes w
-  stays w plan l u sits = record {
+  abbrev pub stays : (w : View) → (w.live ≡ true → w.key ≡ key) → w.live ≡ v.live → w.unborn ≡ v.unborn → SamePurse v w
+      → Sits h.owners h.seats h.shelves id w → Goes w
+  stays w plan l u purse sits = record {
     count = h.count;
     owners = h.owners;
     seats = h.seats;
     shelves = h.shelves;
-    told = h.told;
-    reached = h.reached;
+    tally = h.tally;
+    reached = subst (λ ns. Reached key.program key.numbers key.limit h.count (map h.seats h.owners) h.shelves (core_notes ns))
+        (sym (same_gathered w purse)) h.reached;
+    accounts = same_accounts w purse;
+    settled = λ e. e;
+    own_settled = same_settled w purse;
     plan = plan;
     own = sits;
     others = λ j z ne e. (h.passes j z e).sits;
@@ -72,9 +106,16 @@ module _ (n : ℕ) (key : RunPlan) (s : table.State Slot View) (h : Shown n key 
 
   module _ (w : View) (g : Goes w) where
     abbrev pub parts1 : ℕ → Slot
-    parts1 o = part_of n o (map g.seats g.owners) g.shelves g.told
+    parts1 o = part_of n o g.tally g.shelves
 
-    module _ (same : (p : ℕ) → parts0 p ≡ parts1 p) (still : Still v w) (alive : v.live ≡ true → w.live ≡ true) where
+    now_settled : (j : ℕ) (z : View) → get_elem? (set s.views id w) j ≡ some z → z.over ≡ true → g.tally.due ≡ 0
+    now_settled j z e over = go (at_set s.views id j w z e)
+      where
+        go : ((j ≡ id) × (w ≡ z)) ⊎ ((j ≢ id) × (get_elem? s.views j ≡ some z)) → g.tally.due ≡ 0
+        go (inl x) = g.own_settled (ap (λ (y : View). y.over) x.1 ∙ over)
+        go (inr x) = g.settled (h.settled j z x.1 over)
+
+    module _ (same : (p : ℕ) → parts0 p ≡ parts1 p) (still : Still v w) (pays : v.turn ≡ true → 0 < worth w) where
       abbrev after : table.State Slot View
       after = record { words = s.words; homes = s.homes; views = set s.views id w }
 
@@ -99,11 +140,11 @@ module _ (n : ℕ) (key : RunPlan) (s : table.State Slot View) (h : Shown n key 
           go : ((j ≡ id) × (w ≡ z)) ⊎ ((j ≢ id) × (get_elem? s.views j ≡ some z)) → SeatOk n s.words g.owners g.seats h.holder g.shelves parts1 key j z
           go (inl x) =
               subst (λ (q : ℕ × View). SeatOk n s.words g.owners g.seats h.holder g.shelves parts1 key q.0 q.1) (λ i. (sym x.0 i, x.1 i))
-              (record { plan = g.plan; sits = g.own; turn = own_turn; busy = λ e. alive (mine.busy (sym still.turn ∙ e)) })
+              (record { plan = g.plan; sits = g.own; turn = own_turn; busy = λ e. pays (sym still.turn ∙ e) })
           go (inr x) = let q = h.passes j z x.1 in record { plan = q.plan; sits = g.others j z x.0 x.1; turn = λ e. turn_on j z (q.turn e); busy = q.busy }
 
       renewed_place : (p : ℕ) → PlaceOk n s h.holder parts0 p → PlaceOk n after h.holder parts1 p
-      renewed_place p (free y w0 e q) = free y w0 e (q ∙ ap bare (same p))
+      renewed_place p (free y w0 e q) = free y w0 e (q ∙ same p)
       renewed_place p (taken z w1 e t l) = dite (ℕ_discrete (h.holder p) id)
           (λ eq.
           let q : v ≡ z = same_view s.views id (h.holder p) v z at_v e eq in
@@ -118,9 +159,11 @@ module _ (n : ℕ) (key : RunPlan) (s : table.State Slot View) (h : Shown n key 
         owners = g.owners;
         seats = g.seats;
         shelves = g.shelves;
-        told = g.told;
+        tally = g.tally;
         holder = h.holder;
         reached = g.reached;
+        accounts = g.accounts;
+        settled = now_settled;
         wide = h.wide;
         deep = h.deep;
         passes = renewed_seat;
@@ -129,7 +172,7 @@ module _ (n : ℕ) (key : RunPlan) (s : table.State Slot View) (h : Shown n key 
       }
 
     module _ (o : ℕ) (turn : v.turn ≡ true) (place : v.place ≡ o) (carried : List (ℕ × Slot)) (new : Slot) (has : carried
-        ≡ (o, new) ∷ rest carried) (off : w.turn ≡ false) (here : new ≡ bare (parts1 o)) (parts : (p : ℕ) → p ≢ o → parts0 p ≡ parts1 p) where
+        ≡ (o, new) ∷ rest carried) (off : w.turn ≡ false) (here : new ≡ parts1 o) (parts : (p : ℕ) → p ≢ o → parts0 p ≡ parts1 p) where
       abbrev back : table.State Slot View
       back = stepped s (word_of o) 0 id carried w gives
 
@@ -184,7 +227,7 @@ module _ (n : ℕ) (key : RunPlan) (s : table.State Slot View) (h : Shown n key 
           other : p ≢ o → PlaceOk n s h.holder parts0 p → PlaceOk n back h.holder parts1 p
           other ne (free z w0 e q) = free z (word_else s.words (word_of o) (word_of p) 0 (apart_words p o ne) ∙ w0)
               (ap (λ (hs : List _). get_elem? hs p) homes_are
-              ∙ set_else s.homes o p (some new) ne ∙ e) (q ∙ ap bare (parts p ne))
+              ∙ set_else s.homes o p (some new) ne ∙ e) (q ∙ parts p ne)
           other ne (taken z w1 e t l) =
               let apart : h.holder p ≢ id = λ same. absurd (let q : v ≡ z = same_view s.views id (h.holder p) v z at_v e same in
               ne (sym l ∙ sym (ap (λ (k : View). k.place) q) ∙ place)) in
@@ -196,9 +239,11 @@ module _ (n : ℕ) (key : RunPlan) (s : table.State Slot View) (h : Shown n key 
         owners = g.owners;
         seats = g.seats;
         shelves = g.shelves;
-        told = g.told;
+        tally = g.tally;
         holder = h.holder;
         reached = g.reached;
+        accounts = g.accounts;
+        settled = now_settled;
         wide = length-set s.words (word_of o) 0 ∙ h.wide;
         deep = ap length homes_are ∙ length-set s.homes o (some new) ∙ h.deep;
         passes = leaving_seat;
@@ -207,13 +252,16 @@ module _ (n : ℕ) (key : RunPlan) (s : table.State Slot View) (h : Shown n key 
       }
 
   -- a turn is taken
-  module _ (o : ℕ) (room : o < suc n) (idle : v.turn ≡ false) (alive : v.live ≡ true) (y : Slot) (w0 : slice_index s.words (word_of o) ≡ 0) (is : y
+  module _ (o : ℕ) (room : o < suc n) (idle : v.turn ≡ false) (worthy : 0 < worth v) (y : Slot) (w0 : slice_index s.words (word_of o) ≡ 0) (is : y
       ≡ parts0 o) (carried : List (ℕ × Slot)) where
     abbrev having : View
     having = in_turn o y v
 
     abbrev next : table.State Slot View
-    next = stepped s (word_of o) 1 id carried having (takes o (bare y))
+    next = stepped s (word_of o) 1 id carried having (takes o y)
+
+    purse : SamePurse v having
+    purse = record { tickets = refl; notes = refl; over = refl }
 
     taking_seat : (j : ℕ) (z : View) → get_elem? next.views j ≡ some z → SeatOk n next.words h.owners h.seats (put h.holder o id) h.shelves parts0 key j z
     taking_seat j z e = go (at_set s.views id j having z e)
@@ -238,9 +286,9 @@ module _ (n : ℕ) (key : RunPlan) (s : table.State Slot View) (h : Shown n key 
             let wide = h.wide in
             subst (λ (q : ℕ × View). SeatOk n next.words h.owners h.seats (put h.holder o id) h.shelves parts0 key q.0 q.1) (λ i. (sym x.0 i, x.1 i)) (record {
               plan = mine.plan;
-              sits = record { live = k.live; held = k.held; unborn = k.unborn; unheld = k.unheld; over = k.over };
+              sits = record { live = k.live; held = k.held; unborn = k.unborn; unheld = k.unheld; fed = k.fed; feeds = k.feeds };
               turn = λ e. record { inside = room; word = get_or-set_same s.words (word_of o) 1 0 (omega arith); holds = put_same h.holder o id; found = is };
-              busy = λ e. alive;
+              busy = λ e. worthy;
             })
         go (inr x) = let q = h.passes j z x.1 in record { plan = q.plan; sits = q.sits; turn = λ e. old (q.turn e); busy = q.busy }
 
@@ -261,15 +309,22 @@ module _ (n : ℕ) (key : RunPlan) (s : table.State Slot View) (h : Shown n key 
             taken z (word_else s.words (word_of o) (word_of p) 1 (apart_words p o ne) ∙ w1) (subst (λ i. get_elem? next.views i
             ≡ some z) (sym (put_other h.holder o id p ne)) (set_else s.views id (h.holder p) having apart ∙ e)) t l
 
+    settled_at : (j : ℕ) (z : View) → z.over ≡ true → ((j ≡ id) × (having ≡ z)) ⊎ ((j ≢ id) × (get_elem? s.views j ≡ some z)) → h.tally.due ≡ 0
+    settled_at j z over (inl x) = h.settled id v at_v (ap (λ (y : View). y.over) x.1 ∙ over)
+    settled_at j z over (inr x) = h.settled j z x.1 over
+
     pub taking : Shown n key next
     taking = record {
       count = h.count;
       owners = h.owners;
       seats = h.seats;
       shelves = h.shelves;
-      told = h.told;
+      tally = h.tally;
       holder = put h.holder o id;
-      reached = h.reached;
+      reached = subst (λ ns. Reached key.program key.numbers key.limit h.count (map h.seats h.owners) h.shelves (core_notes ns))
+          (sym (same_gathered having purse)) h.reached;
+      accounts = same_accounts having purse;
+      settled = λ j z e over. settled_at j z over (at_set s.views id j having z e);
       wide = length-set s.words (word_of o) 1 ∙ h.wide;
       deep = length-set s.homes o none ∙ h.deep;
       passes = taking_seat;
@@ -278,12 +333,13 @@ module _ (n : ℕ) (key : RunPlan) (s : table.State Slot View) (h : Shown n key 
     }
 
     -- what the pass is told of what it found
-    pub tells : (slots : ℕ) → slots ≡ suc n → Told slots v o y
-    tells slots sized =
+    pub tells : (alive : v.live ≡ true) (slots : ℕ) → slots ≡ suc n → Told slots v o y
+    tells alive slots sized =
         let there = mine.sits.live alive in
         let roll : map h.seats h.owners ≡ map h.seats there.spot.front ++ (v.seat ∷ map h.seats there.spot.back) =
         ap (map h.seats) there.spot.is ∙ roll_split h.seats (pass_of id) there.spot.front there.spot.back
         ∙ ap (λ x. map h.seats there.spot.front ++ (x ∷ map h.seats there.spot.back)) there.is in
+        let all = gathered h.tally s.views in
         record {
           objects = n;
           sized = sized;
@@ -291,13 +347,22 @@ module _ (n : ℕ) (key : RunPlan) (s : table.State Slot View) (h : Shown n key 
           front = map h.seats there.spot.front;
           back = map h.seats there.spot.back;
           shelves = h.shelves;
-          notes = h.told;
+          notes = all;
+          tally = h.tally;
           reached = subst (λ (k : RunPlan). Reached k.program k.numbers k.limit h.count (map h.seats there.spot.front ++ (v.seat ∷ map h.seats there.spot.back))
-              h.shelves (core_notes h.told)) (sym (mine.plan alive))
-              (subst (λ r. Reached key.program key.numbers key.limit h.count r h.shelves (core_notes h.told)) roll h.reached);
+              h.shelves (core_notes all)) (sym (mine.plan alive))
+              (subst (λ r. Reached key.program key.numbers key.limit h.count r h.shelves (core_notes all)) roll h.reached);
           agrees = mine.sits.held alive;
-          shows = is ∙ ap (λ r. part_of n o r h.shelves h.told) roll;
+          shows = is;
         }
+
+    pub tells_roll : o ≡ n → ToldRoll v y
+    tells_roll e = record {
+      tally = h.tally;
+      shows = is ∙ ap (λ c. if c then slot.Roll h.tally else slot.Object (shelf_of (shelf_at h.shelves o))) (eq-eqb o n e);
+      counts = let le = worth_within s.views id v at_v in let due = h.accounts.due in omega (arith, le, due);
+      room = h.accounts.room;
+    }
 
   -- another has the turn
   module _ (o : ℕ) (idle : v.turn ≡ false) (room : o < suc n) (x : ℕ) (is : x ≡ slice_index s.words (word_of o)) (carried : List (ℕ × Slot)) where
@@ -308,36 +373,61 @@ module _ (n : ℕ) (key : RunPlan) (s : table.State Slot View) (h : Shown n key 
     missed =
         let k = mine.sits in
         let wide = h.wide in
-        let g : Goes missing = stays missing mine.plan refl refl (record {
+        let purse : SamePurse v missing = record { tickets = refl; notes = refl; over = refl } in
+        let g : Goes missing = stays missing mine.plan refl refl purse (record {
           live = k.live;
           held = k.held;
           unborn = k.unborn;
           unheld = k.unheld;
-          over =
-              k.over;
+          fed = k.fed;
+          feeds = k.feeds;
         }) in
         let still : Still v missing = record { turn = refl; place = λ e. absurd (let r : false ≡ true = sym idle ∙ e in cc); note = λ e. refl } in
         let same : s.words ≡ set s.words (word_of o) x = sym (set_again s.words (word_of o) x (at_word s.words (word_of o) (omega arith)
         ∙ ap some (sym is))) in
-        subst (λ ws. Shown n key (record { words = ws; homes = s.homes; views = set s.views id missing })) same (renewed missing g (λ p. refl) still (λ e. e))
+        subst (λ ws. Shown n key (record { words = ws; homes = s.homes; views = set s.views id missing })) same (renewed missing g (λ p. refl) still (same_pays missing purse))
 
   -- a turn is left with nothing changed
   module _ (o : ℕ) (turn : v.turn ≡ true) (place : v.place ≡ o) (carried : List (ℕ × Slot)) (new : Slot) (has : carried ≡ (o, new) ∷ rest carried) (same : new
-      ≡ bare v.note) where
+      ≡ v.note) where
     pub desisted : Shown n key (stepped s (word_of o) 0 id carried (turned_off v) gives)
     desisted =
         let k = mine.sits in
         let w = turned_off v in
-        let g : Goes w = stays w mine.plan refl refl (record { live = k.live; held = k.held; unborn = k.unborn; unheld = k.unheld; over = k.over }) in
-        leaving w g o turn place carried new has refl (same ∙ ap bare ((mine.turn turn).found ∙ ap parts0 place)) (λ p ne. refl)
+        let purse : SamePurse v w = record { tickets = refl; notes = refl; over = refl } in
+        let g : Goes w = stays w mine.plan refl refl purse (record {
+          live = k.live;
+          held = k.held;
+          unborn = k.unborn;
+          unheld = k.unheld;
+          fed = k.fed;
+          feeds = k.feeds;
+        }) in
+        leaving w g o turn place carried new has refl (same ∙ (mine.turn turn).found ∙ ap parts0 place) (λ p ne. refl)
 
--- a try at a turn
-pub trying : (key : RunPlan) (slots id o : ℕ) (me : Me Slot View) → o < slots → me.0.turn ≡ false → me.0.live ≡ true
+  -- at a load of the first word nothing changes but the pass's view
+  module _ (w : View) (g : Goes w) (same : (p : ℕ) → parts0 p ≡ part_of n p g.tally g.shelves) (still : Still v w) (pays : v.turn ≡ true → 0 < worth w)
+      (carried : List (ℕ × Slot)) where
+    pub loaded : Shown n key (stepped s 0 (slice_index s.words 0) id carried w keeps)
+    loaded =
+        let wide = h.wide in
+        let first : s.words ≡ set s.words 0 (slice_index s.words 0) = sym (set_again s.words 0 (slice_index s.words 0) (at_word s.words 0 (omega arith))) in
+        subst (λ ws. Shown n key (record { words = ws; homes = s.homes; views = set s.views id w })) first (renewed w g same still pays)
+
+-- a try at a turn, by a pass whose task is live, or which has something to hand in
+pub trying : (key : RunPlan) (slots id o : ℕ) (me : Me Slot View) → o < slots → me.0.turn ≡ false → (me.0.live ≡ false → 0 < worth me.0)
     → Allows (Ruled key) slots id me (word_of o) (λ x. either (eqb x 0) 1 x) (tried (step slots (word_of o) 0 1 none) me)
-trying key slots id o me fits idle alive s h long at _ = go (h.places o room)
+trying key slots id o me fits idle ready s h long at _ = go (h.places o room)
   where
     room : o < suc (count_of key)
     room = let deep = h.deep in omega arith
+
+    worthy : 0 < worth me.0
+    worthy = by_live me.0.live refl
+      where
+        by_live : (b : Bool) → me.0.live ≡ b → 0 < worth me.0
+        by_live true e = let some = (h.passes id me.0 at).sits.fed e in omega (arith, some)
+        by_live false e = ready e
 
     x : ℕ
     x = slice_index s.words (word_of o)
@@ -346,18 +436,25 @@ trying key slots id o me fits idle alive s h long at _ = go (h.places o room)
     at_place : (m : Me Slot View) → tried_there slots o me x m → tried (step slots (word_of o) 0 1 none) me x m
     at_place m told p e = subst (λ q. tried_there slots q me x m) (same_place o p e) told
 
-    go : PlaceOk (count_of key) s h.holder (λ p. part_of (count_of key) p (map h.seats h.owners) h.shelves h.told) o → (w : View) × (a : table.Act Slot)
+    go : PlaceOk (count_of key) s h.holder (λ p. part_of (count_of key) p h.tally h.shelves) o → (w : View) × (a : table.Act Slot)
         × table.Valid s.homes me.1 a × Ruled key (stepped s (word_of o) (either (eqb x 0) 1 x) id me.1 w a)
         × tried (step slots (word_of o) 0 1 none) me x (w, table.carried_after me.1 a)
     go (free z w0 home is) =
-        let y = part_of (count_of key) o (map h.seats h.owners) h.shelves h.told in (
+        let n = count_of key in
+        let y = part_of n o h.tally h.shelves in
+        let deep : slots ≡ suc n = sym long ∙ h.deep in (
           in_turn o y me.0,
-          takes o (bare y),
+          takes o y,
           subst (λ k. get_elem? s.homes o ≡ some (some k)) is home,
-          subst (λ k. Ruled key (stepped s (word_of o) k id me.1 (in_turn o y me.0) (takes o (bare y)))) (sym (ap (λ b. either b 1 x) (eq-eqb x 0 w0)))
-              (taking (count_of key) key s h id me.0 at o room idle alive y w0 refl me.1),
-          at_place (in_turn o y me.0, (o, bare y) ∷ me.1) (
-            (λ e. (y, refl, λ l. tells (count_of key) key s h id me.0 at o room idle alive y w0 refl me.1 slots (sym long ∙ h.deep))),
+          subst (λ k. Ruled key (stepped s (word_of o) k id me.1 (in_turn o y me.0) (takes o y))) (sym (ap (λ b. either b 1 x) (eq-eqb x 0 w0)))
+              (taking n key s h id me.0 at o room idle worthy y w0 refl me.1),
+          at_place (in_turn o y me.0, (o, y) ∷ me.1) (
+            (λ e. (
+              y,
+              refl,
+              (λ l. tells n key s h id me.0 at o room idle worthy y w0 refl me.1 l slots deep),
+              λ last. tells_roll n key s h id me.0 at o room idle worthy y w0 refl me.1 (omega (arith, last, deep)),
+            )),
             λ ne. absurd (ne w0),
           ),
         )
@@ -372,6 +469,6 @@ trying key slots id o me fits idle alive s h long at _ = go (h.places o room)
 
 -- a turn left with nothing changed
 pub desisting : (key : RunPlan) (slots id o : ℕ) (me : Me Slot View) (new : Slot) → me.0.turn ≡ true → me.0.place ≡ o → me.1 ≡ (o, new) ∷ rest me.1 → new
-    ≡ bare me.0.note → Allows (Ruled key) slots id me (word_of o) (λ x. 0) (λ x. left_as_it_was (step slots (word_of o) 0 0 none) me 0)
+    ≡ me.0.note → Allows (Ruled key) slots id me (word_of o) (λ x. 0) (λ x. left_as_it_was (step slots (word_of o) 0 0 none) me 0)
 desisting key slots id o me new turn place has same s h _ at _ =
     (turned_off me.0, gives, tt, desisted (count_of key) key s h id me.0 at o turn place me.1 new has same, refl)

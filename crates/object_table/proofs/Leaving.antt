@@ -1,41 +1,34 @@
 -- A turn that has begun is left with an event done, or with nothing done.
-use Rattle.std.proofs.Common.{◌≡◌, ℕ, suc, ◌+◌, ◌%◌, ◌^◌, ◌<◌, true, false, [], ◌∷◌, ◌++◌, List, length, refl, sym, ap, ◌∙◌, subst, Option, Some, None}
+use Rattle.std.proofs.Common.{◌≡◌, ℕ, suc, ◌+◌, ◌%◌, ◌^◌, ◌<◌, true, false, [], ◌∷◌, ◌++◌, List, refl, sym, ap, ◌∙◌, subst, Option, Some, None}
 use mathlib.Core.Option.{none}
 use Rattle.std.specs.Prelude.{Result, Ok, Err, IfOk, IfErr, slice_get}
 use Rattle.atomic_table.specs.Table.{Me, step, rest}
 use Rattle.atomic_table.specs.Lent.{seat_with}
 use Rattle.atomic_table.specs.declared.shared.Seat.{Seat}
 use Rattle.jade_base.specs.Held.{Held}
-use Rattle.jade_base.specs.declared.report.Blame.{Blame}
 use Rattle.jade_base.specs.declared.rights.Mode.{Mode}
 use Rattle.jade_base.specs.declared.rights.Rights.{Rights}
 use Rattle.jade_syntax.specs.Objects.{sizes}
 use Rattle.object_shelf.specs.declared.queue.Entry.{Entry}
 use Rattle.object_shelf.specs.Shelves.{keeper_in, at, without, entered_in, with_rights}
 use Rattle.object_shelf.specs.Homes.{hand_in, handed, returned, on_queue}
-use Rattle.jade_meaning.specs.Talk.{Task as TaskOf, Event, Enter, Enroll, Take, TouchRead, TouchWrite, Wants, Give, Leave, Shift, Resign}
+use Rattle.jade_meaning.specs.Talk.{Event, Enter, Enroll, Take, TouchRead, TouchWrite, Wants, Give, Leave, Shift, Resign}
 use Rattle.jade_meaning.specs.Plan.{RunPlan}
 use Rattle.object_shelf.specs.Views.{ShelfView}
-use Rattle.task_roll.specs.Rolls.{RollView}
-use Rattle.schedule_core.specs.declared.steps.Seat.{Seat as Place}
-use Rattle.schedule_core.specs.Plain.{seat_after, Born}
-use Rattle.object_table.specs.Tallies.{counted, one_more, one_fewer}
-use Rattle.object_table.specs.Views.{count_of, View, bare}
+use Rattle.schedule_core.specs.Plain.{seat_after}
+use Rattle.object_table.specs.Views.{count_of, View}
 use Rattle.object_table.specs.Touches.{is_touch, held_at, put_held}
-use Rattle.object_table.specs.Plays.{tried_at, bore, gone, did, is_deserted, left_as_it_was, held_in, left_done, left_enrolled}
-use Rattle.object_table.specs.Plays.{left_resigned}
-use Rattle.object_table.specs.Calls.{Next, saw, Took, KeptBy, IsBusy, Bore, Ended}
-use Rattle.object_table.specs.steps.Kept.{Rests, InTurn, Leaves, Laws, Made, shown, IsObject, IsRoll}
-use Rattle.object_table.specs.steps.Leaving.{Begun, Ending, held_after, EndsWith, Desisted, Birth, Departure}
+use Rattle.object_table.specs.Plays.{tried_at, did, left_as_it_was, held_in, left_done}
+use Rattle.object_table.specs.Calls.{Next, saw, Took, KeptBy, IsBusy}
+use Rattle.object_table.specs.steps.Kept.{Rests, GotTurn, Leaves, Laws, Made, shown, IsObject}
+use Rattle.object_table.specs.steps.Leaving.{Begun, Ending, held_after, EndsWith, Desisted}
 use Rattle.object_table.specs.declared.task.Task.{Task}
 use Rattle.object_table.specs.declared.slot.Slot.{Slot}
 use Rattle.object_table.specs.declared.slot.Slot.TheVariants as slot
 use Rattle.object_table.proofs.Calls.{on_try, object_there, path_is, children_is, tries_same, told_sized, tried_rests, busy_is, busy_shown}
-use Rattle.object_table.proofs.Calls.{off_is, off_shown, off_before, spare_is}
+use Rattle.object_table.proofs.Calls.{off_is, off_shown, off_before, alive_is}
 use Rattle.object_table.proofs.Calls.{may_finish, may_desist, finished, done_rests, done_shown, did_shown}
 use Rattle.object_table.proofs.Touching.{passed_same}
-use Rattle.object_table.proofs.RollCalls.{roll_there, some_live, may_enroll, enrolled_is, enrolled_rests, enrolled_shown}
-use Rattle.object_table.proofs.RollCalls.{may_resign, resigned_is, resigned_rests, resigned_shown}
 
 -- one event more is done, and no touch since
 abbrev pub OneMore : (before after : Task) → Type 0
@@ -84,11 +77,11 @@ module _ {A : Type 0} (t : Task) (r : Rests t) (seat : Seat Slot View) (o : ℕ)
       (λ n h. record { word = h.0; after = busy_shown t r seat o h.1 }) result busy
 
 -- the turn was had
-pub begun_as : (slots o : ℕ) (t : Task) → Rests t → (seat : Seat Slot View) (result : Result (Unit {0}) ℕ)
-    → IfOk result (λ _. (y : Slot) × InTurn slots o y (bare y) t.seat.me seat.me)
-    → IfOk result (λ _. (y : Slot) × Begun slots o y (bare y) t (record t { seat = seat }))
-begun_as slots o t r seat (Ok x) h = (h.0, record { rests = r; turn = h.1; same = refl })
-begun_as slots o t r seat (Err e) h = tt
+pub begun_as : (slots o : ℕ) (t : Task) → Rests t → (shown t).live ≡ true → (seat : Seat Slot View) (result : Result (Unit {0}) ℕ)
+    → IfOk result (λ _. (y : Slot) × GotTurn slots o y t.seat.me seat.me)
+    → IfOk result (λ _. (y : Slot) × Begun slots o y y t (record t { seat = seat }))
+begun_as slots o t r live seat (Ok x) h = (h.0, record { rests = r; turn = record { me = h.1.me; told = h.1.told (alive_is t r live) }; same = refl })
+begun_as slots o t r live seat (Err e) h = tt
 
 abbrev first_of : Slot → List (ℕ × Slot) → Slot
 first_of y [] = y
@@ -97,12 +90,15 @@ first_of y (x ∷ xs) = x.1
 -- a turn has begun
 module _ {slots o : ℕ} {y x : Slot} {t now : Task} (b : Begun slots o y x t now) where
   pub same_fields : (now.path ≡ t.path) × (now.children ≡ t.children) × (now.over ≡ t.over) × (now.events ≡ t.events) × (now.spare ≡ t.spare)
+      × (now.tickets ≡ t.tickets) × (now.notes ≡ t.notes)
   same_fields = (
     ap (λ (z : Task). z.path) b.same,
     ap (λ (z : Task). z.children) b.same,
     ap (λ (z : Task). z.over) b.same,
     ap (λ (z : Task). z.events) b.same,
     ap (λ (z : Task). z.spare) b.same,
+    ap (λ (z : Task). z.tickets) b.same,
+    ap (λ (z : Task). z.notes) b.same,
   )
 
   -- what lies in the slot is lent, and is changed
@@ -123,37 +119,24 @@ module _ {slots o : ℕ} {y x : Slot} {t now : Task} (b : Begun slots o y x t no
   path_now = ap (λ (z : Task). z.path) b.same ∙ path_is t b.rests
 
 -- with what was found there it is left with nothing done
-module _ (slots o : ℕ) (y : Slot) (t now : Task) (b : Begun slots o y (bare y) t now) where
+module _ (slots o : ℕ) (y : Slot) (t now : Task) (b : Begun slots o y y t now) where
   -- an object's slot has all that it shows, and the roll's has its tally
   pub object_begun : (key : RunPlan) → slots ≡ suc (count_of key) → o < count_of key
       → (z : ShelfView) × Begun slots o (slot.Object z) (slot.Object z) t now
   object_begun key deep lt = go y (object_there slots t.seat.me.0 o y key deep lt b.turn.told) b
     where
-      go : (q : Slot) → IsObject q → Begun slots o q (bare q) t now → (z : ShelfView) × Begun slots o (slot.Object z) (slot.Object z) t now
+      go : (q : Slot) → IsObject q → Begun slots o q q t now → (z : ShelfView) × Begun slots o (slot.Object z) (slot.Object z) t now
       go slot.Away i c = absurd i
       go (slot.Object z) i c = (z, c)
       go (slot.Roll r) i c = absurd i
 
-  pub roll_begun : (key : RunPlan) → slots ≡ suc (count_of key) → o ≡ count_of key
-      → (r : RollView) × Begun slots o (slot.Roll r) (slot.Roll (counted r)) t now
-  roll_begun key deep place = go y (roll_there slots t.seat.me.0 o y key deep place b.turn.told) b
-    where
-      go : (q : Slot) → IsRoll q → Begun slots o q (bare q) t now → (r : RollView) × Begun slots o (slot.Roll r) (slot.Roll (counted r)) t now
-      go slot.Away i c = absurd i
-      go (slot.Object z) i c = absurd i
-      go (slot.Roll r) i c = (r, c)
-
-  -- what is lent of an object, and of the roll
+  -- what is lent of an object
   pub object_lent : (key : RunPlan) → slots ≡ suc (count_of key) → o < count_of key → (w : Slot) → now.seat.me.1 ≡ (o, w) ∷ rest now.seat.me.1
       → (z : ShelfView) × Begun slots o (slot.Object z) (slot.Object z) t now × (w ≡ slot.Object z)
   object_lent key deep lt w e = let g = object_begun key deep lt in (g.0, g.1, lent_is g.1 w e)
 
-  pub roll_lent : (key : RunPlan) → slots ≡ suc (count_of key) → o ≡ count_of key → (w : Slot) → now.seat.me.1 ≡ (o, w) ∷ rest now.seat.me.1
-      → (r : RollView) × Begun slots o (slot.Roll r) (slot.Roll (counted r)) t now × (w ≡ slot.Roll (counted r))
-  roll_lent key deep place w e = let g = roll_begun key deep place in (g.0, g.1, lent_is g.1 w e)
-
   pub may_leave : (key : RunPlan) → Leaves left_as_it_was key slots now.seat.id now.seat.me o
-  may_leave key = may_desist t b.rests slots now.seat o y (bare y) b.turn key refl
+  may_leave key = may_desist t b.rests slots now.seat o y y b.turn key refl
 
   module _ (seat : Seat Slot View) (left : left_as_it_was (step slots o 0 0 none) now.seat.me 0 seat.me) where
     after_is : (P : Task → Type 0) → P (record t { seat = seat }) → P (record now { seat = seat })
@@ -161,12 +144,12 @@ module _ (slots o : ℕ) (y : Slot) (t now : Task) (b : Begun slots o y (bare y)
 
     pub desisted_rests : Rests (record now { seat = seat })
     desisted_rests =
-        after_is Rests (tried_rests t b.rests seat (suc t.seat.me.0.tries) o 0 y (off_is t b.rests now.seat seat slots o y (bare y) b.turn left))
+        after_is Rests (tried_rests t b.rests seat (suc t.seat.me.0.tries) o 0 y (off_is t b.rests now.seat seat slots o y y b.turn left))
 
     pub desisted : Desisted o y t (record now { seat = seat })
     desisted = after_is (Desisted o y t) (record {
-      unchanged = off_before t b.rests now.seat seat slots o y (bare y) b.turn left;
-      seen = off_shown t b.rests now.seat seat slots o y (bare y) b.turn left;
+      unchanged = off_before t b.rests now.seat seat slots o y y b.turn left;
+      seen = off_shown t b.rests now.seat seat slots o y y b.turn left;
     })
 
 -- what each event on an object makes of it
@@ -249,28 +232,6 @@ module _ {key : RunPlan} {slots o : ℕ} {t now : Task} {z : ShelfView} {w : Slo
     );
   }
 
--- the roll's slot, with what was found there
-pub as_lay : {slots o : ℕ} {t now : Task} {r : RollView} {w : Slot} → Begun slots o (slot.Roll r) (slot.Roll (counted r)) t now → w ≡ slot.Roll (counted r)
-    → Begun slots o (slot.Roll r) (slot.Roll (counted r)) t (record now { seat = seat_with now.seat o w })
-as_lay {slots} {o} {t} {now} {r} {w} b same =
-    subst (λ q. Begun slots o (slot.Roll r) q t (record now { seat = seat_with now.seat o w })) same (placed b w)
-
--- what a creation makes of the roll
-module _ {key : RunPlan} {slots o : ℕ} {t now : Task} {r : RollView} {w : Slot} (b : Begun slots o (slot.Roll r) (slot.Roll (counted r)) t now) where
-  abbrev pub roll_grows : o ≡ count_of key → {child : TaskOf} {steps : ℕ} → Next (Enroll child steps) (shown t) → {path : List ℕ} → path ≡ t.path
-      → w ≡ slot.Roll (one_more (record { path = path; children = now.children; steps = steps; blame = None }) (counted r))
-      → Birth key slots o (record now { seat = seat_with now.seat o w })
-  roll_grows place {child} {steps} next {path} is made = record {
-    before = t;
-    roll = r;
-    child = child;
-    steps = steps;
-    begun = subst (λ q. Begun slots o (slot.Roll r) q t (record now { seat = seat_with now.seat o w }))
-        (made ∙ λ i. slot.Roll (one_more (record { path = is i; children = (same_fields b).1 i; steps = steps; blame = None }) (counted r))) (placed b w);
-    place = place;
-    next = next;
-  }
-
 -- what a Take answers
 module _ {slots o : ℕ} {t now : Task} {z : ShelfView} (b : Begun slots o (slot.Object z) (slot.Object z) t now) where
   pub took : {m : Mode} {c : Held} {v : View} → keeper_in now.path m z.queue ≡ None → hand_in now.path m z ≡ Some c.cells → c.mode ≡ m
@@ -324,7 +285,7 @@ module _ (key : RunPlan) (laws : Laws key) (slots o : ℕ) (now : Task) (d : End
 
   module _ (t3 : Task) (seat : Seat Slot View) (sits : t3.seat ≡ seat) (left : left_done (step slots o 0 0 none) now.seat.me 0 seat.me)
       (fields : (t3.path ≡ now.path) × (t3.children ≡ now.children) × (t3.over ≡ now.over)) (spare : t3.spare ≡ now.spare)
-      (counts : OneMore now t3) where
+      (purse : (t3.tickets ≡ now.tickets) × (t3.notes ≡ now.notes)) (counts : OneMore now t3) where
     abbrev held : List (Option Held)
     held = held_after d.event d.value (shown t).seat.path (shown t).held
 
@@ -339,104 +300,9 @@ module _ (key : RunPlan) (laws : Laws key) (slots o : ℕ) (now : Task) (d : End
     pub ended_rests : Rests t3
     ended_rests =
         let s = same_fields d.begun in
-        done_rests t r t3 w me (fields.0 ∙ s.0, fields.1 ∙ s.1, fields.2 ∙ s.2, spare ∙ s.4) d.next.live
+        done_rests t r t3 w me (fields.0 ∙ s.0, fields.1 ∙ s.1, fields.2 ∙ s.2, spare ∙ s.4) (purse.0 ∙ s.5, purse.1 ∙ s.6) (refl, refl) d.next.live
         (counts.0, counts.1 ∙ ap (λ n. (n + 1) % 2 ^ 64) s.3) refl refl refl refl refl
         d.next.born
 
     pub ended : EndsWith o d.event d.value (shown t) (shown t3)
     ended z is = done_shown t r t3 w me counts.0 ∙ did_shown t r o z d.value held is
-
--- it is left with a creation done
-module _ (key : RunPlan) (laws : Laws key) (slots o : ℕ) (now : Task) (b : Birth key slots o now) where
-  abbrev mother : Task
-  mother = b.before
-
-  abbrev rests_before : Rests mother
-  rests_before = b.begun.rests
-
-  abbrev grown : Slot
-  grown = slot.Roll (one_more (record { path = mother.path; children = mother.children; steps = b.steps; blame = None }) (counted b.roll))
-
-  pub may_bear : Leaves left_enrolled key slots now.seat.id now.seat.me o
-  may_bear = may_enroll mother rests_before key laws slots now.seat o b.place (slot.Roll b.roll) grown b.begun.turn b.roll refl b.child b.steps b.next refl
-
-  module _ (t3 : Task) (seat : Seat Slot View) (sits : t3.seat ≡ seat) (left : left_enrolled (step slots o 0 0 none) now.seat.me 0 seat.me)
-      (counts : OneMore now t3) where
-    is : (kid : Place) × Born (shown mother).seat kid t3.seat.me.0.seat
-        × (t3.seat.me ≡ (bore kid (on_try true (suc mother.seat.me.0.tries) o 0 (slot.Roll b.roll) (shown mother)), []))
-    is = enrolled_is mother rests_before key laws slots now.seat o b.place (slot.Roll b.roll) grown b.begun.turn b.roll refl b.child b.steps b.next t3.seat.me
-        (subst (λ (s : Seat Slot View). left_enrolled (step slots o 0 0 none) now.seat.me 0 s.me) (sym sits) left)
-
-    counts_on : OneMore mother t3
-    counts_on = (counts.0, counts.1 ∙ ap (λ n. (n + 1) % 2 ^ 64) (same_fields b.begun).3)
-
-    pub born_rests : t3.path ≡ now.path → t3.spare ≡ now.spare → t3.children ≡ now.children + 1 → t3.over ≡ now.over → Rests t3
-    born_rests path spare children over =
-        let s = same_fields b.begun in
-        enrolled_rests mother rests_before key laws slots now.seat o b.place (slot.Roll b.roll) grown b.begun.turn b.roll refl b.child b.steps b.next t3 is.0
-        is.1 is.2 counts_on (path ∙ s.0) (spare ∙ s.4) (children ∙ ap (λ n. n + 1) s.1) (over ∙ s.2)
-
-    pub born : Bore o (shown mother) (shown t3)
-    born =
-        enrolled_shown mother rests_before key laws slots now.seat o b.place (slot.Roll b.roll) grown b.begun.turn b.roll refl b.child b.steps b.next t3 is.0
-        is.1 is.2 counts_on
-
-some_path : (p q : List ℕ) → ◌≡◌ {A = Option (List ℕ)} (Some p) (Some q) → p ≡ q
-some_path p q e = cc
-
--- it is left with the task's end done
-module _ (key : RunPlan) (laws : Laws key) (slots o : ℕ) (now : Task) (blame : Option Blame) (steps : ℕ) (p : Departure key slots o now blame steps) where
-  abbrev last : Task
-  last = p.before
-
-  abbrev rests : Rests last
-  rests = p.begun.rests
-
-  -- the path for its note is there, and a task is live
-  pub has_spare : now.spare ≡ Some now.path
-  has_spare = let s = same_fields p.begun in spare_is last rests now p.next.live s.0 s.4
-
-  pub one_live : 0 < length (counted p.roll).live
-  one_live = some_live slots last.seat.me.0 o p.roll p.begun.turn.told
-
-  module _ (path : List ℕ) (kept : now.spare ≡ Some path) (w : Slot) (made : w ≡ slot.Roll (one_fewer (record {
-    path = path;
-    children = now.children;
-    steps = steps;
-    blame = blame;
-  }) (counted p.roll))) where
-    abbrev there_now : Seat Slot View
-    there_now = seat_with now.seat o w
-
-    turn_now : InTurn slots o (slot.Roll p.roll) w last.seat.me there_now.me
-    turn_now = (placed p.begun w).turn
-
-    made_roll : w ≡ slot.Roll (one_fewer (record { path = last.path; children = last.children; steps = steps; blame = blame }) (counted p.roll))
-    made_roll =
-        let s = same_fields p.begun in
-        let is : path ≡ last.path = some_path path now.path (sym kept ∙ has_spare) ∙ s.0 in
-        made ∙ λ i. slot.Roll (one_fewer (record { path = is i; children = s.1 i; steps = steps; blame = blame }) (counted p.roll))
-
-    pub may_depart : Leaves left_resigned key slots now.seat.id there_now.me o
-    may_depart = may_resign last rests key laws slots there_now o p.place (slot.Roll p.roll) w turn_now p.roll refl blame steps p.next made_roll
-
-    module _ (t3 : Task) (seat : Seat Slot View) (sits : t3.seat ≡ seat) (left : left_resigned (step slots o 0 0 none) there_now.me 0 seat.me)
-        (counts : OneMore now t3) (over : t3.over ≡ is_deserted w) where
-      left_is : t3.seat.me ≡ (gone t3.over (on_try true (suc last.seat.me.0.tries) o 0 (slot.Roll p.roll) (shown last)), [])
-      left_is = resigned_is last rests key laws slots there_now o p.place (slot.Roll p.roll) w turn_now p.roll refl blame steps p.next t3.seat.me
-          (subst (λ (s : Seat Slot View). left_resigned (step slots o 0 0 none) there_now.me 0 s.me) (sym sits) left)
-          ∙ ap (λ l. (gone l (on_try true (suc last.seat.me.0.tries) o 0 (slot.Roll p.roll) (shown last)), [])) (sym over)
-
-      counted_last : OneMore last t3
-      counted_last = (counts.0, counts.1 ∙ ap (λ n. (n + 1) % 2 ^ 64) (same_fields p.begun).3)
-
-      pub departed_rests : t3.path ≡ now.path → t3.children ≡ now.children → Rests t3
-      departed_rests path children =
-          let s = same_fields p.begun in
-          resigned_rests last rests key laws slots there_now o p.place (slot.Roll p.roll) w turn_now p.roll refl blame steps p.next t3 t3.over left_is
-          counted_last (path ∙ s.0) (children ∙ s.1) refl
-
-      pub departed : Ended o blame steps (shown last) (shown t3)
-      departed =
-          resigned_shown last rests key laws slots there_now o p.place (slot.Roll p.roll) w turn_now p.roll refl blame steps p.next t3 t3.over left_is
-          counted_last (over ∙ ap is_deserted made_roll)

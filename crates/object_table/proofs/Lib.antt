@@ -1,4 +1,7 @@
 pub mod Lists
+pub mod Bags
+pub mod Purses
+pub mod FewNotes
 pub mod Entries
 pub mod Goes
 pub mod Quiet
@@ -12,7 +15,9 @@ pub mod Passing
 pub mod Bearing
 pub mod Owners
 pub mod Enrolling
+pub mod Noting
 pub mod Resigning
+pub mod AtRoll
 pub mod Splitting
 pub mod Joining
 pub mod RollCalls

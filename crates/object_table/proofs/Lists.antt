@@ -16,7 +16,7 @@ use Rattle.object_shelf.specs.Views.{ObjectView}
 use Rattle.schedule_core.specs.declared.steps.Seat.{Seat}
 use Rattle.schedule_core.specs.ByNumber.{shelf_at}
 use Rattle.schedule_core.specs.Plain.{on_shelf}
-use Rattle.object_table.specs.Views.{View, paths_of}
+use Rattle.object_table.specs.Views.{View}
 use Rattle.object_table.specs.Touches.{held_at, put_held}
 use Rattle.object_table.specs.Rule.{pass_of, kid_of, Absent, Spot, Owned, by_pass, by_maker}
 
@@ -89,10 +89,6 @@ roll_put f x s owners spot =
     ∙ ap (λ a. a ++ (put_seat f x s x ∷ map (put_seat f x s) spot.back)) (map_absent f x s spot.front spot.before)
     ∙ ap (λ a. map f spot.front ++ (a ∷ map (put_seat f x s) spot.back)) (seat_here f x s)
     ∙ ap (λ a. map f spot.front ++ (s ∷ a)) (map_absent f x s spot.back spot.after)
-
-pub paths_same : (f b : List Seat) (s t : Seat) → s.path ≡ t.path → paths_of (f ++ (s ∷ b)) ≡ paths_of (f ++ (t ∷ b))
-paths_same [] b s t e = ap (λ p. p ∷ paths_of b) e
-paths_same (x ∷ f) b s t e = ap (λ ps. x.path ∷ ps) (paths_same f b s t e)
 
 -- where an owner stands
 pub get_owner : (f : ℕ → Seat) (front : List ℕ) (x : ℕ) (back : List ℕ) → slice_get (map f (front ++ (x ∷ back))) (length front) ≡ Some (f x)

@@ -1,20 +1,15 @@
 -- Owners where the roll grows and shrinks, and the paths of seats on it.
-use Rattle.std.proofs.Common.{◌≡◌, ◌≢◌, ℕ, Bool, true, false, ◌||◌, List, [], ◌∷◌, ◌++◌, map, set, length, refl, sym, ap, ◌∙◌}
+use Rattle.std.proofs.Common.{◌≡◌, ◌≢◌, ℕ, List, [], ◌∷◌, ◌++◌, map, set, refl, sym, ap, ◌∙◌}
 use Rattle.std.proofs.Common.{subst, arith, Option, Some, None}
-use Rattle.std.specs.Prelude.{replicate, if◌then◌else◌}
 use mathlib.Core.Logic.{dite}
 use mathlib.Core.Option.{some}
 use native.Mathlib.Decide.{ℕ_discrete}
 use lib.ListN.{get_elem?}
 use Rattle.atomic_table.proofs.Lists.{set_here, set_else}
-use Rattle.jade_base.specs.Places.{same_path}
 use Rattle.schedule_core.specs.declared.steps.Seat.{Seat}
-use Rattle.task_roll.specs.Order.{without, is_among}
-use Rattle.object_table.specs.Tallies.{but_first}
-use Rattle.object_table.specs.Views.{View, paths_of}
-use Rattle.object_table.specs.Plays.{nobody}
+use Rattle.object_table.specs.Views.{View}
 use Rattle.object_table.specs.Rule.{pass_of, kid_of, Absent, Spot, Owned, by_pass, by_maker}
-use Rattle.object_table.proofs.Lists.{at_inside, same_view, path_same}
+use Rattle.object_table.proofs.Lists.{at_inside, same_view}
 
 cons_same : {x y : ℕ} {xs ys : List ℕ} → x ∷ xs ≡ y ∷ ys → (x ≡ y) × (xs ≡ ys)
 cons_same {x} {y} {xs} {ys} e = (ap (first x) e, ap rest e)
@@ -70,10 +65,6 @@ less_at (z ∷ a) b (w ∷ front) back k y ne e f g =
 pub spot_less : (a b : List ℕ) (k y : ℕ) → k ≢ y → Spot (a ++ (k ∷ b)) y → Spot (a ++ b) y
 spot_less a b k y ne s = less_at a b s.front s.back k y ne s.is s.before s.after
 
-pub not_empty : (owners front back : List ℕ) (x : ℕ) → owners ≡ front ++ (x ∷ back) → owners ≡ [] → ⊥
-not_empty owners [] back x e n = absurd (let r : ◌≡◌ {A = List ℕ} [] (x ∷ back) = sym n ∙ e in cc)
-not_empty owners (y ∷ front) back x e n = absurd (let r : ◌≡◌ {A = List ℕ} [] (y ∷ (front ++ (x ∷ back))) = sym n ∙ e in cc)
-
 pub map_both : (f : ℕ → Seat) (a b : List ℕ) → map f (a ++ b) ≡ map f a ++ map f b
 map_both f [] b = refl
 map_both f (x ∷ a) b = ap (λ ts. f x ∷ ts) (map_both f a b)
@@ -105,48 +96,3 @@ module _ (views : List View) (id x : ℕ) (v w : View) (at : get_elem? views id 
   owned_gone ne (by_maker j z kid e unborn is) = dite (ℕ_discrete j id)
       (λ same. absurd (none_some kid (sym born ∙ ap (λ (k : View). k.unborn) (same_view views id j v z at e same) ∙ unborn)))
       (λ other. by_maker j z kid (set_else views id j w other ∙ e) unborn is)
-
--- an empty path for each seat on the roll
-abbrev pub blanks : List Seat → List (List ℕ)
-blanks ss = replicate (length (paths_of ss)) []
-
--- one seat more is one path more
-pub blanks_more : (f b : List Seat) (kid u s : Seat) → blanks (f ++ (kid ∷ (u ∷ b))) ≡ [] ∷ blanks (f ++ (s ∷ b))
-blanks_more [] b kid u s = refl
-blanks_more (x ∷ f) b kid u s = ap (λ ps. [] ∷ ps) (blanks_more f b kid u s)
-
-one_blank : (f b : List Seat) (s : Seat) → blanks (f ++ (s ∷ b)) ≡ [] ∷ blanks (f ++ b)
-one_blank [] b s = refl
-one_blank (x ∷ f) b s = ap (λ ps. [] ∷ ps) (one_blank f b s)
-
--- and one fewer is one fewer
-pub blanks_fewer : (f b : List Seat) (s : Seat) → but_first (blanks (f ++ (s ∷ b))) ≡ blanks (f ++ b)
-blanks_fewer f b s = ap but_first (one_blank f b s)
-
--- a seat on the roll has its path there
-pub among_seats : (f b : List Seat) (s : Seat) → is_among s.path (paths_of (f ++ (s ∷ b))) ≡ true
-among_seats [] b s = ap (λ c. c || is_among s.path (paths_of b)) (path_same s.path)
-among_seats (x ∷ f) b s = or_later (same_path s.path x.path) (among_seats f b s)
-  where
-    or_later : (c : Bool) {d : Bool} → d ≡ true → c || d ≡ true
-    or_later true e = refl
-    or_later false e = e
-
--- a task that leaves the roll leaves it empty where it was alone there
-pub alone : (p : List ℕ) (ps : List (List ℕ)) → is_among p ps ≡ true → nobody (but_first (replicate (length ps) [])) ≡ nobody (without p ps)
-alone p [] e = absurd (cc)
-alone p (q ∷ []) e = go (same_path p q) e
-  where
-    go : (c : Bool) → c || false ≡ true → true ≡ nobody (if c then [] else q ∷ [])
-    go true e = refl
-    go false e = absurd (cc)
-alone p (q ∷ (r ∷ rs)) e = go (same_path p q)
-  where
-    go : (c : Bool) → false ≡ nobody (if c then r ∷ rs else q ∷ without p (r ∷ rs))
-    go true = refl
-    go false = refl
-
--- where no path is empty on the roll, no owner is
-pub deserted : (f : ℕ → Seat) (owners : List ℕ) → nobody (blanks (map f owners)) ≡ true → owners ≡ []
-deserted f [] e = refl
-deserted f (x ∷ owners) e = absurd (cc)

@@ -89,6 +89,10 @@ module _ (t : Task) (r : Rests t) (events k : ℕ) (fits : events < 184467440737
     events = small events fits ∙ ap (λ x. x % 2 ^ 64) (comes.count ∙ sym (passed_done k (shown t) comes.touches)
         ∙ ap (λ (z : View). z.seat.walker.done) (passed_more k t.touched t.seat.me.0));
     over = r.over;
+    tickets = r.tickets;
+    notes = r.notes;
+    fed = r.fed;
+    rich = r.rich;
     kid = r.kid;
   }
     where

@@ -1,5 +1,5 @@
 -- A live task does an event after which it alone stands in its place.
-use Rattle.std.proofs.Common.{◌≡◌, ◌≢◌, ℕ, suc, true, false, List, [], ◌∷◌, ◌++◌, map, take, length, set, refl, sym, ap, ◌∙◌, subst}
+use Rattle.std.proofs.Common.{◌≡◌, ◌≢◌, ℕ, suc, ◌<◌, true, false, List, [], ◌∷◌, ◌++◌, map, take, length, set, refl, sym, ap, ◌∙◌, subst}
 use Rattle.std.proofs.Common.{arith, ne_eqb, Option, Some}
 use Rattle.std.specs.Prelude.{nat_eq, slice_get, if◌then◌else◌}
 use mathlib.Core.Option.{some}
@@ -17,13 +17,13 @@ use Rattle.schedule_core.specs.ByNumber.{shelf_at}
 use Rattle.schedule_core.specs.Plain.{Reached, goes_on, Does}
 use Rattle.schedule_core.specs.Tells.{CoreTells}
 use Rattle.jade_meaning.specs.Plan.{RunPlan}
-use Rattle.object_table.specs.Views.{View, shelf_of, paths_of, bare, core_notes}
+use Rattle.object_table.specs.Views.{View, shelf_of, core_notes, gathered}
 use Rattle.object_table.specs.Rule.{pass_of, kid_of, OnRoll, Agrees, Owned, Sits, Shown}
 use Rattle.object_table.specs.declared.slot.Slot.{Slot}
 use Rattle.object_table.specs.declared.slot.Slot.TheVariants as slot
-use Rattle.object_table.proofs.Lists.{put_seat, seat_here, seat_else, roll_split, roll_put, paths_same, get_owner, apart_owners, place_get, place_take}
+use Rattle.object_table.proofs.Lists.{put_seat, seat_here, seat_else, roll_split, roll_put, get_owner, apart_owners, place_get, place_take}
 use Rattle.object_table.proofs.Lists.{place_drop, owned_set, every_with}
-use Rattle.object_table.proofs.Goes.{Goes, parts0, parts1}
+use Rattle.object_table.proofs.Goes.{SamePurse, Goes, parts0, parts1, same_gathered, same_accounts, same_settled}
 
 -- the next event of a task between others
 pub reach_on : (key : RunPlan) (k : ℕ) (f : List Seat) (s : Seat) (b : List Seat) (ss ss' : List ObjectView) (notes : List PartNote) (e : Event)
@@ -62,31 +62,27 @@ module _ (n : ℕ) (key : RunPlan) (s : table.State Slot View) (h : Shown n key 
   pub roll_is : map h.seats h.owners ≡ f ++ (v.seat ∷ b)
   roll_is = ap (map h.seats) on.spot.is ∙ roll_split h.seats (pass_of id) on.spot.front on.spot.back ∙ ap (λ x. f ++ (x ∷ b)) on.is
 
-  pub stands : Reached key.program key.numbers key.limit h.count (f ++ (v.seat ∷ b)) h.shelves (core_notes h.told)
-  stands = subst (λ r. Reached key.program key.numbers key.limit h.count r h.shelves (core_notes h.told)) roll_is h.reached
+  pub stands : Reached key.program key.numbers key.limit h.count (f ++ (v.seat ∷ b)) h.shelves (core_notes (gathered h.tally s.views))
+  stands = subst (λ r. Reached key.program key.numbers key.limit h.count r h.shelves (core_notes (gathered h.tally s.views))) roll_is h.reached
 
   pub seat_on : (x : ℕ) (t : Seat) (q : OnRoll h.owners h.seats x t) → slice_get (map h.seats h.owners) (length q.spot.front) ≡ Some t
   seat_on x t q = ap (λ l. slice_get (map h.seats l) (length q.spot.front)) q.spot.is ∙ get_owner h.seats q.spot.front x q.spot.back ∙ ap (λ a. Some a) q.is
 
   pub found : (o : ℕ) → o ≢ n → parts0 n key s h id v at_v o ≡ slot.Object (shelf_of (shelf_at h.shelves o))
-  found o ne = ap (λ z. if z then slot.Roll (record {
-    live = paths_of (map h.seats h.owners);
-    notes =
-        h.told;
-  }) else slot.Object (shelf_of (shelf_at h.shelves o))) (ne_eqb o n ne)
+  found o ne = ap (λ z. if z then slot.Roll h.tally else slot.Object (shelf_of (shelf_at h.shelves o))) (ne_eqb o n ne)
 
   module _ (tells : CoreTells key.program key.numbers key.limit) where
     pub far_off : (x : ℕ) (t : Seat) → x ≢ pass_of id → OnRoll h.owners h.seats x t → same_path t.path p ≡ false
-    far_off x t ne q = tells.apart h.count (map h.seats h.owners) h.shelves (core_notes h.told) h.reached (length q.spot.front) (length on.spot.front) t v.seat
+    far_off x t ne q = tells.apart h.count (map h.seats h.owners) h.shelves (core_notes (gathered h.tally s.views)) h.reached (length q.spot.front) (length on.spot.front) t v.seat
         (seat_on x t q) (seat_on (pass_of id) v.seat on) (apart_owners h.owners x (pass_of id) q.spot on.spot ne)
 
     pub no_kid : (x : ℕ) (t : Seat) → x ≢ pass_of id → OnRoll h.owners h.seats x t → same_path t.path kid ≡ false
-    no_kid x t ne q = tells.kids h.count (map h.seats h.owners) h.shelves (core_notes h.told) h.reached (length q.spot.front) (length on.spot.front) t v.seat
+    no_kid x t ne q = tells.kids h.count (map h.seats h.owners) h.shelves (core_notes (gathered h.tally s.views)) h.reached (length q.spot.front) (length on.spot.front) t v.seat
         (seat_on x t q) (seat_on (pass_of id) v.seat on) (apart_owners h.owners x (pass_of id) q.spot on.spot ne)
 
     module _ (e : Event) (u2 : Seat) (ss2 : List ObjectView) (w : View) (next : First (upcoming v.seat.walker) (λ x. x
         ≡ e)) (does : Does e v.seat h.shelves (u2 ∷ []) ss2) (silent : (ns : List PartNote) → noted e v.seat ns ≡ ns) (path : u2.path ≡ p) (is : w.seat
-        ≡ u2) (live : w.live ≡ v.live) (unborn : w.unborn ≡ v.unborn) (plan : w.key ≡ v.key) (over : w.over ≡ v.over) (far : (q : List ℕ) → same_path q p
+        ≡ u2) (live : w.live ≡ v.live) (unborn : w.unborn ≡ v.unborn) (plan : w.key ≡ v.key) (purse : SamePurse v w) (far : (q : List ℕ) → same_path q p
         ≡ false → same_path q kid ≡ false → (hs : List (Option Held)) → Agrees q h.shelves hs → Agrees q ss2 hs) (own : Agrees p ss2 w.held) where
       abbrev pub seats2 : ℕ → Seat
       seats2 = put_seat h.seats (pass_of id) u2
@@ -94,11 +90,11 @@ module _ (n : ℕ) (key : RunPlan) (s : table.State Slot View) (h : Shown n key 
       roll2 : map seats2 h.owners ≡ f ++ (u2 ∷ b)
       roll2 = roll_put h.seats (pass_of id) u2 h.owners on.spot
 
-      pub reached2 : Reached key.program key.numbers key.limit (suc h.count) (map seats2 h.owners) ss2 (core_notes h.told)
+      pub reached2 : Reached key.program key.numbers key.limit (suc h.count) (map seats2 h.owners) ss2 (core_notes (gathered h.tally s.views))
       reached2 =
-          subst (λ r. Reached key.program key.numbers key.limit (suc h.count) r ss2 (core_notes h.told)) (sym roll2)
-          (subst (λ ns. Reached key.program key.numbers key.limit (suc h.count) (f ++ (u2 ∷ b)) ss2 ns) (silent (core_notes h.told))
-          (reach_on key h.count f v.seat b h.shelves ss2 (core_notes h.told) e (u2 ∷ []) stands next does))
+          subst (λ r. Reached key.program key.numbers key.limit (suc h.count) r ss2 (core_notes (gathered h.tally s.views))) (sym roll2)
+          (subst (λ ns. Reached key.program key.numbers key.limit (suc h.count) (f ++ (u2 ∷ b)) ss2 ns) (silent (core_notes (gathered h.tally s.views)))
+          (reach_on key h.count f v.seat b h.shelves ss2 (core_notes (gathered h.tally s.views)) e (u2 ∷ []) stands next does))
 
       on_else : (x : ℕ) (t : Seat) → x ≢ pass_of id → OnRoll h.owners h.seats x t → OnRoll h.owners seats2 x t
       on_else x t ne r = record { spot = r.spot; is = seat_else h.seats (pass_of id) u2 x ne ∙ r.is }
@@ -113,7 +109,8 @@ module _ (n : ℕ) (key : RunPlan) (s : table.State Slot View) (h : Shown n key 
         held = λ l. agrees_else (pass_of j) z.seat (λ r. ne (omega arith)) (q.live l) z.held (q.held l);
         unborn = λ k u. on_else (kid_of j) k (λ r. absurd (omega arith)) (q.unborn k u);
         unheld = λ k u. agrees_else (kid_of j) k (λ r. absurd (omega arith)) (q.unborn k u) [] (q.unheld k u);
-        over = q.over;
+        fed = q.fed;
+        feeds = q.feeds;
       }
 
       pub mine2 : Sits h.owners seats2 ss2 id w
@@ -124,7 +121,8 @@ module _ (n : ℕ) (key : RunPlan) (s : table.State Slot View) (h : Shown n key 
             held = λ l. subst (λ x. Agrees x ss2 w.held) (sym path ∙ ap (λ (x : Seat). x.path) (sym is)) own;
             unborn = λ k u. on_else (kid_of id) k (λ r. absurd (omega arith)) (q.unborn k (sym unborn ∙ u));
             unheld = λ k u. agrees_else (kid_of id) k (λ r. absurd (omega arith)) (q.unborn k (sym unborn ∙ u)) [] (q.unheld k (sym unborn ∙ u));
-            over = λ all. q.over (sym over ∙ all);
+            fed = λ l. subst (λ t. 0 < t) (sym purse.tickets) (q.fed alive);
+            feeds = λ k u. subst (λ t. 1 < t) (sym purse.tickets) (q.feeds k (sym unborn ∙ u));
           }
 
       abbrev pub quiet : Goes n key s h id v at_v w
@@ -133,27 +131,22 @@ module _ (n : ℕ) (key : RunPlan) (s : table.State Slot View) (h : Shown n key 
         owners = h.owners;
         seats = seats2;
         shelves = ss2;
-        told = h.told;
-        reached = reached2;
+        tally = h.tally;
+        reached = subst (λ ns. Reached key.program key.numbers key.limit (suc h.count) (map seats2 h.owners) ss2 (core_notes ns))
+            (sym (same_gathered n key s h id v at_v w purse)) reached2;
+        accounts = same_accounts n key s h id v at_v w purse;
+        settled = λ e. e;
+        own_settled = same_settled n key s h id v at_v w purse;
         plan = λ l. plan ∙ (h.passes id v at_v).plan alive;
         own = mine2;
         others = λ j z ne e. others j z ne (h.passes j z e).sits;
         only = every_with (Owned s.views) (Owned (set s.views id w)) (λ x q. owned_set s.views id x v w at_v live unborn q) h.owners h.only;
       }
 
-      paths2 : paths_of (map h.seats h.owners) ≡ paths_of (map seats2 h.owners)
-      paths2 = ap paths_of roll_is ∙ paths_same f b v.seat u2 (sym path) ∙ ap paths_of (sym roll2)
-
       -- where an object shows the same its part is the same
       pub part_else : (i : ℕ) → shelf_of (shelf_at h.shelves i) ≡ shelf_of (shelf_at ss2 i) → parts0 n key s h id v at_v i
           ≡ parts1 n key s h id v at_v w quiet i
-      part_else i same =
-          ap (λ ps. if nat_eq i n then slot.Roll (record { live = ps; notes = h.told }) else slot.Object (shelf_of (shelf_at h.shelves i))) paths2
-          ∙ ap (λ x. if nat_eq i n then slot.Roll (record { live = paths_of (map seats2 h.owners); notes = h.told }) else slot.Object x) same
+      part_else i same = ap (λ x. if nat_eq i n then slot.Roll h.tally else slot.Object x) same
 
-      pub part_here : (o : ℕ) → o ≢ n → (new : Slot) → new ≡ slot.Object (shelf_of (shelf_at ss2 o)) → new ≡ bare (parts1 n key s h id v at_v w quiet o)
-      part_here o ne new e = e ∙ sym (ap (λ z. bare (if z then slot.Roll (record {
-        live = paths_of (map seats2 h.owners);
-        notes =
-            h.told;
-      }) else slot.Object (shelf_of (shelf_at ss2 o)))) (ne_eqb o n ne))
+      pub part_here : (o : ℕ) → o ≢ n → (new : Slot) → new ≡ slot.Object (shelf_of (shelf_at ss2 o)) → new ≡ parts1 n key s h id v at_v w quiet o
+      part_here o ne new e = e ∙ sym (ap (λ z. if z then slot.Roll h.tally else slot.Object (shelf_of (shelf_at ss2 o))) (ne_eqb o n ne))

@@ -1,5 +1,5 @@
 -- The pass of a child that was enrolled is cut off its parent's.
-use Rattle.std.proofs.Common.{◌≡◌, ◌≢◌, ◌⊎◌, inl, inr, ℕ, zero, suc, ◌<◌, true, List, [], ◌∷◌, ◌++◌, map, set, length, refl, sym, ap, ◌∙◌}
+use Rattle.std.proofs.Common.{◌≡◌, ◌≢◌, ◌⊎◌, inl, inr, ℕ, zero, suc, ◌<◌, true, false, List, [], ◌∷◌, ◌++◌, map, set, length, refl, sym, ap, ◌∙◌}
 use Rattle.std.proofs.Common.{subst, arith, length-set, Some}
 use mathlib.Core.Logic.{dite}
 use mathlib.Core.Option.{some, some-injective, some-ne-none}
@@ -12,13 +12,15 @@ use Rattle.jade_meaning.specs.Laws.{Every}
 use Rattle.schedule_core.specs.declared.steps.Seat.{Seat}
 use Rattle.schedule_core.specs.Plain.{Reached}
 use Rattle.schedule_core.proofs.Lines.{every_append, every_front, every_back, every_apply}
+use Rattle.task_roll.specs.declared.note.PartNote.{PartNote}
 use Rattle.jade_meaning.specs.Plan.{RunPlan}
-use Rattle.object_table.specs.Views.{count_of, View, part_of, core_notes, bare}
-use Rattle.object_table.specs.Rule.{pass_of, kid_of, Absent, Spot, OnRoll, Owned, by_pass, by_maker, TurnOk, PlaceOk, free, taken, SeatOk, Ruled}
+use Rattle.object_table.specs.Views.{count_of, View, part_of, core_notes, gathered, in_hand}
+use Rattle.object_table.specs.Rule.{pass_of, kid_of, Absent, Spot, OnRoll, Owned, by_pass, by_maker, Accounts, PlaceOk, free, taken, SeatOk, Ruled}
 use Rattle.object_table.specs.Plays.{without_kid, kid_view}
 use Rattle.object_table.specs.declared.slot.Slot.{Slot}
 use Rattle.object_table.proofs.Lists.{put_seat, seat_here, seat_else, roll_split, roll_put, at_inside, same_view, every_with}
-use Rattle.object_table.proofs.Owners.{spot_more, spot_less, not_empty, none_some}
+use Rattle.object_table.proofs.Owners.{spot_more, spot_less, none_some}
+use Rattle.object_table.proofs.Purses.{hand_kept, hand_more, worths_set, worths_more}
 
 snoc_at : {A : Type 0} (l : List A) (a b : A) (j : ℕ) → get_elem? (l ++ a ∷ []) j ≡ some b → (get_elem? l j ≡ some b) ⊎ ((j ≡ length l) × (a ≡ b))
 snoc_at [] a b zero e = inr (refl, some-injective a b e)
@@ -29,6 +31,10 @@ snoc_at (x ∷ l) a b (suc j) e = go (snoc_at l a b j e)
     go : (get_elem? l j ≡ some b) ⊎ ((j ≡ length l) × (a ≡ b)) → (get_elem? l j ≡ some b) ⊎ ((suc j ≡ suc (length l)) × (a ≡ b))
     go (inl h) = inl h
     go (inr h) = inr (ap suc h.0, h.1)
+
+append_nil : (ns : List PartNote) → ns ++ [] ≡ ns
+append_nil [] = refl
+append_nil (n ∷ ns) = ap (λ ms. n ∷ ms) (append_nil ns)
 
 module _ (key : RunPlan) (s : table.State Slot View) (h : Ruled key s) (id : ℕ) (v : View) (at : get_elem? s.views id ≡ some v) (alive : v.live ≡ true)
     (baby : Seat) (waits : v.unborn ≡ Some baby) where
@@ -87,13 +93,23 @@ module _ (key : RunPlan) (s : table.State Slot View) (h : Ruled key s) (id : ℕ
       ∙ sym (roll_put h.seats fresh baby owners2 fresh_spot)
 
   abbrev parts : ℕ → Slot
-  parts o = part_of n o (map h.seats h.owners) h.shelves h.told
+  parts o = part_of n o h.tally h.shelves
 
-  abbrev parts2 : ℕ → Slot
-  parts2 o = part_of n o (map seats2 owners2) h.shelves h.told
+  rich : 1 < v.tickets
+  rich = (h.passes id v at).sits.feeds baby waits
 
-  same_part : (o : ℕ) → parts o ≡ parts2 o
-  same_part o = ap (λ r. part_of n o r h.shelves h.told) roll_is
+  -- the tickets are shared, and the notes stay where they are
+  same_notes : gathered h.tally s.views ≡ gathered h.tally new.views
+  same_notes = ap (λ ns. h.tally.notes ++ ns)
+      (sym (hand_more (set s.views id left) right ∙ append_nil (in_hand (set s.views id left)) ∙ hand_kept s.views id v left at refl))
+
+  same_accounts : Accounts h.tally new.views
+  same_accounts =
+      let r = rich in
+      let due = h.accounts.due in
+      let less = worths_set s.views id v left at in
+      let more = worths_more (set s.views id left) right in
+      record { due = omega (arith, r, due, less, more); room = h.accounts.room }
 
   on_else : (x : ℕ) (z : Seat) → x ≢ kid → x ≢ fresh → OnRoll h.owners h.seats x z → OnRoll owners2 seats2 x z
   on_else x z nk nf r = record {
@@ -102,10 +118,7 @@ module _ (key : RunPlan) (s : table.State Slot View) (h : Ruled key s) (id : ℕ
   }
 
   abbrev Ok : ℕ → View → Type 0
-  Ok j z = SeatOk n s.words owners2 seats2 h.holder h.shelves parts2 key j z
-
-  turn_on : (j : ℕ) (z : View) → TurnOk n s.words h.holder parts j z → TurnOk n s.words h.holder parts2 j z
-  turn_on j z t = record { inside = t.inside; word = t.word; holds = t.holds; found = t.found ∙ same_part z.place }
+  Ok j z = SeatOk n s.words owners2 seats2 h.holder h.shelves parts key j z
 
   old_seat : (j : ℕ) (z : View) → j < length s.views → SeatOk n s.words h.owners h.seats h.holder h.shelves parts key j z
       → ((k : Seat) → z.unborn ≡ Some k → j ≢ id) → Ok j z
@@ -116,9 +129,10 @@ module _ (key : RunPlan) (s : table.State Slot View) (h : Ruled key s) (id : ℕ
       held = q.sits.held;
       unborn = λ k u. on_else (kid_of j) k (λ same. absurd (kids k u (omega (arith, same)))) (λ same. absurd (omega arith)) (q.sits.unborn k u);
       unheld = q.sits.unheld;
-      over = λ all. absurd (not_empty h.owners front back kid there.spot.is (q.sits.over all));
+      fed = q.sits.fed;
+      feeds = q.sits.feeds;
     };
-    turn = λ e. turn_on j z (q.turn e);
+    turn = q.turn;
     busy = q.busy;
   }
 
@@ -135,10 +149,11 @@ module _ (key : RunPlan) (s : table.State Slot View) (h : Ruled key s) (id : ℕ
               held = q.sits.held;
               unborn = λ k u. absurd (none_some k u);
               unheld = λ k u. absurd (none_some k u);
-              over = q.sits.over;
+              fed = λ l. let r = rich in omega (arith, r);
+              feeds = λ k u. absurd (none_some k u);
             };
             turn = λ e. let t = q.turn e in record { inside = t.inside; word = t.word; holds = t.holds; found = t.found };
-            busy = q.busy;
+            busy = λ e. let r = rich in omega (arith, r);
           } in
           subst (λ (p : ℕ × View). Ok p.0 p.1) (λ i. (sym x.0 i, x.1 i))
           (old_seat id left (at_inside s.views id v at) q' (λ k u. absurd (none_some k u)))
@@ -154,10 +169,11 @@ module _ (key : RunPlan) (s : table.State Slot View) (h : Ruled key s) (id : ℕ
               held = λ l. (h.passes id v at).sits.unheld baby waits;
               unborn = λ k u. absurd (none_some k u);
               unheld = λ k u. absurd (none_some k u);
-              over = λ all. absurd (cc);
+              fed = λ l. omega arith;
+              feeds = λ k u. absurd (none_some k u);
             };
             turn = λ e. absurd (cc);
-            busy = λ e. refl;
+            busy = λ e. absurd (cc);
           })
 
   kept_owner : (x : ℕ) → x ≢ kid → Owned s.views x → Owned new.views x
@@ -168,8 +184,8 @@ module _ (key : RunPlan) (s : table.State Slot View) (h : Ruled key s) (id : ℕ
   kept_owner x ne (by_maker j z k e unborn is) =
       by_maker j z k (at_longer (set s.views id left) (right ∷ []) j z (set_else s.views id j left (λ same. ne (is ∙ ap kid_of same)) ∙ e)) unborn is
 
-  place : (p : ℕ) → PlaceOk n s h.holder parts p → PlaceOk n new h.holder parts2 p
-  place p (free y w0 home is) = free y w0 home (is ∙ ap bare (same_part p))
+  place : (p : ℕ) → PlaceOk n s h.holder parts p → PlaceOk n new h.holder parts p
+  place p (free y w0 home is) = free y w0 home is
   place p (taken z w1 e t l) = dite (ℕ_discrete (h.holder p) id)
       (λ same.
       let q : v ≡ z = same_view s.views id (h.holder p) v z at e same in
@@ -177,6 +193,17 @@ module _ (key : RunPlan) (s : table.State Slot View) (h : Ruled key s) (id : ℕ
       (at_longer (set s.views id left) (right ∷ []) id left (set_here s.views id left (at_inside s.views id v at))))
       (ap (λ (k : View). k.turn) q ∙ t) (ap (λ (k : View). k.place) q ∙ l))
       (λ other. taken z w1 (at_longer (set s.views id left) (right ∷ []) (h.holder p) z (set_else s.views id (h.holder p) left other ∙ e)) t l)
+
+  settled : (j : ℕ) (z : View) → get_elem? new.views j ≡ some z → z.over ≡ true → h.tally.due ≡ 0
+  settled j z e over = by_end (snoc_at (set s.views id left) right z j e)
+    where
+      by_set : ((j ≡ id) × (left ≡ z)) ⊎ ((j ≢ id) × (get_elem? s.views j ≡ some z)) → h.tally.due ≡ 0
+      by_set (inl x) = h.settled id v at (ap (λ (y : View). y.over) x.1 ∙ over)
+      by_set (inr x) = h.settled j z x.1 over
+
+      by_end : (get_elem? (set s.views id left) j ≡ some z) ⊎ ((j ≡ length (set s.views id left)) × (right ≡ z)) → h.tally.due ≡ 0
+      by_end (inl x) = by_set (at_set s.views id j left z x)
+      by_end (inr x) = absurd (let no : false ≡ true = ap (λ (y : View). y.over) x.1 ∙ over in cc)
 
   pub split_rule : Ruled key new
   split_rule =
@@ -192,9 +219,12 @@ module _ (key : RunPlan) (s : table.State Slot View) (h : Ruled key s) (id : ℕ
         owners = owners2;
         seats = seats2;
         shelves = h.shelves;
-        told = h.told;
+        tally = h.tally;
         holder = h.holder;
-        reached = subst (λ r. Reached key.program key.numbers key.limit h.count r h.shelves (core_notes h.told)) roll_is h.reached;
+        reached = subst (λ ns. Reached key.program key.numbers key.limit h.count (map seats2 owners2) h.shelves (core_notes ns)) same_notes
+            (subst (λ r. Reached key.program key.numbers key.limit h.count r h.shelves (core_notes (gathered h.tally s.views))) roll_is h.reached);
+        accounts = same_accounts;
+        settled = settled;
         wide = h.wide;
         deep = h.deep;
         passes = seat;

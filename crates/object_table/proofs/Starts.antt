@@ -1,5 +1,5 @@
 -- The table at the start keeps the rule.
-use Rattle.std.proofs.Common.{◌≡◌, ℕ, zero, suc, ◌<◌, List, [], ◌∷◌, ◌++◌, map, length, take, refl, sym, ap, ◌∙◌, subst, arith}
+use Rattle.std.proofs.Common.{◌≡◌, ℕ, zero, suc, ◌<◌, true, false, List, [], ◌∷◌, ◌++◌, map, length, take, refl, sym, ap, ◌∙◌, subst, arith}
 use Rattle.std.proofs.Common.{eq-eqb, ne_eqb, Option, Some, None}
 use Rattle.std.specs.Prelude.{slice_get, slice_index, replicate, if◌then◌else◌}
 use mathlib.Core.Logic.{dite}
@@ -15,10 +15,9 @@ use Rattle.object_shelf.specs.Shelves.{find}
 use Rattle.schedule_core.specs.declared.steps.Seat.{Seat}
 use Rattle.schedule_core.specs.ByNumber.{shelf_at}
 use Rattle.schedule_core.specs.Plain.{begins, root_seat, root_shelves}
-use Rattle.task_roll.specs.Rolls.{started as begun}
 use Rattle.jade_meaning.specs.Plan.{RunPlan}
-use Rattle.object_table.specs.Tallies.{counted}
-use Rattle.object_table.specs.Views.{count_of, word_of, View, shelf_of, part_of, bare}
+use Rattle.object_table.specs.Tallies.{opened}
+use Rattle.object_table.specs.Views.{count_of, word_of, View, shelf_of, part_of}
 use Rattle.object_table.specs.Rule.{hold_of, nothing, pass_of, by_pass, free, SeatOk, Ruled, first_view}
 use Rattle.object_table.specs.steps.Kept.{start_slots, FirstSlots}
 use Rattle.object_table.specs.declared.slot.Slot.{Slot}
@@ -76,16 +75,15 @@ module _ (key : RunPlan) where
   root = root_seat key.program key.numbers key.limit
 
   abbrev parts : ℕ → Slot
-  parts o = part_of n o (root ∷ []) (root_shelves ns) []
+  parts o = part_of n o opened (root_shelves ns)
 
-  part_at : (o : ℕ) → o < suc n → get_elem? (start_slots ns ++ slot.Roll (counted begun) ∷ []) o ≡ some (bare (parts o))
+  part_at : (o : ℕ) → o < suc n → get_elem? (start_slots ns ++ slot.Roll opened ∷ []) o ≡ some (parts o)
   part_at o lt = dite (ℕ_discrete o n)
-      (λ same. subst (λ i. get_elem? (start_slots ns ++ slot.Roll (counted begun) ∷ []) i ≡ some (bare (parts i))) (sym same)
-      (last_at ns (slot.Roll (counted begun))
-      ∙ ap some (sym (ap (λ b. bare (if b then slot.Roll begun else slot.Object (shelf_of (shelf_at (root_shelves ns) n))))
-      (eq-eqb n n refl)))))
-      (λ ne. object_at ns (slot.Roll (counted begun) ∷ []) o (omega (arith, ne, lt))
-      ∙ ap some (sym (ap (λ b. bare (if b then slot.Roll begun else slot.Object (shelf_of (shelf_at (root_shelves ns) o)))) (ne_eqb o n ne))))
+      (λ same. subst (λ i. get_elem? (start_slots ns ++ slot.Roll opened ∷ []) i ≡ some (parts i)) (sym same)
+      (last_at ns (slot.Roll opened)
+      ∙ ap some (sym (ap (λ b. if b then slot.Roll opened else slot.Object (shelf_of (shelf_at (root_shelves ns) n))) (eq-eqb n n refl)))))
+      (λ ne. object_at ns (slot.Roll opened ∷ []) o (omega (arith, ne, lt))
+      ∙ ap some (sym (ap (λ b. if b then slot.Roll opened else slot.Object (shelf_of (shelf_at (root_shelves ns) o))) (ne_eqb o n ne))))
 
   first : SeatOk n (replicate (word_of (suc n)) 0) (pass_of 0 ∷ []) (λ x. root) (λ o. 0) (root_shelves ns) parts key 0 (first_view key)
   first = record {
@@ -95,7 +93,8 @@ module _ (key : RunPlan) where
       held = λ e. record { each = λ o. nothing refl (no_hold ns o) };
       unborn = λ kid e. absurd (cc);
       unheld = λ kid e. absurd (cc);
-      over = λ e. absurd (cc);
+      fed = λ e. omega arith;
+      feeds = λ kid e. absurd (cc);
     };
     turn = λ e. absurd (cc);
     busy = λ e. absurd (cc);
@@ -107,17 +106,23 @@ module _ (key : RunPlan) where
     owners = pass_of 0 ∷ [];
     seats = λ x. root;
     shelves = root_shelves ns;
-    told = [];
+    tally = opened;
     holder = λ o. 0;
     reached = begins;
+    accounts = record { due = omega arith; room = omega arith };
+    settled = no_end;
     wide = repeated (word_of (suc n));
-    deep = mapped xs ∙ ap length f.is ∙ slots_length ns (slot.Roll (counted begun));
+    deep = mapped xs ∙ ap length f.is ∙ slots_length ns (slot.Roll opened);
     passes = seat;
     only = (by_pass 0 (first_view key) refl refl refl, tt);
-    places = λ o lt. free (bare (parts o)) (all_zeros (word_of (suc n)) (word_of o))
-        (at_map some xs o (bare (parts o)) (ap (λ l. get_elem? l o) f.is ∙ part_at o lt)) refl;
+    places = λ o lt. free (parts o) (all_zeros (word_of (suc n)) (word_of o))
+        (at_map some xs o (parts o) (ap (λ l. get_elem? l o) f.is ∙ part_at o lt)) refl;
   })
     where
+      no_end : (id : ℕ) (v : View) → get_elem? (first_view key ∷ []) id ≡ some v → v.over ≡ true → opened.due ≡ 0
+      no_end zero v e over = absurd (let no : false ≡ true = ap (λ (z : View). z.over) (some-injective (first_view key) v e) ∙ over in cc)
+      no_end (suc id) v e over = absurd (some-ne-none v (sym e))
+
       seat : (id : ℕ) (v : View) → get_elem? (first_view key ∷ []) id ≡ some v
           → SeatOk n (replicate (word_of (suc n)) 0) (pass_of 0 ∷ []) (λ x. root) (λ o. 0) (root_shelves ns) parts key id v
       seat zero v e = subst (λ (z : View). SeatOk n (replicate (word_of (suc n)) 0) (pass_of 0 ∷ []) (λ x. root) (λ o. 0) (root_shelves ns) parts key 0 z)

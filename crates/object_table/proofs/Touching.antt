@@ -20,13 +20,13 @@ use Rattle.schedule_core.specs.ByNumber.{shelf_at}
 use Rattle.schedule_core.specs.Plain.{seat_after, on_shelf, value_at}
 use Rattle.schedule_core.specs.Tells.{CoreTells, Holding}
 use Rattle.jade_meaning.specs.Plan.{RunPlan}
-use Rattle.object_table.specs.Views.{View, core_notes, shelf_of, home_if}
+use Rattle.object_table.specs.Views.{View, core_notes, shelf_of, home_if, gathered}
 use Rattle.object_table.specs.Touches.{held_at, put_held, cells_of, touches_first, touch_next, touched_first, touched, passed, all_touches}
 use Rattle.object_table.specs.Rule.{hold_of, HeldOk, nothing, owns, sees, Agrees, Shown}
 use Rattle.object_table.specs.declared.slot.Slot.{Slot}
 use Rattle.object_table.proofs.Lists.{shelf_on, shelf_else, held_here, held_else, at_inside}
 use Rattle.object_table.proofs.Entries.{some_entry, found_out}
-use Rattle.object_table.proofs.Goes.{renewed}
+use Rattle.object_table.proofs.Goes.{SamePurse, same_pays, renewed}
 use Rattle.object_table.proofs.Quiet.{p, seat_on, on, quiet, part_else}
 
 value_is : (o c : ℕ) (q : List ℕ) (ss : List ObjectView) → value_at o c q ss ≡ value_in (content_for q (shelf_at ss o)) c
@@ -72,8 +72,11 @@ module _ (n : ℕ) (key : RunPlan) (s : table.State Slot View) (h : Shown n key 
     abbrev w : View
     w = record v { seat = u2 }
 
+    untouched : SamePurse v w
+    untouched = record { tickets = refl; notes = refl; over = refl }
+
     holding : Holding (λ x. is_some x) v.seat.path (shelf_at h.shelves o).queue
-    holding = tells.reads h.count (map h.seats h.owners) h.shelves (core_notes h.told) h.reached (length (on n key s h id v at_v alive).spot.front) v.seat
+    holding = tells.reads h.count (map h.seats h.owners) h.shelves (core_notes (gathered h.tally s.views)) h.reached (length (on n key s h id v at_v alive).spot.front) v.seat
         (seat_on n key s h id v at_v alive _ v.seat (on n key s h id v at_v alive)) o c next
 
     value : value_at o c v.seat.path h.shelves ≡ value_in (cells_of (held_at o v.held)) c
@@ -83,12 +86,12 @@ module _ (n : ℕ) (key : RunPlan) (s : table.State Slot View) (h : Shown n key 
     pub read_on : Shown n key (record { words = s.words; homes = s.homes; views = set s.views id w })
     read_on =
         renewed n key s h id v at_v w (quiet n key s h id v at_v alive tells (Wants o c) u2 h.shelves w next
-        (ap (λ z. seat_after (Some z) v.seat ∷ []) (sym value), refl) (λ ns. refl) refl refl refl refl refl refl (λ q far kin hs a. a) held)
+        (ap (λ z. seat_after (Some z) v.seat ∷ []) (sym value), refl) (λ ns. refl) refl refl refl refl refl untouched (λ q far kin hs a. a) held)
         (λ i. part_else n key s h id v at_v alive tells (Wants o c) u2 h.shelves w next (
           ap (λ z. seat_after (Some z) v.seat ∷ []) (sym value),
           refl,
-        ) (λ ns. refl) refl refl refl refl refl refl (λ q far kin hs a. a) held i refl)
-        (record { turn = refl; place = λ e. refl; note = λ e. refl }) (λ e. e)
+        ) (λ ns. refl) refl refl refl refl refl untouched (λ q far kin hs a. a) held i refl)
+        (record { turn = refl; place = λ e. refl; note = λ e. refl }) (same_pays n key s h id v at_v w untouched)
 
   module _ (o c : ℕ) (x : ℤ) (es : List Event) (q : upcoming v.seat.walker ≡ TouchWrite o c x ∷ es) where
     next_write : First (upcoming v.seat.walker) (λ y. y ≡ TouchWrite o c x)
@@ -103,11 +106,14 @@ module _ (n : ℕ) (key : RunPlan) (s : table.State Slot View) (h : Shown n key 
     abbrev w3 : View
     w3 = record v { seat = u3; held = new_held }
 
+    untouched_write : SamePurse v w3
+    untouched_write = record { tickets = refl; notes = refl; over = refl }
+
     abbrev ss3 : List ObjectView
     ss3 = on_shelf o (written c x) h.shelves
 
     out : Holding takes_out v.seat.path (shelf_at h.shelves o).queue
-    out = tells.writes h.count (map h.seats h.owners) h.shelves (core_notes h.told) h.reached (length (on n key s h id v at_v alive).spot.front) v.seat
+    out = tells.writes h.count (map h.seats h.owners) h.shelves (core_notes (gathered h.tally s.views)) h.reached (length (on n key s h id v at_v alive).spot.front) v.seat
         (seat_on n key s h id v at_v alive _ v.seat (on n key s h id v at_v alive)) o c x next_write
 
     here : shelf_at ss3 o ≡ written c x (shelf_at h.shelves o)
@@ -137,7 +143,7 @@ module _ (n : ℕ) (key : RunPlan) (s : table.State Slot View) (h : Shown n key 
         other k (nothing empty none_held) = nothing empty none_held
         other k (sees d e is g m t v) = sees d e is g m t v
         other k (owns d e is g m t u z) = absurd (let y : false ≡ true = sym off
-            ∙ tells.alone h.count (map h.seats h.owners) h.shelves (core_notes h.told) h.reached o r v.seat.path e out.entry g t out.there out.hold in cc)
+            ∙ tells.alone h.count (map h.seats h.owners) h.shelves (core_notes (gathered h.tally s.views)) h.reached o r v.seat.path e out.entry g t out.there out.hold in cc)
 
     shows : (i : ℕ) → shelf_of (shelf_at h.shelves i) ≡ shelf_of (shelf_at ss3 i)
     shows i = dite (ℕ_discrete i o)
@@ -155,12 +161,12 @@ module _ (n : ℕ) (key : RunPlan) (s : table.State Slot View) (h : Shown n key 
         renewed n key s h id v at_v w3 (quiet n key s h id v at_v alive tells (TouchWrite o c x) u3 ss3 w3 next_write (
           refl,
           refl,
-        ) (λ ns. refl) refl refl refl refl refl refl far own)
+        ) (λ ns. refl) refl refl refl refl refl untouched_write far own)
         (λ i. part_else n key s h id v at_v alive tells (TouchWrite o c x) u3 ss3 w3 next_write (
           refl,
           refl,
-        ) (λ ns. refl) refl refl refl refl refl refl far own i (shows i))
-        (record { turn = refl; place = λ e. refl; note = λ e. refl }) (λ e. e)
+        ) (λ ns. refl) refl refl refl refl refl untouched_write far own i (shows i))
+        (record { turn = refl; place = λ e. refl; note = λ e. refl }) (same_pays n key s h id v at_v w3 untouched_write)
 
   -- one touch keeps the rule
   pub touch_on : touch_next v ≡ true → Shown n key (record { words = s.words; homes = s.homes; views = set s.views id (touched v) })
@@ -186,6 +192,8 @@ pub record Same (v w : View) : Type 0 where
   pub live : w.live ≡ v.live
   pub unborn : w.unborn ≡ v.unborn
   pub over : w.over ≡ v.over
+  pub tickets : w.tickets ≡ v.tickets
+  pub notes : w.notes ≡ v.notes
   pub turn : w.turn ≡ v.turn
   pub tries : w.tries ≡ v.tries
   pub place : w.place ≡ v.place
@@ -200,6 +208,8 @@ all_same v = record {
   live = refl;
   unborn = refl;
   over = refl;
+  tickets = refl;
+  notes = refl;
   turn = refl;
   tries = refl;
   place = refl;
@@ -216,6 +226,8 @@ same_after v w e p c = record {
   live = ap (λ (x : View). x.live) e;
   unborn = ap (λ (x : View). x.unborn) e;
   over = ap (λ (x : View). x.over) e;
+  tickets = ap (λ (x : View). x.tickets) e;
+  notes = ap (λ (x : View). x.notes) e;
   turn = ap (λ (x : View). x.turn) e;
   tries = ap (λ (x : View). x.tries) e;
   place = ap (λ (x : View). x.place) e;
@@ -244,6 +256,8 @@ then_same u v w a b = record {
   live = b.live ∙ a.live;
   unborn = b.unborn ∙ a.unborn;
   over = b.over ∙ a.over;
+  tickets = b.tickets ∙ a.tickets;
+  notes = b.notes ∙ a.notes;
   turn = b.turn ∙ a.turn;
   tries = b.tries ∙ a.tries;
   place = b.place ∙ a.place;

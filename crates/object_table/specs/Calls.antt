@@ -1,5 +1,5 @@
 -- What a pass is between two calls, and what the calls answer.
-use Rattle.std.specs.Prelude.{◌≡◌, ◌+◌, ℕ, suc, true, false, List, length, slice_get, Option, Some, None, Result, Ok, Err}
+use Rattle.std.specs.Prelude.{◌≡◌, ◌+◌, ◌<◌, ◌≤◌, ◌⊎◌, ℕ, suc, true, false, ◌||◌, List, [], ◌∷◌, ◌++◌, length, slice_get, Option, Some, None, Result, Ok, Err}
 use Rattle.atomic_table.specs.Seated.{TableId}
 use Rattle.jade_base.specs.Held.{Held}
 use Rattle.jade_base.specs.declared.failure.Memory.{Memory}
@@ -15,11 +15,11 @@ use Rattle.object_shelf.specs.Shelves.{keeper_in}
 use Rattle.object_shelf.specs.Homes.{hand_in}
 use Rattle.schedule_core.specs.declared.steps.Seat.{Seat}
 use Rattle.schedule_core.specs.Plain.{seat_after, Born}
-use Rattle.task_roll.specs.Rolls.{RollView, resigned}
 use Rattle.jade_meaning.specs.Plan.{RunPlan}
-use Rattle.object_table.specs.Views.{View}
+use Rattle.object_table.specs.Tallies.{TallyView, stock, received, is_settled}
+use Rattle.object_table.specs.Views.{View, worth}
 use Rattle.object_table.specs.Touches.{put_held, all_touches}
-use Rattle.object_table.specs.Plays.{nobody}
+use Rattle.object_table.specs.Plays.{note_after}
 use Rattle.object_table.specs.declared.slot.Slot.TheVariants as slot
 use Rattle.object_table.specs.declared.answers.Taken.{Taken}
 use Rattle.object_table.specs.declared.answers.Taken.TheVariants as taken
@@ -99,36 +99,70 @@ abbrev pub TriedAs : ℕ → View → Tried → View → Type 0
 TriedAs o v tried.Done w = Did o v.held v w
 TriedAs o v (tried.Busy n) w = IsBusy n o v w
 
--- one try more, which read 0 at the roll's place, where the roll was this
-abbrev pub saw_roll : ℕ → RollView → View → View
+-- one try more, which read 0 at the roll's place, where the slot showed this
+abbrev pub saw_roll : ℕ → TallyView → View → View
 saw_roll o r v = record v { tries = suc v.tries; place = o; word = 0; note = slot.Roll r }
 
--- a creation: the child has its seat, and no pass yet
-pub record Bore (o : ℕ) (v w : View) : Type 0 where
-  pub roll : RollView
+-- a creation, with so many steps in the part that ends, of which there is a note: the child has its seat, and no pass yet; the pass may have got
+-- tickets before it
+pub record Bore (steps : ℕ) (v w : View) : Type 0 where
   pub kid : Seat
   pub born : Born v.seat kid w.seat
-  pub after : w ≡ record (saw_roll o roll v) { seat = w.seat; unborn = Some kid }
-
--- an end, with so many steps in the last part and this fault, if one: the task is live no longer, and the pass knows whether it left the
--- roll empty
-pub record Ended (o : ℕ) (b : Option Blame) (steps : ℕ) (v w : View) : Type 0 where
-  pub roll : RollView
-  pub after : w ≡ record (saw_roll o roll v) {
-    live = false;
-    seat = seat_after None v.seat;
-    over = nobody (resigned v.seat.path v.seat.children b steps roll).live;
+  pub after : w ≡ record v {
+    seat = w.seat;
+    unborn = Some kid;
+    notes = v.notes ++ note_after v steps None ∷ [];
+    tickets = w.tickets;
+    tries = w.tries;
+    place = w.place;
+    word = w.word;
+    note = w.note;
   }
 
--- what a try at a creation answers
-abbrev pub EnrolledAs : ℕ → View → Tried → View → Type 0
-EnrolledAs o v tried.Done w = Bore o v w
-EnrolledAs o v (tried.Busy n) w = IsBusy n o v w
+-- an end, with so many steps in the last part and this fault, if one, of which there is a note: the task is live no longer
+pub record Ended (b : Option Blame) (steps : ℕ) (v w : View) : Type 0 where
+  pub spent : v.tickets ≡ suc w.tickets
+  pub after : w ≡ record v {
+    live = false;
+    seat = seat_after None v.seat;
+    notes = v.notes ++ note_after v steps b ∷ [];
+    tickets = w.tickets;
+  }
 
--- what a try at an end answers
-abbrev pub ResignedAs : ℕ → Option Blame → (steps : ℕ) → View → Tried → View → Type 0
-ResignedAs o b steps v tried.Done w = Ended o b steps v w
-ResignedAs o b steps v (tried.Busy n) w = IsBusy n o v w
+-- all that the pass had was handed in: the roll's slot showed this, and the pass knows whether anything may still come
+pub record HandedIn (o : ℕ) (v w : View) : Type 0 where
+  pub roll : TallyView
+  pub counts : worth v ≤ roll.due
+  pub after : w ≡ record (saw_roll o roll v) { tickets = 0; notes = []; over = v.over || is_settled (received (worth v) v.notes roll) }
+
+-- what a try at a creation answers
+abbrev pub EnrolledAs : ℕ → (steps : ℕ) → View → Tried → View → Type 0
+EnrolledAs o steps v tried.Done w = Bore steps v w
+EnrolledAs o steps v (tried.Busy n) w = IsBusy n o v w
+
+-- a pass got tickets
+pub record Restocked (o : ℕ) (v w : View) : Type 0 where
+  pub roll : TallyView
+  pub after : w ≡ record (saw_roll o roll v) { tickets = v.tickets + stock }
+
+-- what a try to get tickets answers
+abbrev pub RestockedAs : ℕ → View → Tried → View → Type 0
+RestockedAs o v tried.Done w = Restocked o v w
+RestockedAs o v (tried.Busy n) w = IsBusy n o v w
+
+-- a pass has tickets for a creation, and may have got some
+abbrev pub ProvidedAs : ℕ → View → Tried → View → Type 0
+ProvidedAs o v tried.Done w = (2 < w.tickets) × ((w ≡ v) ⊎ Restocked o v w)
+ProvidedAs o v (tried.Busy n) w = IsBusy n o v w
+
+-- a pass has nothing to hand in
+abbrev pub Empty : View → Type 0
+Empty v = worth v ≡ 0
+
+-- what a try to hand in answers: where there is nothing to hand in, none was made
+abbrev pub HandedInAs : ℕ → View → Tried → View → Type 0
+HandedInAs o v tried.Done w = (Empty v × (w ≡ v)) ⊎ HandedIn o v w
+HandedInAs o v (tried.Busy n) w = IsBusy n o v w
 
 -- a pass whose task has ended
 pub record IsGone (v : View) : Type 0 where

@@ -5,6 +5,8 @@ use Rattle.jade_base.specs.Held.{Held}
 use Rattle.jade_base.specs.contracts.content.Content as content
 use Rattle.jade_base.specs.declared.report.Report.{Report}
 use Rattle.jade_base.specs.contracts.report.Report as report
+use Rattle.task_roll.specs.declared.note.PartNote.{PartNote}
+use Rattle.task_roll.specs.contracts.note.PartNote as note
 use Rattle.jade_syntax.specs.declared.tree.Program.{Program}
 use Rattle.jade_syntax.specs.contracts.tree.Program as tree
 use Rattle.jade_meaning.specs.Walks.{Walk}
@@ -33,12 +35,19 @@ coded_seat =
 abbrev pub coded_holds : Coded (List (Option Held))
 coded_holds = coded_list (coded_option content.the_row.coded)
 
+-- what a pass has of what may still come
+abbrev Hand : Type 0
+Hand = Bool × (ℕ × List PartNote)
+
+abbrev coded_hand : Coded Hand
+coded_hand = coded× coded_bool (coded× coded_ℕ (coded_list note.the_row.coded))
+
 -- a task's side of what a pass shows
 abbrev Side : Type 0
-Side = RunPlan × (Bool × (Option Seat × (Seat × (List (Option Held) × Bool))))
+Side = RunPlan × (Bool × (Option Seat × (Seat × (List (Option Held) × Hand))))
 
 abbrev coded_side : Coded Side
-coded_side = coded× coded_plan (coded× coded_bool (coded× (coded_option coded_seat) (coded× coded_seat (coded× coded_holds coded_bool))))
+coded_side = coded× coded_plan (coded× coded_bool (coded× (coded_option coded_seat) (coded× coded_seat (coded× coded_holds coded_hand))))
 
 -- and the table's
 abbrev Tries : Type 0
@@ -54,7 +63,9 @@ view_of p = record {
   unborn = p.0.1.1.0;
   seat = p.0.1.1.1.0;
   held = p.0.1.1.1.1.0;
-  over = p.0.1.1.1.1.1;
+  over = p.0.1.1.1.1.1.0;
+  tickets = p.0.1.1.1.1.1.1.0;
+  notes = p.0.1.1.1.1.1.1.1;
   turn = p.1.0;
   tries = p.1.1.0;
   place = p.1.1.1.0;
@@ -66,7 +77,7 @@ view_of p = record {
 abbrev pub coded_view : Coded View
 coded_view =
     code_by (Side × Tries) (coded× coded_side coded_tries)
-    (λ v. ((v.key, (v.live, (v.unborn, (v.seat, (v.held, v.over))))), (v.turn, (v.tries, (v.place, (v.word, v.note)))))) view_of (λ _. refl)
+    (λ v. ((v.key, (v.live, (v.unborn, (v.seat, (v.held, (v.over, (v.tickets, v.notes))))))), (v.turn, (v.tries, (v.place, (v.word, v.note)))))) view_of (λ _. refl)
 
 -- of a pass, and of a table
 abbrev pub coded_pass : Coded Pass

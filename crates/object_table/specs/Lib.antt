@@ -1,3 +1,5 @@
+pub mod Bags
+pub mod Notes
 pub mod Tallies
 pub mod Views
 pub mod Codes

@@ -1,5 +1,5 @@
 -- What the steps on the words tell.
-use Rattle.std.specs.Prelude.{◌≡◌, ◌≢◌, ℕ, suc, Bool, true, false, ◌||◌, List, [], ◌∷◌, ◌++◌, Option, Some, None, ℤ}
+use Rattle.std.specs.Prelude.{◌≡◌, ◌≢◌, ℕ, suc, ◌+◌, ◌-◌, ◌≤◌, Bool, true, false, ◌||◌, List, [], ◌∷◌, ◌++◌, length, Option, Some, None, ℤ}
 use Rattle.atomic_table.specs.Table as table
 use Rattle.atomic_table.specs.Table.{Me, Step}
 use Rattle.jade_base.specs.Held.{Held}
@@ -12,14 +12,15 @@ use Rattle.object_shelf.specs.Homes.{hand_in}
 use Rattle.schedule_core.specs.declared.steps.Seat.{Seat}
 use Rattle.task_roll.specs.declared.note.PartNote.{PartNote}
 use Rattle.schedule_core.specs.Plain.{Reached, seat_after, Born}
-use Rattle.object_table.specs.Views.{word_of, View, part_of, bare, core_notes}
+use Rattle.object_table.specs.Tallies.{TallyView, stock, most, share, is_settled}
+use Rattle.object_table.specs.Views.{word_of, View, part_of, core_notes, worth}
 use Rattle.object_table.specs.Touches.{put_held, is_touch, passed, all_touches}
 use Rattle.object_table.specs.Rule.{Agrees}
 use Rattle.object_table.specs.declared.slot.Slot.{Slot}
 use Rattle.object_table.specs.declared.slot.Slot.TheVariants as slot
 
 -- seats, objects and notes that core events reach, among which the pass's seat stands and agrees with what the pass holds, and of which a slot
--- of so many shows this
+-- of so many shows this, beside a tally
 pub record Told (slots : ℕ) (v : View) (o : ℕ) (y : Slot) : Type 0 where
   pub objects : ℕ
   pub sized : slots ≡ suc objects
@@ -28,9 +29,17 @@ pub record Told (slots : ℕ) (v : View) (o : ℕ) (y : Slot) : Type 0 where
   pub back : List Seat
   pub shelves : List ObjectView
   pub notes : List PartNote
+  pub tally : TallyView
   pub reached : Reached v.key.program v.key.numbers v.key.limit count (front ++ (v.seat ∷ back)) shelves (core_notes notes)
   pub agrees : Agrees v.seat.path shelves v.held
-  pub shows : y ≡ part_of objects o (front ++ (v.seat ∷ back)) shelves notes
+  pub shows : y ≡ part_of objects o tally shelves
+
+-- the roll's slot shows a tally that counts what the pass has, and has room for it
+pub record ToldRoll (v : View) (y : Slot) : Type 0 where
+  pub tally : TallyView
+  pub shows : y ≡ slot.Roll tally
+  pub counts : worth v ≤ tally.due
+  pub room : tally.due + length tally.notes ≤ most
 
 -- one try more, at a place where this word was read
 abbrev pub tried_at : (place word : ℕ) → View → View
@@ -43,7 +52,7 @@ in_turn o y v = record v { turn = true; tries = suc v.tries; place = o; word = 0
 -- a try at a place: the pass gets the turn and the slot, or found that another has it
 abbrev pub tried_there : (slots o : ℕ) → Me Slot View → ℕ → Me Slot View → Type 0
 tried_there slots o m r m' =
-    (r ≡ 0 → (y : Slot) × (m' ≡ (in_turn o y m.0, (o, bare y) ∷ m.1)) × (m.0.live ≡ true → Told slots m.0 o y))
+    (r ≡ 0 → (y : Slot) × (m' ≡ (in_turn o y m.0, (o, y) ∷ m.1)) × (m.0.live ≡ true → Told slots m.0 o y) × (slots ≡ suc o → ToldRoll m.0 y))
     × (r ≢ 0 → (r ≡ 1) × (m' ≡ (tried_at o 1 m.0, m.1)))
 
 -- a try at the word of a place
@@ -93,49 +102,72 @@ pub record Ahead (k : ℕ) (e : Event) (v : View) : Type 0 where
 abbrev pub left_done : Step Slot → Me Slot View → ℕ → Me Slot View → Type 0
 left_done st m r m' = ((k : ℕ) (e : Event) → Ahead k e m.0 → m'.0 ≡ did e (passed k m.0)) × (m'.1 ≡ table.rest m.1)
 
+-- the note of a part of so many steps that a task ends, with this fault, if with one
+abbrev pub note_after : View → (steps : ℕ) → Option Blame → PartNote
+note_after v n b = record { path = v.seat.path; children = v.seat.children; steps = n; blame = b }
+
+-- a ticket is spent on a note
+abbrev pub noting : PartNote → View → View
+noting x v = record v { tickets = v.tickets - 1; notes = v.notes ++ x ∷ [] }
+
 -- a child with this seat is enrolled, which has no pass yet
-abbrev pub bore : Seat → View → View
-bore kid v =
-    record v {
+abbrev pub bore : (steps : ℕ) → Seat → View → View
+bore n kid v =
+    record (noting (note_after v n None) v) {
       seat = record v.seat { walker = moved None v.seat.walker; children = suc v.seat.children };
       unborn = Some kid;
-      turn = false;
     }
 
--- the turn at the roll is left with the pass's touches and then a creation done
-abbrev pub left_enrolled : Step Slot → Me Slot View → ℕ → Me Slot View → Type 0
-left_enrolled st m r m' =
-    ((k : ℕ) (t : Task) (n : ℕ) → Ahead k (Enroll t n) m.0 → (kid : Seat) × Born (passed k m.0).seat kid m'.0.seat × (m'.0 ≡ bore kid (passed k m.0)))
-    × (m'.1 ≡ table.rest m.1)
+-- the pass's touches and then a creation are done, at no word of its own; for its notes there is room
+abbrev pub did_enroll : Step Slot → Me Slot View → ℕ → Me Slot View → Type 0
+did_enroll st m r m' =
+    ((k : ℕ) (t : Task) (n : ℕ) → Ahead k (Enroll t n) m.0
+    → (kid : Seat) × Born (passed k m.0).seat kid m'.0.seat × (m'.0 ≡ bore n kid (passed k m.0)) × (worth m'.0 ≤ most))
+    × (m'.1 ≡ m.1)
 
--- no task is live
-abbrev pub nobody : List (List ℕ) → Bool
-nobody [] = true
-nobody (p ∷ ps) = false
+-- a task has ended
+abbrev pub gone : Option Blame → (steps : ℕ) → View → View
+gone b n v = record (noting (note_after v n b) v) { live = false; seat = seat_after None v.seat }
 
--- the same of a slot's value
-abbrev pub is_deserted : Slot → Bool
-is_deserted (slot.Roll r) = nobody r.live
-is_deserted slot.Away = false
-is_deserted (slot.Object x) = false
+-- the pass's touches and then its end are done, at no word of its own; for its notes there is room
+abbrev pub did_resign : Step Slot → Me Slot View → ℕ → Me Slot View → Type 0
+did_resign st m r m' =
+    ((k : ℕ) (b : Option Blame) (n : ℕ) → Ahead k (Resign b n) m.0 → (m'.0 ≡ gone b n (passed k m.0)) × (worth m'.0 ≤ most)) × (m'.1 ≡ m.1)
 
--- and of the one that a pass took last
-abbrev pub deserted_in : List (ℕ × Slot) → Bool
-deserted_in [] = false
-deserted_in (x ∷ xs) = is_deserted x.1
+-- nothing is done; for what the pass has there is room
+abbrev pub looked : Step Slot → Me Slot View → ℕ → Me Slot View → Type 0
+looked st m r m' = (m' ≡ m) × (worth m.0 ≤ most)
 
--- a task has ended, and the roll was left empty by it or not
-abbrev pub gone : Bool → View → View
-gone last v = record v { live = false; seat = seat_after None v.seat; over = last; turn = false }
+-- more tickets
+abbrev pub supplied : View → View
+supplied v = record v { tickets = v.tickets + stock; turn = false }
 
--- the turn at the roll is left with the pass's touches and then its end done
-abbrev pub left_resigned : Step Slot → Me Slot View → ℕ → Me Slot View → Type 0
-left_resigned st m r m' =
-    ((k : ℕ) (b : Option Blame) (n : ℕ) → Ahead k (Resign b n) m.0 → m'.0 ≡ gone (deserted_in m.1) (passed k m.0)) × (m'.1 ≡ table.rest m.1)
+-- the turn at the roll is left with more tickets
+abbrev pub left_restocked : Step Slot → Me Slot View → ℕ → Me Slot View → Type 0
+left_restocked st m r m' = m' ≡ (supplied m.0, table.rest m.1)
 
--- a pass whose child that it enrolled last has its pass
+-- whether a slot's value says that nothing may still come
+abbrev pub is_all_in : Slot → Bool
+is_all_in (slot.Roll r) = is_settled r
+is_all_in slot.Away = false
+is_all_in (slot.Object x) = false
+
+-- and that of the one that a pass took last
+abbrev pub all_in : List (ℕ × Slot) → Bool
+all_in [] = false
+all_in (x ∷ xs) = is_all_in x.1
+
+-- a pass has handed in all that it had, with which nothing may still come, or something may
+abbrev pub relieved : Bool → View → View
+relieved last v = record v { tickets = 0; notes = []; over = v.over || last; turn = false }
+
+-- the turn at the roll is left with all that the pass had handed in
+abbrev pub left_relieved : Step Slot → Me Slot View → ℕ → Me Slot View → Type 0
+left_relieved st m r m' = m' ≡ (relieved (all_in m.1) m.0, table.rest m.1)
+
+-- a pass whose child that it enrolled last has its pass, and its share of the tickets
 abbrev pub without_kid : View → View
-without_kid v = record v { unborn = None }
+without_kid v = record v { unborn = None; tickets = v.tickets - share v.tickets }
 
 -- what the pass of a child with this seat shows at first
 abbrev pub kid_view : Option Seat → View → View
@@ -148,6 +180,8 @@ kid_view (Some s) v =
       seat = s;
       held = [];
       over = false;
+      tickets = share v.tickets;
+      notes = [];
       turn = false;
       tries = 0;
       place = 0;
@@ -155,9 +189,9 @@ kid_view (Some s) v =
       note = slot.Away;
     }
 
--- a resigned pass takes another in, and knows what either knew of the end
+-- a pass whose task has ended takes another in, with what it has and what it knows of the end
 abbrev pub joined : View → View → View
-joined v w = record v { over = v.over || w.over }
+joined v w = record v { over = v.over || w.over; tickets = v.tickets + w.tickets; notes = v.notes ++ w.notes }
 
 -- what is left of a pass that was taken into another
 abbrev pub spent_view : View
@@ -172,6 +206,8 @@ spent_view = record {
   };
   held = [];
   over = false;
+  tickets = 0;
+  notes = [];
   turn = false;
   tries = 0;
   place = 0;

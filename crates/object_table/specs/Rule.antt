@@ -1,5 +1,5 @@
 -- The rule of the table: words, slots at home and passes show a core that events reach.
-use Rattle.std.specs.Prelude.{◌≡◌, ◌≢◌, ℕ, suc, ◌+◌, ◌*◌, ◌<◌, true, false, List, [], ◌∷◌, ◌++◌, map, length, slice_index, Option, Some, None}
+use Rattle.std.specs.Prelude.{◌≡◌, ◌≢◌, ℕ, suc, ◌+◌, ◌*◌, ◌<◌, ◌≤◌, true, false, List, [], ◌∷◌, ◌++◌, map, length, slice_index, Option, Some, None}
 use mathlib.Core.Option.{some}
 use lib.ListN.{get_elem?}
 use Rattle.atomic_table.specs.Table as table
@@ -10,11 +10,11 @@ use Rattle.object_shelf.specs.declared.queue.Entry.{Entry}
 use Rattle.object_shelf.specs.Views.{ObjectView}
 use Rattle.object_shelf.specs.Shelves.{find, takes_out}
 use Rattle.schedule_core.specs.declared.steps.Seat.{Seat}
-use Rattle.task_roll.specs.declared.note.PartNote.{PartNote}
 use Rattle.schedule_core.specs.ByNumber.{shelf_at}
 use Rattle.schedule_core.specs.Plain.{Reached, root_seat}
 use Rattle.jade_meaning.specs.Plan.{RunPlan}
-use Rattle.object_table.specs.Views.{count_of, word_of, View, part_of, bare, core_notes}
+use Rattle.object_table.specs.Tallies.{TallyView, stock, most}
+use Rattle.object_table.specs.Views.{count_of, word_of, View, part_of, core_notes, worth, worths, gathered}
 use Rattle.object_table.specs.Touches.{held_at}
 use Rattle.object_table.specs.declared.slot.Slot.{Slot}
 use Rattle.object_table.specs.declared.slot.Slot.TheVariants as slot
@@ -62,13 +62,19 @@ pub data Owned (views : List View) (x : ℕ) : Type 0 where
   by_pass : (id : ℕ) (v : View) → get_elem? views id ≡ some v → v.live ≡ true → x ≡ pass_of id → Owned views x
   by_maker : (id : ℕ) (v : View) (kid : Seat) → get_elem? views id ≡ some v → v.unborn ≡ Some kid → x ≡ kid_of id → Owned views x
 
--- a pass shows its seat on the roll and the contents that its task holds
+-- a pass shows its seat on the roll and the contents that its task holds, and has a ticket for it, and one for a child that has no pass yet
 pub record Sits (owners : List ℕ) (seats : ℕ → Seat) (ss : List ObjectView) (id : ℕ) (v : View) : Type 0 where
   pub live : v.live ≡ true → OnRoll owners seats (pass_of id) v.seat
   pub held : v.live ≡ true → Agrees v.seat.path ss v.held
   pub unborn : (kid : Seat) → v.unborn ≡ Some kid → OnRoll owners seats (kid_of id) kid
   pub unheld : (kid : Seat) → v.unborn ≡ Some kid → Agrees kid.path ss []
-  pub over : v.over ≡ true → owners ≡ []
+  pub fed : v.live ≡ true → 0 < v.tickets
+  pub feeds : (kid : Seat) → v.unborn ≡ Some kid → 1 < v.tickets
+
+-- what may still come is what passes have, and for all notes there is room
+pub record Accounts (r : TallyView) (views : List View) : Type 0 where
+  pub due : r.due ≡ worths views
+  pub room : r.due + length r.notes ≤ most
 
 module _ (n : ℕ) where
   -- a pass with a turn holds the word of its place, and found there what that part is still
@@ -80,7 +86,7 @@ module _ (n : ℕ) where
 
   -- a word is free, and its slot shows its part, or one pass has a turn there
   pub data PlaceOk (s : table.State Slot View) (holder : ℕ → ℕ) (parts : ℕ → Slot) (o : ℕ) : Type 0 where
-    free : (y : Slot) → slice_index s.words (word_of o) ≡ 0 → get_elem? s.homes o ≡ some (some y) → y ≡ bare (parts o) → PlaceOk s holder parts o
+    free : (y : Slot) → slice_index s.words (word_of o) ≡ 0 → get_elem? s.homes o ≡ some (some y) → y ≡ parts o → PlaceOk s holder parts o
     taken : (v : View) → slice_index s.words (word_of o) ≡ 1 → get_elem? s.views (holder o) ≡ some v → v.turn ≡ true → v.place ≡ o → PlaceOk s holder parts o
 
   pub record SeatOk (words : List ℕ) (owners : List ℕ) (seats : ℕ → Seat) (holder : ℕ → ℕ) (ss : List ObjectView) (parts : ℕ
@@ -88,7 +94,7 @@ module _ (n : ℕ) where
     pub plan : v.live ≡ true → v.key ≡ key
     pub sits : Sits owners seats ss id v
     pub turn : v.turn ≡ true → TurnOk words holder parts id v
-    pub busy : v.turn ≡ true → v.live ≡ true
+    pub busy : v.turn ≡ true → 0 < worth v
 
   -- words, slots at home and passes show seats, objects and notes that core events reach
   pub record Shown (key : RunPlan) (s : table.State Slot View) : Type 0 where
@@ -96,15 +102,17 @@ module _ (n : ℕ) where
     pub owners : List ℕ
     pub seats : ℕ → Seat
     pub shelves : List ObjectView
-    pub told : List PartNote
+    pub tally : TallyView
     pub holder : ℕ → ℕ
-    pub reached : Reached key.program key.numbers key.limit count (map seats owners) shelves (core_notes told)
+    pub reached : Reached key.program key.numbers key.limit count (map seats owners) shelves (core_notes (gathered tally s.views))
+    pub accounts : Accounts tally s.views
+    pub settled : (id : ℕ) (v : View) → get_elem? s.views id ≡ some v → v.over ≡ true → tally.due ≡ 0
     pub wide : length s.words ≡ word_of (suc n)
     pub deep : length s.homes ≡ suc n
     pub passes : (id : ℕ) (v : View) → get_elem? s.views id ≡ some v
-        → SeatOk s.words owners seats holder shelves (λ o. part_of n o (map seats owners) shelves told) key id v
+        → SeatOk s.words owners seats holder shelves (λ o. part_of n o tally shelves) key id v
     pub only : Every (Owned s.views) owners
-    pub places : (o : ℕ) → o < suc n → PlaceOk s holder (λ o. part_of n o (map seats owners) shelves told) o
+    pub places : (o : ℕ) → o < suc n → PlaceOk s holder (λ o. part_of n o tally shelves) o
 
 -- the rule
 abbrev pub Ruled : RunPlan → table.State Slot View → Type 0
@@ -119,6 +127,8 @@ first_view key = record {
   seat = root_seat key.program key.numbers key.limit;
   held = [];
   over = false;
+  tickets = stock;
+  notes = [];
   turn = false;
   tries = 0;
   place = 0;

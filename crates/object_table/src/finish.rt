@@ -64,6 +64,8 @@ fn close<'c>(
         seat,
         path: _,
         spare: _,
+        tickets: _,
+        notes: _,
         children: _,
         events: _,
         touched: _,
@@ -110,7 +112,7 @@ fn report_in(alloc: Global, slots: Vec<Slot>, roll: Slot) -> Result<Report, Memo
     ensures { IfOk result (λ r. r ≡ told_of (map cells_in slots.items) (by_key (notes_in roll))) }
 {
     let objects = contents_of(alloc, slots.as_slice())?;
-    let notes = notes_of(alloc, roll);
+    let notes = notes_of(alloc, roll)?;
     let report = report_of(alloc, objects, notes)?;
     Ok(report)
 }
@@ -145,12 +147,12 @@ fn cells_of(alloc: Global, slot: &Slot) -> Result<Numbers, Memory>
 }
 
 // The notes in a slot.
-fn notes_of(alloc: Global, slot: Slot) -> Vec<PartNote>
-    ensures { result.items ≡ notes_in slot }
+fn notes_of(alloc: Global, slot: Slot) -> Result<Vec<PartNote>, Memory>
+    ensures { IfOk result (λ notes. notes.items ≡ notes_in slot) }
 {
     match slot {
-        Slot::Roll(tally) => tally.into_notes(),
-        Slot::Away => Vec::new(alloc),
-        Slot::Object(_) => Vec::new(alloc),
+        Slot::Roll(tally) => tally.into_notes(alloc),
+        Slot::Away => Ok(Vec::new(alloc)),
+        Slot::Object(_) => Ok(Vec::new(alloc)),
     }
 }

@@ -3,6 +3,7 @@
 
 mod answers;
 mod finish;
+mod notes;
 mod pass;
 mod ran;
 mod slot;

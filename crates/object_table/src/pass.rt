@@ -12,8 +12,8 @@ use std::marker::Model;
 /// The token of one task: whoever has it does the task's events. Contracts see the table that it is
 /// of and what it shows: its task's seat, with the path, the values read and the events done, and
 /// the contents that it holds; whether the task is live, and whether the child that it enrolled last
-/// has no pass yet; its tries, and of the last one the object, the word read and what the slot
-/// showed; and whether it knows that the roll was left empty.
+/// has no pass yet; its tickets, and the notes that it has in hand; its tries, and of the last one the
+/// object, the word read and what the slot showed; and whether it knows that nothing may still come.
 #[derive(Drop)]
 pub struct TaskPass {
     pub(crate) task: Task,
@@ -60,7 +60,8 @@ impl TaskPass {
         self.task.events
     }
 
-    /// Whether it left the roll empty, or a pass taken into it did. It takes no memory.
+    /// Whether nothing may still come: all tickets and notes are in, with what it handed in, or with
+    /// what a pass that was taken into it did. It takes no memory.
     pub fn over(&self) -> bool
         ensures { result ≡ self.now.shows.over }
     {

@@ -8,18 +8,20 @@ ghost use Rattle.object_table.specs.Views.{count_of, word_of};
 ghost use Rattle.object_table.specs.Rule.{first_view};
 ghost use Rattle.object_table.specs.Touches.{held_at, put_held};
 ghost use Rattle.object_table.specs.Plays.{without_kid, kid_view, joined};
-ghost use Rattle.object_table.specs.Calls.{Next, TakenAs, TriedAs, EnrolledAs, ResignedAs, AsBefore, Did, IsBusy, IsGone};
+ghost use Rattle.object_table.specs.Calls.{Next, TakenAs, TriedAs, EnrolledAs, HandedInAs, AsBefore, Did, Ended, IsBusy, IsGone};
 ghost use Rattle.object_table.specs.steps.Kept.{FirstSlots, start_slots};
 
 use crate::answers::{Taken, Tried};
 use crate::finish::finish_with;
+use crate::notes::{Notes, SpareNote};
 use crate::pass::TaskPass;
 use crate::ran::Ran;
 use crate::slot::Slot;
-use crate::tally::Tally;
+use crate::tally::{STOCK, Tally};
 use crate::task::Task;
 use crate::turns::{
-    enroll_at, enter_at, give_at, leave_at, resign_at, shift_at, split_off, take_at, take_in,
+    enroll_at, enter_at, give_at, hand_in_at, leave_at, resign_at, shift_at, split_off, take_at,
+    take_in,
 };
 use crate::view::{Bearing, Joining, Sharing, View};
 use atomic_table::Table;
@@ -31,7 +33,10 @@ use std::marker::Model;
 
 /// The objects of one run. Threads share it, and each task has a pass. There is one word and one
 /// slot for each object, with its shelf, and one for the roll. No call waits: each makes one try at
-/// one word.
+/// one word at most. Creations and ends are done at no word: a pass has the notes of the parts that
+/// its task has ended, and tickets for those that may still come, of which a child gets a share. What
+/// resigned passes have is handed in at the roll's word; when no ticket and no note is out, all is
+/// over.
 #[derive(Drop)]
 pub struct ObjectTable<'c> {
     table: Table<Slot, View, Plan<'c>, Sharing, Global>,
@@ -64,7 +69,7 @@ fn first_slots(alloc: Global, root: &Path, plan: &Plan) -> Result<Vec<Slot>, Mem
     ensures { IfOk result (λ slots. FirstSlots (sizes plan.now.program.items) slots.items) }
 {
     let mut slots = first_objects(alloc, root, plan)?;
-    let tally = Tally::start(alloc)?;
+    let tally = Tally::start(alloc);
     slots.push(Slot::Roll(tally))?;
     Ok(slots)
 }
@@ -104,7 +109,7 @@ impl<'c> ObjectTable<'c> {
         ensures pass { IfOk result (λ r. (r.1.mark ≡ r.0.mark) × (r.1.shows ≡ first_view plan.now)) }
     {
         let path = Path::root(alloc)?;
-        let spare = path.copy(alloc)?;
+        let spare = SpareNote::of(alloc, &path)?;
         let slots = first_slots(alloc, &path, plan)?;
         let words = Vec::from_elem(alloc, 0, words_for(slots.len())?)?;
         match Table::new(alloc, words.as_slice(), slots, plan) {
@@ -113,6 +118,8 @@ impl<'c> ObjectTable<'c> {
                     seat,
                     path,
                     spare: Some(spare),
+                    tickets: STOCK,
+                    notes: Notes::none(alloc),
                     children: 0,
                     events: 0,
                     touched: 0,
@@ -236,14 +243,15 @@ impl<'c> ObjectTable<'c> {
         self.table.slot_count() - 1
     }
 
-    /// One try to put the next child on the roll, which is the pass's next event; the part that ends
-    /// with it has so many steps. The child then has its seat, and `split` makes its pass. The error
-    /// is want of memory, and leaves the pass and the objects as before.
+    /// The creation of the next child, which is the pass's next event; the part that ends with it has
+    /// so many steps, and the pass has a note of it. The child then has its seat, and `split` makes its
+    /// pass. No word is tried for it, but where the pass wants tickets: then it is one try to get them,
+    /// at the roll's. The error is want of memory, and leaves the pass and the objects as before.
     pub fn enroll(&self, alloc: Global, pass: &mut TaskPass, steps: u64) -> Result<Tried, Memory>
         requires mark { pass.old.mark ≡ self.now.mark }
         requires next { (t : TaskOf) × Next (Enroll t steps) pass.old.shows }
         ensures mark { pass.new.mark ≡ pass.old.mark }
-        ensures answer { IfOk result (λ r. EnrolledAs (count_of self.now.plan) pass.old.shows r pass.new.shows) }
+        ensures answer { IfOk result (λ r. EnrolledAs (count_of self.now.plan) steps pass.old.shows r pass.new.shows) }
         ensures unchanged { OnErr result (AsBefore pass.old.shows pass.new.shows) }
     {
         let place = self.roll_place();
@@ -265,20 +273,20 @@ impl<'c> ObjectTable<'c> {
         Ok(TaskPass { task })
     }
 
-    /// One try to end the task, which is the pass's last event; its last part has so many steps, and
-    /// it ended with this fault, if with one. Where it leaves the roll empty, the pass knows from then
-    /// on that all is over. It takes no memory.
-    pub fn resign(&self, pass: &mut TaskPass, blame: Option<Blame>, steps: u64) -> Tried
+    /// The task's end, which is the pass's last event; its last part has so many steps, and it ended
+    /// with this fault, if with one. The pass has a note of it. No word is tried for it, and it takes
+    /// no memory.
+    pub fn resign(&self, pass: &mut TaskPass, blame: Option<Blame>, steps: u64)
         requires mark { pass.old.mark ≡ self.now.mark }
         requires next { Next (Resign blame steps) pass.old.shows }
         ensures mark { pass.new.mark ≡ pass.old.mark }
-        ensures answer { ResignedAs (count_of self.now.plan) blame steps pass.old.shows result pass.new.shows }
+        ensures done { Ended blame steps pass.old.shows pass.new.shows }
     {
-        let place = self.roll_place();
-        resign_at(&self.table.shared, &mut pass.task, place, blame, steps)
+        resign_at(&self.table.shared, &mut pass.task, blame, steps);
     }
 
-    /// Takes one resigned pass into another; what either knew of the end is kept. It takes no memory.
+    /// Takes one resigned pass into another, with its tickets and notes; what either knew of the end is
+    /// kept. No word is tried for it, and it takes no memory.
     pub fn end(&self, keeper: &mut TaskPass, ended: TaskPass)
         requires mark { (keeper.old.mark ≡ self.now.mark) × (ended.mark ≡ self.now.mark) }
         requires gone { IsGone keeper.old.shows × IsGone ended.shows }
@@ -287,6 +295,21 @@ impl<'c> ObjectTable<'c> {
     {
         let TaskPass { task } = ended;
         take_in(&self.table.shared, &mut keeper.task, task);
+    }
+
+    /// One try to hand in all tickets and notes of a resigned pass, at the roll's word; it is no event.
+    /// Where nothing may come any more after it, no task is live, all notes were handed in, and the pass
+    /// knows from then on that all is over. Where the pass has nothing to hand in, no word is tried. It
+    /// takes no memory.
+    pub fn hand_in(&self, pass: &mut TaskPass) -> Tried
+        requires mark { pass.old.mark ≡ self.now.mark }
+        requires gone { IsGone pass.old.shows }
+        ensures mark { pass.new.mark ≡ pass.old.mark }
+        ensures gone { IsGone pass.new.shows }
+        ensures answer { HandedInAs (count_of self.now.plan) pass.old.shows result pass.new.shows }
+    {
+        let place = self.roll_place();
+        hand_in_at(&self.table.shared, &mut pass.task, place)
     }
 
     /// What the run did, once a pass knows that all is over; the plan is the one that the table is of.

@@ -1,18 +1,22 @@
 //! What a pass has at run time.
 
+use crate::notes::{Notes, SpareNote};
 use crate::slot::Slot;
 use crate::view::View;
 use atomic_table::Seat;
 use jade_base::Path;
 
-/// The token of a task: its seat at the table, its path, the same once more for the note of its last
-/// part while it is live, how many children it made, how many of its events are done, how many
-/// touches of them came after the last other one, and whether its task left the roll empty.
+/// The token of a task: its seat at the table, its path, the room for the note of its last part while
+/// it is live, its tickets and the notes that it has in hand, how many children it made, how many of
+/// its events are done, how many touches of them came after the last other one, and whether it knows
+/// that nothing may still come.
 #[derive(Drop)]
 pub(crate) struct Task {
     pub(crate) seat: Seat<Slot, View>,
     pub(crate) path: Path,
-    pub(crate) spare: Option<Path>,
+    pub(crate) spare: Option<SpareNote>,
+    pub(crate) tickets: u64,
+    pub(crate) notes: Notes,
     pub(crate) children: u32,
     pub(crate) events: u64,
     pub(crate) touched: u64,

@@ -1,31 +1,34 @@
 //! Turns at the words, and what is done in them.
 
-ghost use Rattle.std.specs.Prelude.{◌≡◌, ◌<◌, ◌%◌, ◌+◌, ◌^◌, ◌∷◌, ◌++◌, ◌||◌, [], ℕ, true, false, None, Some, IfOk, IfErr, IsSome, OnOk, OnErr, MatchOption, length};
+ghost use Rattle.std.specs.Prelude.{◌≡◌, ◌<◌, ◌%◌, ◌+◌, ◌^◌, ◌∷◌, ◌++◌, ◌||◌, ◌≤◌, [], ℕ, true, false, None, Some, IfOk, IfErr, IsSome, OnOk, OnErr, MatchOption, length};
 ghost use mathlib.Core.Option.{none};
 ghost use Rattle.atomic_table.specs.Table.{Me, Step, step};
 ghost use Rattle.jade_meaning.specs.Talk.{Task as TaskOf, Take, Give, Enter, Enroll, Shift, Leave, Resign};
 ghost use Rattle.object_shelf.specs.Views.{ShelfView};
 ghost use Rattle.object_shelf.specs.Shelves.{keeper_in, at, without, entered_in, with_rights};
 ghost use Rattle.object_shelf.specs.Homes.{hand_in, handed, returned, on_queue};
-ghost use Rattle.task_roll.specs.Rolls.{RollView};
-ghost use Rattle.object_table.specs.Tallies.{one_more, one_fewer};
-ghost use Rattle.object_table.specs.Views.{word_of, bare};
-ghost use Rattle.object_table.specs.Plays.{tried_at, nobody, is_deserted, without_kid, joined};
+ghost use Rattle.object_table.specs.Tallies.{TallyView, most, restocked, received};
+ghost use Rattle.object_table.specs.Views.{word_of, worth};
+ghost use Rattle.object_table.specs.Plays.{tried_at, is_all_in, without_kid, joined};
 ghost use Rattle.object_table.specs.Touches.{held_at, put_held};
-ghost use Rattle.object_table.specs.Calls.{Next, TakenAs, TriedAs, EnrolledAs, ResignedAs, AsBefore, Did, Bore, Ended, IsBusy, IsGone};
+ghost use Rattle.object_table.specs.Calls.{Next, TakenAs, TriedAs, EnrolledAs, RestockedAs, ProvidedAs, Restocked, HandedInAs, HandedIn, AsBefore, Did, Bore, Ended, IsBusy, IsGone};
 ghost use Rattle.schedule_core.specs.declared.steps.Seat.{Seat as SeatOf};
-ghost use Rattle.object_table.specs.steps.Kept.{Rests, Fits, FitsRoll, Laid, InTurn, Leaves, Laws};
+ghost use Rattle.object_table.specs.steps.Kept.{Rests, Fits, FitsRoll, Laid, GotTurn, Leaves, Laws};
 ghost use Rattle.object_table.specs.steps.Kept.{shown, IsObject, IsRoll, IsKidOf, HandedAs, EnteredAs};
-ghost use Rattle.object_table.specs.steps.Leaving.{Begun, Ending, EndsWith, Desisted, Birth, Departure};
+ghost use Rattle.object_table.specs.steps.Leaving.{Begun, BegunRoll, Stocked, Ending, EndsWith, Desisted};
 ghost use Rattle.object_table.specs.declared.slot.Slot.{Slot as SlotOf};
 ghost use Rattle.object_table.specs.declared.task.Task.{Task as TaskState};
 ghost use Rattle.jade_meaning.specs.Plan.{RunPlan};
 
 use crate::answers::{Taken, Tried};
+use crate::notes::{Notes, SpareNote};
 use crate::slot::Slot;
-use crate::tally::Tally;
+use crate::tally::STOCK;
 use crate::task::Task;
-use crate::view::{Bearing, Desist, Enrolling, Finish, Joining, Resigning, Sharing, Try, View};
+use crate::view::{
+    Bearing, Desist, Enrolling, Finish, Joining, Looking, Relieving, Resigning, Restocking,
+    Sharing, Try, View,
+};
 use atomic_table::{Play, Seat, Shared};
 use jade_base::{Blame, Content, Memory, Mode, Path, Rights};
 use jade_meaning::Plan;
@@ -42,18 +45,21 @@ fn core_laws()
     schedule_core::laws::core_tells();
     schedule_core::laws::entries_are_there();
     schedule_core::laws::holders_are_live();
+    schedule_core::laws::notes_are_serial();
+    jade_meaning::laws::report_ascends();
 }
 
-// One try at a turn. The word of a place lies 16 words behind that of the one before, so that no two
+// One try at a turn, by a pass whose task is live or which has something to hand in. The word of a place lies 16 words behind that of the one before, so that no two
 // share a cache line of 64 bytes, nor a pair of such lines, which processors fetch together. The
 // first word of the table is that of no place, and nothing writes it: each split and each join of
 // passes reads it.
 pub(crate) fn take_turn(words: &Words, seat: &mut Seat<Slot, View>, place: usize) -> Result<(), u64>
     requires laid { Laid words.now.table_id words.now.key }
     requires table { (seat.old.table_id ≡ words.now.table_id) × (place < words.now.table_id.slots) }
-    requires rests { (seat.old.me.1 ≡ []) × (seat.old.me.0.turn ≡ false) × (seat.old.me.0.live ≡ true) }
+    requires rests { (seat.old.me.1 ≡ []) × (seat.old.me.0.turn ≡ false) }
+    requires ready { seat.old.me.0.live ≡ false → 0 < worth seat.old.me.0 }
     ensures mark { seat.new.table_id ≡ seat.old.table_id }
-    ensures got { IfOk result (λ _. (y : SlotOf) × InTurn words.now.table_id.slots place y (bare y) seat.old.me seat.new.me) }
+    ensures got { IfOk result (λ _. (y : SlotOf) × GotTurn words.now.table_id.slots place y seat.old.me seat.new.me) }
     ensures busy { IfErr result (λ n. (n ≡ 1) × (seat.new.me ≡ (tried_at place 1 seat.old.me.0, []))) }
 {
     let found = words.compare_exchange::<Try>(seat, place * 16 + 16, 0, 1);
@@ -83,6 +89,7 @@ fn settle(task: &mut Task)
     ensures seat { task.new.seat ≡ task.old.seat }
     ensures path { (task.new.path ≡ task.old.path) × (task.new.children ≡ task.old.children) × (task.new.over ≡ task.old.over) }
     ensures spare { task.new.spare ≡ task.old.spare }
+    ensures purse { (task.new.tickets ≡ task.old.tickets) × (task.new.notes ≡ task.old.notes) }
     ensures events { (task.new.touched ≡ 0) × (task.new.events ≡ (task.old.events + 1) % 2 ^ 64) }
 {
     task.events = task.events.wrapping_add(1);
@@ -96,7 +103,7 @@ fn begin(words: &Words, task: &mut Task, place: usize) -> Result<(), u64>
     requires rests { Rests task.old }
     requires live { (shown task.old).live ≡ true }
     ensures mark { task.new.seat.table_id ≡ task.old.seat.table_id }
-    ensures got { IfOk result (λ _. (y : SlotOf) × Begun words.now.table_id.slots place y (bare y) task.old task.new) }
+    ensures got { IfOk result (λ _. (y : SlotOf) × Begun words.now.table_id.slots place y y task.old task.new) }
     ensures over { IfErr result (λ _. Rests task.new) }
     ensures busy { IfErr result (λ n. IsBusy n place (shown task.old) (shown task.new)) }
 {
@@ -122,58 +129,143 @@ fn complete(words: &Words, task: &mut Task, object: usize)
 fn desist(words: &Words, task: &mut Task, place: usize)
     requires laid { Laid words.now.table_id words.now.key }
     requires table { (task.old.seat.table_id ≡ words.now.table_id) × (place < words.now.table_id.slots) }
-    requires begun { (before : TaskState) × (y : SlotOf) × Begun words.now.table_id.slots place y (bare y) before task.old }
+    requires begun { (before : TaskState) × (y : SlotOf) × Begun words.now.table_id.slots place y y before task.old }
     ensures mark { task.new.seat.table_id ≡ task.old.seat.table_id }
     ensures rests { Rests task.new }
-    ensures after { (before : TaskState) (y : SlotOf) → Begun words.now.table_id.slots place y (bare y) before task.old → Desisted place y before task.new }
+    ensures after { (before : TaskState) (y : SlotOf) → Begun words.now.table_id.slots place y y before task.old → Desisted place y before task.new }
 {
     leave_turn::<Desist>(words, &mut task.seat, place);
 }
 
-// The turn at the roll is left with the next child made, with which the task has made so many.
-fn bear(words: &Words, task: &mut Task, place: usize, children: u32)
+// One try at a turn at the roll's place, by a pass whose task is live or which has something to hand
+// in.
+fn begin_roll(words: &Words, task: &mut Task, place: usize) -> Result<(), u64>
+    requires fits { FitsRoll words.now.table_id words.now.key task.old place }
+    requires rests { Rests task.old }
+    requires ready { (shown task.old).live ≡ false → 0 < worth (shown task.old) }
+    ensures mark { task.new.seat.table_id ≡ task.old.seat.table_id }
+    ensures got { IfOk result (λ _. (r : TallyView) × BegunRoll place r (SlotOf.Roll r) task.old task.new) }
+    ensures over { IfErr result (λ _. Rests task.new) }
+    ensures busy { IfErr result (λ n. IsBusy n place (shown task.old) (shown task.new)) }
+{
+    take_turn(words, &mut task.seat, place)
+}
+
+// The turn at the roll is left with nothing done; what was found lies in the slot.
+fn desist_roll(words: &Words, task: &mut Task, place: usize)
     requires laid { Laid words.now.table_id words.now.key }
     requires table { (task.old.seat.table_id ≡ words.now.table_id) × (place < words.now.table_id.slots) }
-    requires birth { Birth words.now.key words.now.table_id.slots place task.old }
+    requires begun { (before : TaskState) × (r : TallyView) × BegunRoll place r (SlotOf.Roll r) before task.old }
+    ensures mark { task.new.seat.table_id ≡ task.old.seat.table_id }
+    ensures rests { Rests task.new }
+    ensures after { (before : TaskState) (r : TallyView) → BegunRoll place r (SlotOf.Roll r) before task.old → AsBefore (shown before) (shown task.new) }
+{
+    leave_turn::<Desist>(words, &mut task.seat, place);
+}
+
+// More tickets for a live task, by a turn at the roll. The error stands for more notes than there is
+// room for; it leaves the pass and the objects as before.
+fn restock(words: &Words, task: &mut Task, place: usize) -> Result<Tried, Memory>
+    requires fits { FitsRoll words.now.table_id words.now.key task.old place }
+    requires rests { Rests task.old }
+    requires live { (shown task.old).live ≡ true }
+    ensures mark { task.new.seat.table_id ≡ task.old.seat.table_id }
+    ensures rests { Rests task.new }
+    ensures answer { IfOk result (λ r. RestockedAs place (shown task.old) r (shown task.new)) }
+    ensures unchanged { OnErr result (AsBefore (shown task.old) (shown task.new)) }
+{
+    match begin_roll(words, task, place) {
+        Ok(()) => {}
+        Err(word) => return Ok(Tried::Busy(word)),
+    }
+    let slot = task.seat.slot_mut(&*words, place);
+    if !restock_in(slot) {
+        desist_roll(words, task, place);
+        return Err(Memory);
+    }
+    supply(words, task, place);
+    Ok(Tried::Done)
+}
+
+// A live task has tickets for a creation: one for the part that ends with it, one for the child, and
+// one for itself. Where it wants more, it is one try to get them.
+fn provide(words: &Words, task: &mut Task, place: usize) -> Result<Tried, Memory>
+    requires fits { FitsRoll words.now.table_id words.now.key task.old place }
+    requires rests { Rests task.old }
+    requires live { (shown task.old).live ≡ true }
+    ensures mark { task.new.seat.table_id ≡ task.old.seat.table_id }
+    ensures rests { Rests task.new }
+    ensures answer { IfOk result (λ r. ProvidedAs place (shown task.old) r (shown task.new)) }
+    ensures unchanged { OnErr result (AsBefore (shown task.old) (shown task.new)) }
+{
+    if task.tickets < 3 {
+        restock(words, task, place)
+    } else {
+        Ok(Tried::Done)
+    }
+}
+
+// The turn at the roll is left with more tickets, which the slot counts already.
+fn supply(words: &Words, task: &mut Task, place: usize)
+    requires fits { FitsRoll words.now.table_id words.now.key task.old place }
+    requires stocked { Stocked place task.old }
+    ensures mark { task.new.seat.table_id ≡ task.old.seat.table_id }
+    ensures rests { Rests task.new }
+    ensures done { (s : Stocked place task.old) → Restocked place (shown s.before) (shown task.new) }
+{
+    leave_turn::<Restocking>(words, &mut task.seat, place);
+    task.tickets += STOCK;
+}
+
+// A task's creation is done: its part that ends leaves a note, for which there is this room, and the
+// task has made so many children.
+fn bear(words: &Words, task: &mut Task, spare: SpareNote, children: u32, steps: u64)
+    requires laid { Laid words.now.table_id words.now.key }
+    requires mark { task.old.seat.table_id ≡ words.now.table_id }
+    requires rests { Rests task.old }
+    requires next { (t : TaskOf) × Next (Enroll t steps) (shown task.old) }
+    requires rich { 2 < task.old.tickets }
+    requires spare { spare ≡ task.old.path }
     requires count { children ≡ task.old.children + 1 }
     ensures mark { task.new.seat.table_id ≡ task.old.seat.table_id }
     ensures rests { Rests task.new }
-    ensures done { (b : Birth words.now.key words.now.table_id.slots place task.old) → Bore place (shown b.before) (shown task.new) }
+    ensures done { Bore steps (shown task.old) (shown task.new) }
 {
     core_laws();
-    leave_turn::<Enrolling>(words, &mut task.seat, place);
+    words.load::<Enrolling>(&mut task.seat, 0);
     settle(task);
+    task.tickets -= 1;
+    task.notes.push(spare, task.children, None, steps);
     task.children = children;
 }
 
-// The path that is kept for the last note.
-fn taken_out(spare: &mut Option<Path>) -> Path
+// The room that is kept for the last note.
+fn taken_out(spare: &mut Option<SpareNote>) -> SpareNote
     requires { IsSome spare.old }
     ensures { spare.old ≡ Some result }
 {
     match spare.take() {
-        Some(path) => path,
+        Some(note) => note,
         None => unreachable!(),
     }
 }
 
-// The task ends, in its turn at the roll, which is left empty or not.
-fn depart(words: &Words, task: &mut Task, place: usize, blame: Option<Blame>, steps: u64)
-    requires laid { Laid words.now.table_id words.now.key }
-    requires table { (task.old.seat.table_id ≡ words.now.table_id) × (place < words.now.table_id.slots) }
-    requires departure { Departure words.now.key words.now.table_id.slots place task.old blame steps }
+// All that the pass has is handed in, in its turn at the roll.
+fn relieve(words: &Words, task: &mut Task, place: usize)
+    requires fits { FitsRoll words.now.table_id words.now.key task.old place }
+    requires begun { (before : TaskState) × (r : TallyView) × BegunRoll place r (SlotOf.Roll r) before task.old × IsGone (shown before) }
     ensures mark { task.new.seat.table_id ≡ task.old.seat.table_id }
     ensures rests { Rests task.new }
-    ensures done { (p : Departure words.now.key words.now.table_id.slots place task.old blame steps)
-        → Ended place blame steps (shown p.before) (shown task.new) }
+    ensures done { (before : TaskState) (r : TallyView) → BegunRoll place r (SlotOf.Roll r) before task.old → IsGone (shown before)
+        → HandedIn place (shown before) (shown task.new) }
 {
     core_laws();
-    let path = taken_out(&mut task.spare);
+    let worth = task.tickets + task.notes.len() as u64;
     let slot = task.seat.slot_mut(&*words, place);
-    let over = one_fewer(slot, path, task.children, blame, steps);
-    leave_turn::<Resigning>(words, &mut task.seat, place);
-    settle(task);
-    task.over = over;
+    let last = receive_in(slot, worth, &mut task.notes);
+    leave_turn::<Relieving>(words, &mut task.seat, place);
+    task.tickets = 0;
+    task.over = either(task.over, last);
 }
 
 // What a shelf hands out, or the path that keeps the task from it.
@@ -280,42 +372,32 @@ fn enter_to(
     }
 }
 
-// A live task makes a child, and its part that ends leaves a note in the roll's slot.
-fn one_more(slot: &mut Slot, path: Path, children: u32, steps: u64) -> Result<(), Memory>
+// More tickets are out, if there is room for their notes.
+fn restock_in(slot: &mut Slot) -> bool
     requires { IsRoll slot.old }
-    ensures done { OnOk result ((r : RollView) → slot.old ≡ SlotOf.Roll r
-        → slot.new ≡ SlotOf.Roll (one_more (record { path = path; children = children; steps = steps; blame = None }) r)) }
-    ensures unchanged { OnErr result (slot.new ≡ slot.old) }
+    ensures done { (r : TallyView) → slot.old ≡ SlotOf.Roll r → result ≡ true
+        → (slot.new ≡ SlotOf.Roll (restocked r)) × ((restocked r).due + length r.notes ≤ most) }
+    ensures unchanged { result ≡ false → slot.new ≡ slot.old }
 {
     match slot {
-        Slot::Roll(tally) => tally.enroll(path, children, steps),
+        Slot::Roll(tally) => tally.restock(),
         Slot::Away => unreachable!(),
         Slot::Object(_) => unreachable!(),
     }
 }
 
-// A live task ends, and its last part leaves a note in the roll's slot; whether no task is live now.
-fn one_fewer(slot: &mut Slot, path: Path, children: u32, blame: Option<Blame>, steps: u64) -> bool
-    requires { (r : RollView) × (slot.old ≡ SlotOf.Roll r) × (0 < length r.live) }
-    ensures done { (r : RollView) → slot.old ≡ SlotOf.Roll r
-        → slot.new ≡ SlotOf.Roll (one_fewer (record { path = path; children = children; steps = steps; blame = blame }) r) }
-    ensures last { result ≡ is_deserted slot.new }
+// So many tickets and notes come in, with these notes among them; whether nothing may still come.
+fn receive_in(slot: &mut Slot, worth: u64, notes: &mut Notes) -> bool
+    requires { (r : TallyView) × (slot.old ≡ SlotOf.Roll r) × (worth ≤ r.due) × (r.due + length r.notes ≤ most) × (length notes.old ≤ worth) }
+    ensures done { (r : TallyView) → slot.old ≡ SlotOf.Roll r → slot.new ≡ SlotOf.Roll (received worth notes.old r) }
+    ensures notes { notes.new ≡ [] }
+    ensures last { result ≡ is_all_in slot.new }
 {
     match slot {
-        Slot::Roll(tally) => {
-            tally.resign(path, children, blame, steps);
-            is_over(tally)
-        }
+        Slot::Roll(tally) => tally.receive(worth, notes),
         Slot::Away => unreachable!(),
         Slot::Object(_) => unreachable!(),
     }
-}
-
-// Whether no task is live.
-fn is_over(tally: &Tally) -> bool
-    ensures { result ≡ nobody tally.now.live }
-{
-    tally.is_empty()
 }
 
 /// One try at a take.
@@ -452,7 +534,7 @@ pub(crate) fn enter_at(
     }
 }
 
-/// One try at the creation of the next child.
+/// The creation of the next child. Where the pass wants tickets for it, it is one try to get them.
 pub(crate) fn enroll_at(
     words: &Words,
     alloc: Global,
@@ -465,53 +547,67 @@ pub(crate) fn enroll_at(
     requires next { (t : TaskOf) × Next (Enroll t steps) (shown task.old) }
     ensures mark { task.new.seat.table_id ≡ task.old.seat.table_id }
     ensures rests { Rests task.new }
-    ensures answer { IfOk result (λ r. EnrolledAs place (shown task.old) r (shown task.new)) }
+    ensures answer { IfOk result (λ r. EnrolledAs place steps (shown task.old) r (shown task.new)) }
     ensures unchanged { OnErr result (AsBefore (shown task.old) (shown task.new)) }
 {
     let children = match task.children.checked_add(1) {
         Some(children) => children,
         None => return Err(Memory),
     };
-    let path = task.path.copy(alloc)?;
-    match begin(words, task, place) {
-        Ok(()) => {}
-        Err(word) => return Ok(Tried::Busy(word)),
-    }
-    let slot = task.seat.slot_mut(&*words, place);
-    match one_more(slot, path, task.children, steps) {
-        Ok(()) => {
-            bear(words, task, place, children);
+    let spare = SpareNote::of(alloc, &task.path)?;
+    match provide(words, task, place)? {
+        Tried::Done => {
+            bear(words, task, spare, children, steps);
             Ok(Tried::Done)
         }
-        Err(_) => {
-            desist(words, task, place);
-            Err(Memory)
-        }
+        Tried::Busy(word) => Ok(Tried::Busy(word)),
     }
 }
 
-/// One try at the task's end.
-pub(crate) fn resign_at(
-    words: &Words,
-    task: &mut Task,
-    place: usize,
-    blame: Option<Blame>,
-    steps: u64,
-) -> Tried
-    requires fits { FitsRoll words.now.table_id words.now.key task.old place }
+/// The task's end: its last part leaves its note.
+pub(crate) fn resign_at(words: &Words, task: &mut Task, blame: Option<Blame>, steps: u64)
+    requires laid { Laid words.now.table_id words.now.key }
+    requires mark { task.old.seat.table_id ≡ words.now.table_id }
     requires rests { Rests task.old }
     requires next { Next (Resign blame steps) (shown task.old) }
     ensures mark { task.new.seat.table_id ≡ task.old.seat.table_id }
     ensures rests { Rests task.new }
-    ensures answer { ResignedAs place blame steps (shown task.old) result (shown task.new) }
+    ensures done { Ended blame steps (shown task.old) (shown task.new) }
 {
-    match begin(words, task, place) {
-        Ok(()) => {
-            depart(words, task, place, blame, steps);
-            Tried::Done
-        }
-        Err(word) => Tried::Busy(word),
+    core_laws();
+    let spare = taken_out(&mut task.spare);
+    words.load::<Resigning>(&mut task.seat, 0);
+    settle(task);
+    task.tickets -= 1;
+    task.notes.push(spare, task.children, blame, steps);
+}
+
+// Whether a pass has neither a ticket nor a note.
+fn has_nothing(task: &Task) -> bool
+    ensures yes { result ≡ true → task.now.tickets + length task.now.notes ≡ 0 }
+    ensures no { result ≡ false → 0 < task.now.tickets + length task.now.notes }
+{
+    task.tickets == 0 && task.notes.len() == 0
+}
+
+/// One try to hand in all that a pass has whose task has ended.
+pub(crate) fn hand_in_at(words: &Words, task: &mut Task, place: usize) -> Tried
+    requires fits { FitsRoll words.now.table_id words.now.key task.old place }
+    requires rests { Rests task.old }
+    requires gone { IsGone (shown task.old) }
+    ensures mark { task.new.seat.table_id ≡ task.old.seat.table_id }
+    ensures rests { Rests task.new }
+    ensures answer { HandedInAs place (shown task.old) result (shown task.new) }
+{
+    if has_nothing(task) {
+        return Tried::Done;
     }
+    match begin_roll(words, task, place) {
+        Ok(()) => {}
+        Err(word) => return Tried::Busy(word),
+    }
+    relieve(words, task, place);
+    Tried::Done
 }
 
 /// The token of the child that was enrolled last, with no event done.
@@ -528,12 +624,16 @@ pub(crate) fn split_off(words: &Words, alloc: Global, task: &mut Task) -> Result
     ensures unchanged { OnErr result (shown task.new ≡ shown task.old) }
 {
     let path = task.path.child(alloc, task.children - 1)?;
-    let spare = path.copy(alloc)?;
+    let spare = SpareNote::of(alloc, &path)?;
     let seat = words.split_seat::<Bearing>(&mut task.seat);
+    let tickets = 1 + task.tickets / 16;
+    task.tickets -= tickets;
     Ok(Task {
         seat,
         path,
         spare: Some(spare),
+        tickets,
+        notes: Notes::none(alloc),
         children: 0,
         events: 0,
         touched: 0,
@@ -541,7 +641,7 @@ pub(crate) fn split_off(words: &Words, alloc: Global, task: &mut Task) -> Result
     })
 }
 
-/// Takes the token of a task that has ended into that of another.
+/// Takes the token of a task that has ended into that of another, with all that it has.
 pub(crate) fn take_in(words: &Words, keeper: &mut Task, ended: Task)
     requires laid { Laid words.now.table_id words.now.key }
     requires mark { (keeper.old.seat.table_id ≡ words.now.table_id) × (ended.seat.table_id ≡ words.now.table_id) }
@@ -551,16 +651,22 @@ pub(crate) fn take_in(words: &Words, keeper: &mut Task, ended: Task)
     ensures rests { Rests keeper.new }
     ensures shows { shown keeper.new ≡ joined (shown keeper.old) (shown ended) }
 {
+    core_laws();
     let Task {
         seat,
         path: _,
         spare: _,
+        tickets,
+        mut notes,
         children: _,
         events: _,
         touched: _,
         over,
     } = ended;
     words.join_seat::<Joining>(&mut keeper.seat, seat);
+    words.load::<Looking>(&mut keeper.seat, 0);
+    keeper.tickets += tickets;
+    keeper.notes.append(&mut notes);
     keeper.over = either(keeper.over, over);
 }
 

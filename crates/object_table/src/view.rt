@@ -58,22 +58,49 @@ impl Play<Slot, View> for Finish {
     ghost then = { left_done };
 }
 
-/// A turn left with a creation done.
+/// A creation done, at a load of the first word.
 pub(crate) struct Enrolling;
 
 impl Play<Slot, View> for Enrolling {
-    ghost use Rattle.object_table.specs.Plays.{left_enrolled};
+    ghost use Rattle.object_table.specs.Plays.{did_enroll};
 
-    ghost then = { left_enrolled };
+    ghost then = { did_enroll };
 }
 
-/// A turn left with the task's end done.
+/// A task's end done, at a load of the first word.
 pub(crate) struct Resigning;
 
 impl Play<Slot, View> for Resigning {
-    ghost use Rattle.object_table.specs.Plays.{left_resigned};
+    ghost use Rattle.object_table.specs.Plays.{did_resign};
 
-    ghost then = { left_resigned };
+    ghost then = { did_resign };
+}
+
+/// A load of the first word, at which a pass is told that there is room for what it has.
+pub(crate) struct Looking;
+
+impl Play<Slot, View> for Looking {
+    ghost use Rattle.object_table.specs.Plays.{looked};
+
+    ghost then = { looked };
+}
+
+/// A turn left with more tickets.
+pub(crate) struct Restocking;
+
+impl Play<Slot, View> for Restocking {
+    ghost use Rattle.object_table.specs.Plays.{left_restocked};
+
+    ghost then = { left_restocked };
+}
+
+/// A turn left with all that a pass had handed in.
+pub(crate) struct Relieving;
+
+impl Play<Slot, View> for Relieving {
+    ghost use Rattle.object_table.specs.Plays.{left_relieved};
+
+    ghost then = { left_relieved };
 }
 
 /// How a child's pass is cut off its parent's.

@@ -1,6 +1,7 @@
 //! A worker that has no task.
 
 use crate::board::{Board, TaskWorker};
+use crate::keeper::handed_in;
 use crate::settle::requeue;
 use jade_base::{Memory, ObjectId};
 use std::hint::spin_loop;
@@ -42,13 +43,15 @@ pub(crate) fn next_task<'c, N: RunName, R: Wait>(
     }
 }
 
-// Looks until there is a task, or all is over.
+// Looks until there is a task, or all is over. First of all the worker hands in what it has of tasks
+// that have ended: who hands in the last of it all sees the end.
 fn await_task<'c, N: RunName, R: Wait>(
     rt: &R,
     board: &Board<'c, N>,
     worker: &mut TaskWorker<'c, N>,
 ) -> Option<Capsule<'c, N>> {
     for _ in rt.forever() {
+        hand_in(board, worker);
         if board.signals.is_over() {
             return None;
         }
@@ -58,6 +61,21 @@ fn await_task<'c, N: RunName, R: Wait>(
         }
     }
     None
+}
+
+// One try to hand in what the worker keeps; where nothing may come any more with it, all are told.
+fn hand_in<'c, N: RunName>(board: &Board<'c, N>, worker: &mut TaskWorker<'c, N>) {
+    match worker.hand_over() {
+        Some(kept) => {
+            let kept = handed_in(board, kept);
+            let over = kept.pass.over();
+            worker.keep(kept);
+            if over {
+                board.signals.finish();
+            }
+        }
+        None => {}
+    }
 }
 
 // One round in vain more: rests a while, and looks.

@@ -10,7 +10,7 @@ use object_table::TaskPass;
 use std::marker::PhantomData;
 use task_suspend::{Resigned, RunName};
 
-/// A pass of the run whose task has ended, with what the passes that were taken into it knew.
+/// A pass of the run whose task has ended, with what the passes that were taken into it had and knew.
 #[derive(Drop)]
 pub(crate) struct Kept<N: RunName> {
     pub pass: TaskPass,
@@ -41,6 +41,13 @@ pub(crate) fn as_over<N: RunName>(kept: Kept<N>) -> Result<Over<N>, Kept<N>> {
     }
     let Kept { pass, name } = kept;
     Ok(Over { pass, name })
+}
+
+/// One try to hand in what the pass has. Another may have a turn, and then it keeps it.
+pub(crate) fn handed_in<'c, N: RunName>(board: &Board<'c, N>, kept: Kept<N>) -> Kept<N> {
+    let Kept { mut pass, name } = kept;
+    board.table.hand_in(&mut pass);
+    Kept { pass, name }
 }
 
 /// What was kept, with one pass more.

@@ -102,18 +102,14 @@ fn go_on<'c, N: RunName, R: Wait>(
     }
 }
 
-// Keeps the pass of a task that has ended, and tells where it was the last.
+// Keeps the pass of a task that has ended. What it has is handed in once the worker has no task.
 fn end<'c, N: RunName>(
     board: &Board<'c, N>,
     worker: &mut TaskWorker<'c, N>,
     resigned: Resigned<'c, N>,
 ) {
     let kept = with_one_more(board, worker.hand_over(), pass_of(resigned));
-    let over = kept.pass.over();
     worker.keep(kept);
-    if over {
-        board.signals.finish();
-    }
 }
 
 // Makes a task ready, where other workers find it too.

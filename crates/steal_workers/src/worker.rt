@@ -4,7 +4,7 @@ use crossbeam_deque::Steal;
 use fair_deque::{Owner, Thief, put_task, steal_task, take_task, visit};
 
 /// A worker: its place among the workers, for how many rounds it has found nothing that goes on, its
-/// ready tasks, and the passes of tasks that have ended, as one.
+/// ready tasks, and the passes of tasks that have ended, as one, with all that they have to hand in.
 #[derive(Drop)]
 pub(crate) struct Worker<T: Drop, P: Drop> {
     place: usize,

@@ -1,11 +1,10 @@
 -- What a try has done, by what it answered.
-use Rattle.std.proofs.Common.{◌≡◌, ℕ, true, Option, Some, sym, ap, subst, ◌∙◌}
+use Rattle.std.proofs.Common.{◌≡◌, ℕ, true, Some, sym, ap, subst, ◌∙◌}
 use Rattle.atomic_table.specs.Seated.{TableId}
-use Rattle.jade_base.specs.declared.report.Blame.{Blame}
 use Rattle.jade_meaning.specs.Plan.{RunPlan}
 use Rattle.schedule_core.specs.declared.steps.Seat.{Seat}
 use Rattle.object_table.specs.Views.{View}
-use Rattle.object_table.specs.Calls.{Pass, Did, IsBusy, Bore, Ended, TriedAs, EnrolledAs, ResignedAs}
+use Rattle.object_table.specs.Calls.{Pass, Did, IsBusy, Bore, TriedAs, EnrolledAs}
 use Rattle.object_table.specs.declared.answers.Tried.{Tried}
 use Rattle.object_table.specs.declared.answers.Tried.TheVariants as tried
 use Rattle.task_machine.specs.Asks.{Asking}
@@ -25,22 +24,16 @@ module _ (o : ℕ) (v w : View) (r : Tried) where
   pub tried_busy : (n : ℕ) → r ≡ tried.Busy n → TriedAs o v r w → IsBusy n o v w
   tried_busy n e h = let P : Tried → Type 0 = λ x. TriedAs o v x w in subst P e h
 
-  pub enrolled_done : r ≡ tried.Done → EnrolledAs o v r w → Bore o v w
-  enrolled_done e h = let P : Tried → Type 0 = λ x. EnrolledAs o v x w in subst P e h
+module _ (o steps : ℕ) (v w : View) (r : Tried) where
+  pub enrolled_done : r ≡ tried.Done → EnrolledAs o steps v r w → Bore steps v w
+  enrolled_done e h = let P : Tried → Type 0 = λ x. EnrolledAs o steps v x w in subst P e h
 
-  pub enrolled_busy : (n : ℕ) → r ≡ tried.Busy n → EnrolledAs o v r w → IsBusy n o v w
-  enrolled_busy n e h = let P : Tried → Type 0 = λ x. EnrolledAs o v x w in subst P e h
-
-  module _ (fault : Option Blame) (steps : ℕ) where
-    pub resigned_done : r ≡ tried.Done → ResignedAs o fault steps v r w → Ended o fault steps v w
-    resigned_done e h = let P : Tried → Type 0 = λ x. ResignedAs o fault steps v x w in subst P e h
-
-    pub resigned_busy : (n : ℕ) → r ≡ tried.Busy n → ResignedAs o fault steps v r w → IsBusy n o v w
-    resigned_busy n e h = let P : Tried → Type 0 = λ x. ResignedAs o fault steps v x w in subst P e h
+  pub enrolled_busy : (n : ℕ) → r ≡ tried.Busy n → EnrolledAs o steps v r w → IsBusy n o v w
+  enrolled_busy n e h = let P : Tried → Type 0 = λ x. EnrolledAs o steps v x w in subst P e h
 
 -- after a creation the task is live, and the child has no pass
-pub bore_live : (o : ℕ) (v w : View) → Bore o v w → v.live ≡ true → w.live ≡ true
-bore_live o v w k live = ap (λ (x : View). x.live) k.after ∙ live
+pub bore_live : (steps : ℕ) (v w : View) → Bore steps v w → v.live ≡ true → w.live ≡ true
+bore_live steps v w k live = ap (λ (x : View). x.live) k.after ∙ live
 
-pub bore_kid : (o : ℕ) (v w : View) → Bore o v w → (kid : Seat) × (w.unborn ≡ Some kid)
-bore_kid o v w k = (k.kid, ap (λ (x : View). x.unborn) k.after)
+pub bore_kid : (steps : ℕ) (v w : View) → Bore steps v w → (kid : Seat) × (w.unborn ≡ Some kid)
+bore_kid steps v w k = (k.kid, ap (λ (x : View). x.unborn) k.after)

@@ -276,9 +276,9 @@ module _ (mark : TableId) (plan : RunPlan) (p : Pass) (a : Asking) (from events 
           (enroll_left [] ∙ ap (λ k. Enroll (child_task (number_of a.at.phase) a.at.execution) k ∷ left (created a.at) []) (sym e))
 
       -- the parent after the creation
-      pub parted : (o n : ℕ) (w : View) (q : Pass) (b : Asking) → q.mark ≡ p.mark → Bore o p.shows w → q.shows ≡ without_kid w
+      pub parted : (steps n : ℕ) (w : View) (q : Pass) (b : Asking) → q.mark ≡ p.mark → Bore steps p.shows w → q.shows ≡ without_kid w
           → b ≡ record a { at = created a.at; ask = None; children = n } → Tied mark plan q b from (events + 1)
-      parted o n w q b same k cut is = record {
+      parted steps n w q b same k cut is = record {
         table = same ∙ t.table;
         run = ap (λ (v : View). v.key) cut ∙ ap (λ (v : View). v.key) k.after ∙ t.run;
         objects = ap (λ (x : Asking). x.at.execution.stage.objects) is ∙ t.objects;
@@ -297,10 +297,10 @@ module _ (mark : TableId) (plan : RunPlan) (p : Pass) (a : Asking) (from events 
           one_more n = omega arith
 
       -- the child at its begin
-      pub born_so : (o : ℕ) (w : View) (q : Pass) (b : Asking) → q.mark ≡ p.mark → Bore o p.shows w → q.shows ≡ kid_view w.unborn w
+      pub born_so : (steps : ℕ) (w : View) (q : Pass) (b : Asking) → q.mark ≡ p.mark → Bore steps p.shows w → q.shows ≡ kid_view w.unborn w
           → BeginsAs (child_task (number_of a.at.phase) a.at.execution) b → b.at.execution.stage.objects ≡ a.at.execution.stage.objects
           → Tied mark plan q b 0 0
-      born_so o w q b same k cut begins objects =
+      born_so steps w q b same k cut begins objects =
           let child = child_is p.shows.seat.walker k.born.child (child_task (number_of a.at.phase) a.at.execution) (steps_at a.at) (left (created a.at) [])
           (enroll_left []) k.born.bears in
           let is : q.shows ≡ kid_view (Some k.kid) w = cut ∙ ap (λ s. kid_view s w) (ap (λ (v : View). v.unborn) k.after) in
@@ -377,6 +377,6 @@ module _ (mark : TableId) (plan : RunPlan) (p : Pass) (a : Asking) (from events 
         (end_left [] ∙ ap (λ es. es ++ Resign fault (steps_at a.at) ∷ []) none ∙ ap (λ k. Resign fault k ∷ []) (sym e))
 
   -- the end
-  pub gone : (o n : ℕ) (fault : Option Blame) (q : Pass) → q.mark ≡ p.mark → Ended o fault n p.shows q.shows → (q.mark ≡ mark) × IsGone q.shows
-  gone o n fault q same e =
+  pub gone : (n : ℕ) (fault : Option Blame) (q : Pass) → q.mark ≡ p.mark → Ended fault n p.shows q.shows → (q.mark ≡ mark) × IsGone q.shows
+  gone n fault q same e =
       (same ∙ t.table, record { live = ap (λ (v : View). v.live) e.after; born = ap (λ (v : View). v.unborn) e.after ∙ t.born })

@@ -59,7 +59,7 @@ ending (Some b) = ask.Fault b
 abbrev pub roll_of : Carried → ℕ
 roll_of a = count_of a.pass.shows.key
 
--- the place of an event: its object, or the roll
+-- the place at which an event may be tried: its object, or the roll
 abbrev pub place_of : (roll : ℕ) → Event → ℕ
 place_of roll (Enter o r) = o
 place_of roll (Enroll t n) = roll
@@ -143,7 +143,7 @@ pub record Parts (a b child : Carried) : Type 0 where
   pub asked : a.machine.ask ≡ Some ask.Create
   pub entered : entries_from a.from a ≡ []
   pub enrolled : View
-  pub bore : Bore (roll_of a) a.pass.shows enrolled
+  pub bore : Bore (steps_at a.machine.at) a.pass.shows enrolled
   pub parent : b.pass.shows ≡ without_kid enrolled
   pub answered : Answered (record a.machine { at = created a.machine.at; ask = None; children = (a.machine.children + 1) % 2 ^ 32 }) a b
   pub young : child.pass.shows ≡ kid_view enrolled.unborn enrolled
@@ -183,7 +183,7 @@ pub record Resigns (a : Carried) (p : Pass) : Type 0 where
   pub fault : Option Blame
   pub asked : a.machine.ask ≡ Some (ending fault)
   pub left : departures_from a.from a ≡ []
-  pub ended : Ended (roll_of a) fault (steps_at a.machine.at) a.pass.shows p.shows
+  pub ended : Ended fault (steps_at a.machine.at) a.pass.shows p.shows
 
 -- An event of the ask comes next, and this try read at its place that the word is taken: nothing is done.
 pub record FindsTaken (a b : Carried) : Type 0 where

@@ -350,11 +350,9 @@ fn resign<'c, N: RunName>(
 {
     let task = &mut *capsule.task;
     let steps = task.machine.steps();
-    match table.resign(&mut task.pass, blame, steps) {
-        Tried::Done => Ok(Went::Ended(Resigned {
-            task: capsule.task,
-            name: capsule.name,
-        })),
-        Tried::Busy(_) => Ok(Went::Busy(capsule)),
-    }
+    table.resign(&mut task.pass, blame, steps);
+    Ok(Went::Ended(Resigned {
+        task: capsule.task,
+        name: capsule.name,
+    }))
 }

@@ -61,7 +61,7 @@ fn run_named<'c, N: RunName, R: Wait + Print>(
     }
 }
 
-/// The tries of a run, from its root on; the pass of the task that ended last, if one did.
+/// The tries of a run, from its root on; the passes of the tasks that have ended, as one.
 fn play<'c, N: RunName, R: Wait + Print>(
     rt: &R,
     alloc: Global,
@@ -111,7 +111,7 @@ fn one_try<'c, N: RunName, R: Wait>(
 {
     let task = tasks.take(path)?;
     let went = attempt(alloc, table, task);
-    tasks.settle(rt, went)
+    tasks.settle(rt, table, went)
 }
 
 /// Prints a try and what came of it.

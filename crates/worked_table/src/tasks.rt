@@ -1,10 +1,11 @@
 //! The tasks of a run.
 
-ghost use Rattle.std.specs.Prelude.{◌<◌, length, IfSome};
+ghost use Rattle.std.specs.Prelude.{◌≡◌, ◌<◌, length, IfSome};
 
 use crate::stop::Stop;
 use crate::words::{given_word, try_word};
 use jade_base::{Memory, ObjectId};
+use object_table::ObjectTable;
 use std::alloc::Global;
 use std::sync::Wait;
 use task_suspend::{Capsule, Resigned, Rooms, RunName, Went};
@@ -26,12 +27,12 @@ pub(crate) enum Answer {
     Parted,
     /// The task has ended.
     Ended,
-    /// The task has ended, and no other is live.
+    /// The task has ended, and with what it handed in nothing may come any more.
     Over,
 }
 
-/// The live tasks of a run, at hand or in the rooms of the objects that they wait for, and the pass
-/// of the one that ended last, if one did.
+/// The live tasks of a run, at hand or in the rooms of the objects that they wait for, and the passes
+/// of those that have ended, as one.
 #[derive(Drop)]
 pub(crate) struct Tasks<'c, N: RunName> {
     live: Vec<Capsule<'c, N>>,
@@ -49,6 +50,28 @@ fn place_of<'c, N: RunName>(live: &[Capsule<'c, N>], path: &[u32]) -> Option<usi
         }
     }
     None
+}
+
+/// Two passes as one.
+fn merged<'c, N: RunName>(
+    table: &ObjectTable,
+    mut kept: Resigned<'c, N>,
+    more: Resigned<'c, N>,
+) -> Resigned<'c, N>
+    requires { (table.now.mark ≡ N.mark) × (table.now.plan ≡ N.plan) }
+{
+    let task = &mut *kept.task;
+    table.end(&mut task.pass, Box::into_inner(more.task).pass);
+    kept
+}
+
+/// The pass, once what it has is handed in.
+fn handed_in<'c, N: RunName>(table: &ObjectTable, mut kept: Resigned<'c, N>) -> Resigned<'c, N>
+    requires { (table.now.mark ≡ N.mark) × (table.now.plan ≡ N.plan) }
+{
+    let task = &mut *kept.task;
+    table.hand_in(&mut task.pass);
+    kept
 }
 
 impl<'c, N: RunName> Tasks<'c, N> {
@@ -90,15 +113,18 @@ impl<'c, N: RunName> Tasks<'c, N> {
     pub fn settle<R: Wait>(
         &mut self,
         rt: &R,
+        table: &ObjectTable,
         went: Result<Went<'c, N>, Memory>,
-    ) -> Result<Answer, Stop> {
+    ) -> Result<Answer, Stop>
+        requires { (table.now.mark ≡ N.mark) × (table.now.plan ≡ N.plan) }
+    {
         match went {
             Ok(Went::Ready(task)) => self.keep(task, Answer::Done),
             Ok(Went::Busy(task)) => self.keep(task, Answer::Busy),
             Ok(Went::Waits(place, task)) => self.wait(rt, place.object, task),
             Ok(Went::Freed(place, task)) => self.keep(task, Answer::Freed(place.object)),
             Ok(Went::Parted(parent, child)) => self.part(parent, child),
-            Ok(Went::Ended(resigned)) => Ok(self.end(resigned)),
+            Ok(Went::Ended(resigned)) => Ok(self.end(table, resigned)),
             Err(_) => Err(Stop::Failed),
         }
     }
@@ -155,14 +181,21 @@ impl<'c, N: RunName> Tasks<'c, N> {
         Ok(Answer::Parted)
     }
 
-    /// Keeps the pass of a task that has ended.
-    fn end(&mut self, resigned: Resigned<'c, N>) -> Answer {
-        let over = resigned.task.pass.over();
-        self.last = Some(resigned);
+    /// Keeps the pass of a task that has ended, and hands in what it has.
+    fn end(&mut self, table: &ObjectTable, resigned: Resigned<'c, N>) -> Answer
+        requires { (table.now.mark ≡ N.mark) × (table.now.plan ≡ N.plan) }
+    {
+        let kept = match self.last.take() {
+            Some(kept) => merged(table, kept, resigned),
+            None => resigned,
+        };
+        let kept = handed_in(table, kept);
+        let over = kept.task.pass.over();
+        self.last = Some(kept);
         if over { Answer::Over } else { Answer::Ended }
     }
 
-    /// The pass of the task that ended last, if one did.
+    /// The passes of the tasks that have ended, as one, if one did.
     pub fn last(self) -> Option<Resigned<'c, N>> {
         self.last
     }

@@ -7,6 +7,7 @@ use Rattle.schedule_core.specs.Mirror.{CoreShows}
 use Rattle.schedule_core.specs.Plain.{Reached}
 use Rattle.schedule_core.specs.Queued.{EntriesAreOwned}
 use Rattle.jade_meaning.specs.Plan.{RunPlan}
+use Rattle.object_table.specs.Tallies.{TallyView}
 use Rattle.object_table.specs.Views.{shelf_of, core_notes}
 use Rattle.object_table.specs.declared.slot.Slot.{Slot}
 use Rattle.object_table.specs.declared.slot.Slot.TheVariants as slot
@@ -34,14 +35,14 @@ Emptied fs i n = Filled fs i n × ((k : ℕ) → k < i → slice_index_or fs k f
 abbrev pub on_shelf : ObjectView → Slot
 on_shelf x = slot.Object (shelf_of x)
 
--- the objects and the roll that events reach with no task live
+-- the objects that events reach with no task live, and the roll's slot, in which all notes lie
 pub record LastSlots (key : RunPlan) (xs : List Slot) (y : Slot) : Type 0 where
   pub count : ℕ
   pub shelves : List ObjectView
-  pub told : List PartNote
-  pub reached : Reached key.program key.numbers key.limit count [] shelves (core_notes told)
+  pub tally : TallyView
+  pub reached : Reached key.program key.numbers key.limit count [] shelves (core_notes tally.notes)
   pub objects : xs ≡ map on_shelf shelves
-  pub roll : y ≡ slot.Roll (record { live = []; notes = told })
+  pub roll : y ≡ slot.Roll tally
 
 -- what is true of every core of a plan at its end
 pub record EndLaws (key : RunPlan) : Type 0 where

@@ -11,7 +11,6 @@ use Rattle.jade_meaning.specs.Talk.{Event, Enter, Enroll, Take, TouchRead, Touch
 use Rattle.object_shelf.specs.Views.{ObjectView, ShelfView}
 use Rattle.object_shelf.specs.Shelves.{find, keeper_in, at, without, entered_in, with_rights}
 use Rattle.object_shelf.specs.Homes.{hand_in, handed, returned, on_queue, started}
-use Rattle.task_roll.specs.Rolls.{started as begun}
 use Rattle.jade_base.specs.Rights.{both_rights}
 use Rattle.schedule_core.specs.declared.steps.Seat.{Seat}
 use Rattle.task_roll.specs.declared.note.PartNote.{PartNote}
@@ -20,11 +19,12 @@ use Rattle.schedule_core.specs.Plain.{Reached}
 use Rattle.schedule_core.specs.Tells.{CoreTells, EntriesAreThere}
 use Rattle.schedule_core.specs.Holders.{HoldersAreLive}
 use Rattle.jade_meaning.specs.Plan.{RunPlan}
-use Rattle.object_table.specs.Tallies.{counted}
-use Rattle.object_table.specs.Views.{count_of, word_of, View}
+use Rattle.object_table.specs.Tallies.{opened}
+use Rattle.object_table.specs.Views.{count_of, word_of, View, core_notes}
 use Rattle.object_table.specs.Touches.{held_at, passed, all_touches}
+use Rattle.object_table.specs.Bags.{Few}
 use Rattle.object_table.specs.Rule.{Ruled}
-use Rattle.object_table.specs.Plays.{Told, in_turn, kid_view}
+use Rattle.object_table.specs.Plays.{Told, ToldRoll, in_turn, kid_view}
 use Rattle.object_table.specs.declared.task.Task.{Task}
 use Rattle.atomic_table.specs.Seated.{TableId}
 use Rattle.object_table.specs.declared.turns.Handed.{Handed}
@@ -54,6 +54,11 @@ pub record Once (key : RunPlan) : Type 0 where
   pub each : (k : ℕ) (roll : List Seat) (ss : List ObjectView) (notes : List PartNote) → Reached key.program key.numbers key.limit k roll ss notes
       → (o : ℕ) (p : List ℕ) → find p (without p (shelf_at ss o).queue) ≡ None
 
+-- no part has two notes
+pub record FewAreReached (key : RunPlan) : Type 0 where
+  pub each : (k : ℕ) (roll : List Seat) (ss : List ObjectView) (told : List PartNote)
+      → Reached key.program key.numbers key.limit k roll ss (core_notes told) → Few told
+
 -- what a task shows: what its seat shows, and its touches since
 abbrev pub shown : Task → View
 shown t = passed t.touched t.seat.me.0
@@ -76,6 +81,10 @@ pub record Rests (t : Task) : Type 0 where
   pub children : t.children ≡ t.seat.me.0.seat.children
   pub events : t.events ≡ (shown t).seat.walker.done % 2 ^ 64
   pub over : t.over ≡ t.seat.me.0.over
+  pub tickets : t.tickets ≡ t.seat.me.0.tickets
+  pub notes : t.notes ≡ t.seat.me.0.notes
+  pub fed : t.seat.me.0.live ≡ true → 0 < t.seat.me.0.tickets
+  pub rich : (s : Seat) → t.seat.me.0.unborn ≡ Some s → 1 < t.seat.me.0.tickets
   pub kid : (s : Seat) → t.seat.me.0.unborn ≡ Some s → Youngest t.seat.me.0.seat.path t.seat.me.0.seat.children s
 
 -- the token of the child that a task enrolled last
@@ -105,6 +114,21 @@ pub record InTurn (slots o : ℕ) (y x : Slot) (old new : Me Slot View) : Type 0
   pub me : new ≡ (in_turn o y old.0, (o, x) ∷ [])
   pub told : Told slots old.0 o y
 
+-- a try got the turn at a place, and found this
+pub record GotTurn (slots o : ℕ) (y : Slot) (old new : Me Slot View) : Type 0 where
+  pub me : new ≡ (in_turn o y old.0, (o, y) ∷ [])
+  pub told : old.0.live ≡ true → Told slots old.0 o y
+  pub roll : slots ≡ suc o → ToldRoll old.0 y
+
+-- a seat has the turn at the roll's place, where it found this, and of which the slot has this now
+pub record InRoll (o : ℕ) (y x : Slot) (old new : Me Slot View) : Type 0 where
+  pub me : new ≡ (in_turn o y old.0, (o, x) ∷ [])
+  pub told : ToldRoll old.0 y
+
+-- a seat may do this by a load of the first word
+abbrev pub Loads : (Step Slot → Me Slot View → ℕ → Me Slot View → Type 0) → RunPlan → (slots id : ℕ) → Me Slot View → Type 0
+Loads play key slots id me = Allows (Ruled key) slots id me 0 (λ x. x) (play (step slots 0 0 0 none) me)
+
 -- a seat may leave a turn in this way
 abbrev pub Leaves : (Step Slot → Me Slot View → ℕ → Me Slot View → Type 0) → RunPlan → (slots id : ℕ) → Me Slot View → ℕ → Type 0
 Leaves play key slots id me o = Allows (Ruled key) slots id me (word_of o) (λ x. 0) (λ x. play (step slots (word_of o) 0 0 none) me 0)
@@ -115,6 +139,7 @@ pub record Laws (key : RunPlan) : Type 0 where
   pub entries : EntriesAreThere key.program key.numbers key.limit
   pub once : Once key
   pub holders : HoldersAreLive key.program key.numbers key.limit
+  pub few : FewAreReached key
 
 -- a slot's value is the roll's
 abbrev pub IsRoll : Slot → Type 0
@@ -146,4 +171,4 @@ start_slots [] = []
 start_slots (n ∷ ns) = slot.Object (started (0 ∷ []) both_rights n) ∷ start_slots ns
 
 pub record FirstSlots (ns : List ℕ) (xs : List Slot) : Type 0 where
-  pub is : xs ≡ start_slots ns ++ slot.Roll (counted begun) ∷ []
+  pub is : xs ≡ start_slots ns ++ slot.Roll opened ∷ []

@@ -1,18 +1,16 @@
 -- How a task's turn begins, and how it is left.
-use Rattle.std.specs.Prelude.{◌≡◌, ℕ, ◌<◌, List, Option, None}
+use Rattle.std.specs.Prelude.{◌≡◌, ℕ, ◌+◌, ◌<◌, ◌≤◌, true, List, length, Option, None}
 use Rattle.jade_base.specs.Held.{Held}
-use Rattle.jade_base.specs.declared.report.Blame.{Blame}
-use Rattle.jade_meaning.specs.Talk.{Task as TaskOf, Event, Enter, Enroll, Take, TouchRead, TouchWrite, Wants, Give, Leave, Shift, Resign}
+use Rattle.jade_meaning.specs.Talk.{Event, Enter, Enroll, Take, TouchRead, TouchWrite, Wants, Give, Leave, Shift, Resign}
 use Rattle.jade_meaning.specs.Plan.{RunPlan}
 use Rattle.object_shelf.specs.Views.{ShelfView}
-use Rattle.task_roll.specs.Rolls.{RollView}
 use Rattle.schedule_core.specs.Plain.{seat_after}
-use Rattle.object_table.specs.Tallies.{counted, one_more}
+use Rattle.object_table.specs.Tallies.{TallyView, most, restocked}
 use Rattle.object_table.specs.Views.{count_of, View}
 use Rattle.object_table.specs.Touches.{put_held}
 use Rattle.object_table.specs.Plays.{in_turn, held_in, handed_by}
 use Rattle.object_table.specs.Calls.{Next, saw, AsBefore}
-use Rattle.object_table.specs.steps.Kept.{Rests, InTurn, Made, shown}
+use Rattle.object_table.specs.steps.Kept.{Rests, InTurn, InRoll, Made, shown}
 use Rattle.object_table.specs.declared.task.Task.{Task}
 use Rattle.object_table.specs.declared.slot.Slot.{Slot}
 use Rattle.object_table.specs.declared.slot.Slot.TheVariants as slot
@@ -58,25 +56,16 @@ pub record Desisted (o : ℕ) (y : Slot) (before after : Task) : Type 0 where
   pub unchanged : AsBefore (shown before) (shown after)
   pub seen : (z : ShelfView) → y ≡ slot.Object z → shown after ≡ saw o z (shown before)
 
--- the task's next event is a creation, and the roll's slot has what that makes of it
-pub record Birth (key : RunPlan) (slots o : ℕ) (now : Task) : Type 0 where
-  pub before : Task
-  pub roll : RollView
-  pub child : TaskOf
-  pub steps : ℕ
-  pub begun : Begun slots o (slot.Roll roll) (slot.Roll (one_more (record {
-    path = before.path;
-    children = before.children;
-    steps = steps;
-    blame = None;
-  }) (counted roll))) before now
-  pub place : o ≡ count_of key
-  pub next : Next (Enroll child steps) (shown before)
+-- a task that rested before has the turn at the roll's place now, where it found this, and of which the slot has this now; it is else as it was
+pub record BegunRoll (o : ℕ) (r : TallyView) (x : Slot) (before now : Task) : Type 0 where
+  pub rests : Rests before
+  pub turn : InRoll o (slot.Roll r) x before.seat.me now.seat.me
+  pub same : now ≡ record before { seat = now.seat }
 
--- the task's next event is its end, and this was found at the roll
-pub record Departure (key : RunPlan) (slots o : ℕ) (now : Task) (blame : Option Blame) (steps : ℕ) : Type 0 where
+-- the roll's slot counts more tickets, for which there is room, and the turn there may be left with them
+pub record Stocked (o : ℕ) (now : Task) : Type 0 where
   pub before : Task
-  pub roll : RollView
-  pub begun : Begun slots o (slot.Roll roll) (slot.Roll (counted roll)) before now
-  pub place : o ≡ count_of key
-  pub next : Next (Resign blame steps) (shown before)
+  pub roll : TallyView
+  pub begun : BegunRoll o roll (slot.Roll (restocked roll)) before now
+  pub live : (shown before).live ≡ true
+  pub room : (restocked roll).due + length roll.notes ≤ most

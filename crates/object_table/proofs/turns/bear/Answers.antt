@@ -1,22 +1,62 @@
-use Rattle.object_table.proofs.Leaving.{may_bear, born_rests, born}
+use Rattle.std.proofs.Common.{◌+◌, ◌-◌, ◌<◌, ◌^◌, ◌++◌, ◌∷◌, [], None, length, sym, ap, ◌∙◌, subst, arith}
+use Rattle.atomic_table.specs.declared.shared.Seat.{Seat as SeatOf}
+use Rattle.schedule_core.specs.Plain.{Born}
+use Rattle.object_table.specs.Views.{View}
+use Rattle.object_table.specs.Plays.{note_after}
+use Rattle.object_table.specs.steps.Kept.{shown}
+use Rattle.object_table.specs.declared.slot.Slot.{Slot}
+use Rattle.object_table.proofs.RollCalls.{one_fits, may_enroll, enrolled_is, enrolled_rests, enrolled_shown}
 use Rattle.object_table.proofs.turns.bear.Goals as goal
 
-pub leave_turn-requires-clause-allowed : goal.leave_turn-requires-clause-allowed
-leave_turn-requires-clause-allowed c =
+pub load-requires : goal.load-requires
+load-requires c =
     let words = c.args.words.now in
-    may_bear words.key (c.core_laws.ensures words.key) words.table_id.slots c.args.place c.args.task.now c.requires.birth
+    let wide = c.requires.laid.wide in
+    let deep = c.requires.laid.deep in
+    let next = c.requires.next in (
+      c.requires.mark,
+      omega (arith, wide, deep),
+      may_enroll c.args.task.now c.requires.rests words.key (c.core_laws.ensures words.key) words.table_id.slots next.0 c.args.steps next.1 c.requires.rich
+          c.args.task.now.seat.id,
+    )
+
+pub push-requires : goal.push-requires
+push-requires c =
+    let words = c.args.words.now in
+    let t = c.args.task.now in
+    let r = c.requires.rests in
+    let next = c.requires.next in
+    let e = enrolled_is t r words.key (c.core_laws.ensures words.key) words.table_id.slots next.0 c.args.steps next.1 c.requires.rich c.load.result
+    c.load.new.seat.me c.load.ensures.2 in
+    let fits = one_fits t r (note_after (shown t) c.args.steps None) c.load.new.seat.me.0 (λ i. (e.2 i).0.notes) e.3 in
+    subst (λ ns. length ns + 1 < 2 ^ 63) (sym c.settle.ensures.purse.1) fits
 
 pub returns-clause-rests : goal.returns-clause-rests
 returns-clause-rests c =
     let words = c.args.words.now in
+    let t = c.args.task.now in
+    let r = c.requires.rests in
+    let next = c.requires.next in
     let s = c.settle.ensures in
-    born_rests words.key (c.core_laws.ensures words.key) words.table_id.slots c.args.place c.args.task.now c.requires.birth
-    (record c.settle.new.task { children = c.args.children }) c.leave_turn.new.seat s.seat c.leave_turn.ensures.done s.events s.path.0 s.spare
-    c.requires.count s.path.2
+    let e = enrolled_is t r words.key (c.core_laws.ensures words.key) words.table_id.slots next.0 c.args.steps next.1 c.requires.rich c.load.result
+    c.load.new.seat.me c.load.ensures.2 in
+    let rich = c.requires.rich in
+    let same = s.purse.0 in
+    enrolled_rests t r words.key (c.core_laws.ensures words.key) words.table_id.slots next.0 c.args.steps next.1 rich _ e.0
+    (subst (λ (q : SeatOf Slot View). Born (shown t).seat e.0 q.me.0.seat) (sym s.seat) e.1) (ap (λ (q : SeatOf Slot View). q.me) s.seat ∙ e.2) s.events
+    s.path.0 s.spare c.requires.count s.path.2 (omega (arith, rich, same))
+    (c.push.ensures
+    ∙ λ i. s.purse.1 i ++ record { path = c.requires.spare i; children = s.path.1 i; steps = c.args.steps; blame = None } ∷ [])
 
 pub returns-clause-done : goal.returns-clause-done
-returns-clause-done c = λ b.
+returns-clause-done c =
     let words = c.args.words.now in
+    let t = c.args.task.now in
+    let r = c.requires.rests in
+    let next = c.requires.next in
     let s = c.settle.ensures in
-    born words.key (c.core_laws.ensures words.key) words.table_id.slots c.args.place c.args.task.now b (record c.settle.new.task { children = c.args.children })
-    c.leave_turn.new.seat s.seat c.leave_turn.ensures.done s.events
+    let e = enrolled_is t r words.key (c.core_laws.ensures words.key) words.table_id.slots next.0 c.args.steps next.1 c.requires.rich c.load.result
+    c.load.new.seat.me c.load.ensures.2 in
+    enrolled_shown t r words.key (c.core_laws.ensures words.key) words.table_id.slots next.0 c.args.steps next.1 c.requires.rich
+    (record c.settle.new.task { tickets = c.settle.new.task.tickets - 1; notes = c.push.new.self; children = c.args.children }) e.0
+    (subst (λ (q : SeatOf Slot View). Born (shown t).seat e.0 q.me.0.seat) (sym s.seat) e.1) (ap (λ (q : SeatOf Slot View). q.me) s.seat ∙ e.2) s.events

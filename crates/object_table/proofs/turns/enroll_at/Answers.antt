@@ -1,34 +1,51 @@
-use Rattle.std.proofs.Common.{◌∙◌}
-use Rattle.object_table.specs.Tallies.{counted}
-use Rattle.object_table.specs.declared.slot.Slot.TheVariants.{Roll}
-use Rattle.object_table.proofs.Leaving.{may_lend, roll_lent, roll_grows, as_lay}
+use Rattle.std.proofs.Common.{rules, ℕ, ◌≡◌, ◌+◌, ◌<◌, ◌⊎◌, ◌∙◌, ap, sym, subst}
+use Rattle.schedule_core.specs.declared.steps.Seat.{Seat as Place}
+use Rattle.jade_meaning.specs.Talk.{Enroll}
+use Rattle.object_table.specs.Views.{View}
+use Rattle.object_table.specs.Calls.{Restocked, ProvidedAs}
+use Rattle.object_table.specs.steps.Kept.{Rests, shown}
+use Rattle.object_table.specs.declared.answers.Tried.{Tried}
+use Rattle.object_table.specs.declared.answers.Tried.TheVariants.{Done}
+use Rattle.object_table.specs.declared.task.Task.{Task}
+use Rattle.object_table.proofs.Calls.{path_is, children_is, tickets_is}
+use Rattle.object_table.proofs.RollCalls.{next_after, bore_after, seat_after_all}
 use Rattle.object_table.proofs.turns.enroll_at.Goals as goal
 
-pub slot_mut-slot-requires : goal.slot_mut-slot-requires
-slot_mut-slot-requires c =
-    let got = c.in-Ok.ensures.got in
-    (c.begin.ensures.mark ∙ c.requires.fits.mark, may_lend got.1)
+-- a task that may have got tickets has its path and its children as before
+same_path_after : (o : ℕ) (t u : Task) → Rests t → Rests u → (shown u ≡ shown t) ⊎ Restocked o (shown t) (shown u) → u.path ≡ t.path
+same_path_after o t u r q got = path_is u q ∙ ap (λ (z : Place). z.path) (seat_after_all o (shown t) (shown u) got) ∙ sym (path_is t r)
 
-pub bear-requires-clause-birth : goal.bear-requires-clause-birth
-bear-requires-clause-birth c =
-    let f = c.requires.fits in
-    let got = c.in-Ok.ensures.got in
-    let g = roll_lent c.args.words.now.table_id.slots c.args.place got.0 c.args.task.now c.begin.new.task got.1 c.args.words.now.key f.laid.deep f.place
-    c.slot_mut-slot.result.now c.slot_mut-slot.ensures.value in
-    roll_grows g.1 f.place c.requires.next.1 c.in_ok-path.ensures (c.in-Ok-one_more.ensures.done (counted g.0) g.2)
+same_children_after : (o : ℕ) (t u : Task) → Rests t → Rests u → (shown u ≡ shown t) ⊎ Restocked o (shown t) (shown u) → u.children ≡ t.children
+same_children_after o t u r q got = children_is u q ∙ ap (λ (z : Place). z.children) (seat_after_all o (shown t) (shown u) got) ∙ sym (children_is t r)
 
-pub returns-in-Ok-one_more-clause-answer : goal.returns-in-Ok-one_more-clause-answer
-returns-in-Ok-one_more-clause-answer c =
-    let f = c.requires.fits in
-    let got = c.in-Ok.ensures.got in
-    let g = roll_lent c.args.words.now.table_id.slots c.args.place got.0 c.args.task.now c.begin.new.task got.1 c.args.words.now.key f.laid.deep f.place
-    c.slot_mut-slot.result.now c.slot_mut-slot.ensures.value in
-    c.bear.ensures.done (roll_grows g.1 f.place c.requires.next.1 c.in_ok-path.ensures (c.in-Ok-one_more.ensures.done (counted g.0) g.2))
+provided : (o : ℕ) (v w : View) (r : Tried) → r ≡ Done → ProvidedAs o v r w → (2 < w.tickets) × ((w ≡ v) ⊎ Restocked o v w)
+provided o v w r is how = subst (λ x. ProvidedAs o v x w) is how
 
-pub returns-in-Err-one_more-clause-unchanged : goal.returns-in-Err-one_more-clause-unchanged
-returns-in-Err-one_more-clause-unchanged c =
-    let f = c.requires.fits in
-    let got = c.in-Ok.ensures.got in
-    let g = roll_lent c.args.words.now.table_id.slots c.args.place got.0 c.args.task.now c.begin.new.task got.1 c.args.words.now.key f.laid.deep f.place
-    c.slot_mut-slot.result.now c.slot_mut-slot.ensures.value in
-    (c.desist.ensures.after c.args.task.now (Roll g.0) (as_lay g.1 (c.in-Err-one_more.ensures.unchanged ∙ g.2))).unchanged
+pub bear-requires-clause-next : goal.bear-requires-clause-next
+bear-requires-clause-next c =
+    let got = provided c.args.place (shown c.args.task.now) (shown c.provide.new.task) _ c.in-Done.is c.in_ok-provide.ensures.answer in
+    let next = c.requires.next in
+    (next.0, next_after c.args.place (Enroll next.0 c.args.steps) (shown c.args.task.now) (shown c.provide.new.task) got.1 next.1)
+
+pub bear-requires-clause-rich : goal.bear-requires-clause-rich
+bear-requires-clause-rich c =
+    let got = provided c.args.place (shown c.args.task.now) (shown c.provide.new.task) _ c.in-Done.is c.in_ok-provide.ensures.answer in
+    subst (λ k. 2 < k) (sym (tickets_is c.provide.new.task c.in_ok-provide.ensures.rests)) got.0
+
+pub bear-requires-clause-spare : goal.bear-requires-clause-spare
+bear-requires-clause-spare c =
+    let got = provided c.args.place (shown c.args.task.now) (shown c.provide.new.task) _ c.in-Done.is c.in_ok-provide.ensures.answer in
+    let is : c.in_ok-spare.spare ≡ c.args.task.now.path = search rules in
+    is ∙ sym (same_path_after c.args.place c.args.task.now c.provide.new.task c.requires.rests c.in_ok-provide.ensures.rests got.1)
+
+pub bear-requires-clause-count : goal.bear-requires-clause-count
+bear-requires-clause-count c =
+    let got = provided c.args.place (shown c.args.task.now) (shown c.provide.new.task) _ c.in-Done.is c.in_ok-provide.ensures.answer in
+    let is : c.in-Some.children ≡ c.args.task.now.children + 1 = search rules in
+    is ∙ ap (λ k. k + 1)
+    (sym (same_children_after c.args.place c.args.task.now c.provide.new.task c.requires.rests c.in_ok-provide.ensures.rests got.1))
+
+pub returns-in-Done-clause-answer : goal.returns-in-Done-clause-answer
+returns-in-Done-clause-answer c =
+    let got = provided c.args.place (shown c.args.task.now) (shown c.provide.new.task) _ c.in-Done.is c.in_ok-provide.ensures.answer in
+    bore_after c.args.place c.args.steps (shown c.args.task.now) (shown c.provide.new.task) _ got.1 c.bear.ensures.done

@@ -1,6 +1,6 @@
-use Rattle.std.proofs.Common.{rules, ◌≡◌, ◌-◌, ◌∷◌, ◌++◌, [], false, Some, refl, ap, ◌∙◌, arith}
+use Rattle.std.proofs.Common.{rules, ◌≡◌, ◌+◌, ◌-◌, ◌/◌, ◌∷◌, ◌++◌, [], false, Some, refl, ap, ◌∙◌, arith}
 use Rattle.object_table.specs.declared.task.Task.{Task}
-use Rattle.object_table.proofs.RollCalls.{youngest, has_child, may_split, parent_rests, parent_shown, child_rests, child_shown}
+use Rattle.object_table.proofs.RollCalls.{youngest, has_child, may_share, may_split, parent_rests, parent_shown, child_rests, child_shown}
 use Rattle.object_table.proofs.turns.split_off.Goals as goal
 
 pub split_seat-seat-requires : goal.split_seat-seat-requires
@@ -15,6 +15,9 @@ pub overflow_sub-task : goal.overflow_sub-task
 overflow_sub-task c =
     let h = has_child c.args.task.now c.requires.rests c.requires.kid.0 c.requires.kid.1 in
     omega (arith, h)
+
+pub overflow_sub-task-2 : goal.overflow_sub-task-2
+overflow_sub-task-2 c = may_share c.args.task.now c.requires.rests c.requires.kid.0 c.requires.kid.1
 
 pub returns-clause-rests : goal.returns-clause-rests
 returns-clause-rests c =
@@ -39,6 +42,8 @@ returns-clause-child c =
       seat = seat;
       path = c.in_ok-path.path;
       spare = Some c.in_ok-spare.spare;
+      tickets = 1 + t.tickets / 16;
+      notes = c.none.result;
       children = 0;
       events = 0;
       touched = 0;
@@ -48,6 +53,6 @@ returns-clause-child c =
     let is = c.split_seat-seat.ensures.4 in
     let at = path ∙ ap (λ n. t.path ++ n ∷ []) same in (
       c.split_seat-seat.ensures.3,
-      child_rests t r baby waits kid is at twice refl (refl, refl) refl,
-      child_shown t r baby waits kid is at twice refl (refl, refl) refl,
+      child_rests t r baby waits kid is at twice refl (refl, refl) refl refl c.none.ensures,
+      child_shown t r baby waits kid is at twice refl (refl, refl) refl refl c.none.ensures,
     )

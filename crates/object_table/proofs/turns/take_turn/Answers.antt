@@ -1,5 +1,4 @@
 use Rattle.std.proofs.Common.{◌∙◌, ℕ, List, ◌∷◌, refl, ap, arith}
-use Rattle.object_table.specs.Views.{bare}
 use Rattle.object_table.specs.Plays.{tried_at, in_turn}
 use Rattle.object_table.specs.declared.slot.Slot.{Slot}
 use Rattle.object_table.proofs.Goes.{trying}
@@ -27,7 +26,7 @@ compare_exchange-found-requires c =
       c.requires.table.0,
       omega (arith, wide, lt),
       trying words.key words.table_id.slots c.args.seat.now.id c.args.place c.args.seat.now.me lt c.requires.rests.1
-          c.requires.rests.2,
+          c.requires.ready,
     )
 
 pub returns-then-found-ne0-clause-busy : goal.returns-then-found-ne0-clause-busy
@@ -44,7 +43,8 @@ returns-clause-got c =
     let had = told.0 (let none = c.if-found-ne0.false in omega (arith, none)) in (
       had.0,
       record {
-        me = had.1 ∙ ap (λ (xs : List (ℕ × Slot)). (in_turn o had.0 c.args.seat.now.me.0, (o, bare had.0) ∷ xs)) c.requires.rests.0;
-        told = had.2 c.requires.rests.2;
+        me = had.1 ∙ ap (λ (xs : List (ℕ × Slot)). (in_turn o had.0 c.args.seat.now.me.0, (o, had.0) ∷ xs)) c.requires.rests.0;
+        told = had.2;
+        roll = had.3;
       },
     )

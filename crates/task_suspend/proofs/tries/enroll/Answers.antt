@@ -36,7 +36,7 @@ split-requires-clause-live g c =
     let v = x.pass.shows in
     let w = c.enroll.new.pass.shows in
     let o = count_of c.args.table.now.plan in
-    bore_live o v w (enrolled_done o v w c.in_ok-enroll.field-0 c.in-Done.is c.in_ok-enroll.ensures.answer) tied.live
+    bore_live c.steps-steps.result v w (enrolled_done o c.steps-steps.result v w c.in_ok-enroll.field-0 c.in-Done.is c.in_ok-enroll.ensures.answer) tied.live
 
 pub split-requires-clause-kid : goal.split-requires-clause-kid
 split-requires-clause-kid g c =
@@ -44,7 +44,7 @@ split-requires-clause-kid g c =
     let v = x.pass.shows in
     let w = c.enroll.new.pass.shows in
     let o = count_of c.args.table.now.plan in
-    bore_kid o v w (enrolled_done o v w c.in_ok-enroll.field-0 c.in-Done.is c.in_ok-enroll.ensures.answer)
+    bore_kid c.steps-steps.result v w (enrolled_done o c.steps-steps.result v w c.in_ok-enroll.field-0 c.in-Done.is c.in_ok-enroll.ensures.answer)
 
 pub child-requires : goal.child-requires
 child-requires g c = rw (← c.deref_mut-task.ensures.value) at c.requires.asked
@@ -60,9 +60,9 @@ invariant_of-child g c =
     let o = count_of c.args.table.now.plan in
     record {
       tied = rw c.in_ok-theirs-in-Done.ensures
-          (born_so g.N.RunName.mark g.N.RunName.plan x.pass x.machine x.from x.events tied was_asked was_entered o w q
+          (born_so g.N.RunName.mark g.N.RunName.plan x.pass x.machine x.from x.events tied was_asked was_entered c.steps-steps.result w q
           c.in_ok-machine-in-Done.machine (c.in_ok-young-in-Done.ensures.child.0 ∙ c.in_ok-enroll.ensures.mark)
-          (enrolled_done o x.pass.shows w c.in_ok-enroll.field-0 c.in-Done.is c.in_ok-enroll.ensures.answer) c.in_ok-young-in-Done.ensures.child.1
+          (enrolled_done o c.steps-steps.result x.pass.shows w c.in_ok-enroll.field-0 c.in-Done.is c.in_ok-enroll.ensures.answer) c.in_ok-young-in-Done.ensures.child.1
           c.in_ok-machine-in-Done.ensures.begins c.in_ok-machine-in-Done.ensures.objects);
     }
 
@@ -78,9 +78,9 @@ invariant_of-capsule g c =
     let o = count_of c.args.table.now.plan in
     record {
       tied = numbered g.N.RunName.mark g.N.RunName.plan q b x.from (x.events + 1) x.from c.in_ok-done.done
-          (parted g.N.RunName.mark g.N.RunName.plan x.pass x.machine x.from x.events tied was_asked was_entered o
+          (parted g.N.RunName.mark g.N.RunName.plan x.pass x.machine x.from x.events tied was_asked was_entered c.steps-steps.result
           ((x.machine.children + 1) % 2 ^ 32) w q b (c.in_ok-young-in-Done.ensures.mark ∙ c.in_ok-enroll.ensures.mark)
-          (enrolled_done o x.pass.shows w c.in_ok-enroll.field-0 c.in-Done.is c.in_ok-enroll.ensures.answer) c.in_ok-young-in-Done.ensures.parent
+          (enrolled_done o c.steps-steps.result x.pass.shows w c.in_ok-enroll.field-0 c.in-Done.is c.in_ok-enroll.ensures.answer) c.in_ok-young-in-Done.ensures.parent
           c.in_ok-machine-in-Done.ensures.created) refl c.in_ok-done.ensures;
     }
 
@@ -93,7 +93,7 @@ invariant_of-capsule-in-Busy g c =
     let n = c.in-Busy.field-0 in
     record {
       tied = busy g.N.RunName.mark g.N.RunName.plan x.pass x.machine x.from x.events tied q n o c.in_ok-enroll.ensures.mark
-          (enrolled_busy o x.pass.shows q.shows c.in_ok-enroll.field-0 n c.in-Busy.is c.in_ok-enroll.ensures.answer);
+          (enrolled_busy o c.steps-steps.result x.pass.shows q.shows c.in_ok-enroll.field-0 n c.in-Busy.is c.in_ok-enroll.ensures.answer);
     }
 
 pub returns-in_ok-theirs-in-Done : goal.returns-in_ok-theirs-in-Done
@@ -109,8 +109,8 @@ returns-in_ok-theirs-in-Done g c =
       asked = was_asked;
       entered = was_entered;
       enrolled = w;
-      bore = subst B (roll_at g.N.RunName.mark g.N.RunName.plan x.pass x.machine x.from x.events tied c.args.table.now.plan c.requires.table.1)
-          (enrolled_done o x.pass.shows w c.in_ok-enroll.field-0 c.in-Done.is c.in_ok-enroll.ensures.answer);
+      bore = subst B c.steps-steps.ensures
+          (enrolled_done o c.steps-steps.result x.pass.shows w c.in_ok-enroll.field-0 c.in-Done.is c.in_ok-enroll.ensures.answer);
       parent = c.in_ok-young-in-Done.ensures.parent;
       answered = record { machine = c.in_ok-machine-in-Done.ensures.created; from = refl; events = c.in_ok-done.ensures; gate = refl };
       young = c.in_ok-young-in-Done.ensures.child.1;
@@ -129,7 +129,7 @@ returns-in-Busy g c =
     let w = c.enroll.new.pass.shows in
     let o = count_of c.args.table.now.plan in
     let child = child_task (number_of x.machine.at.phase) x.machine.at.execution in
-    let found = enrolled_busy o x.pass.shows w c.in_ok-enroll.field-0 c.in-Busy.field-0 c.in-Busy.is c.in_ok-enroll.ensures.answer in
+    let found = enrolled_busy o c.steps-steps.result x.pass.shows w c.in_ok-enroll.field-0 c.in-Busy.field-0 c.in-Busy.is c.in_ok-enroll.ensures.answer in
     rw (← c.deref_mut-task.ensures.value) (record {
       wanted = ask.Create;
       asked = was_asked;
