@@ -51,8 +51,8 @@ fn core_laws()
 
 // One try at a turn, by a pass whose task is live or which has something to hand in. The word of a place lies 16 words behind that of the one before, so that no two
 // share a cache line of 64 bytes, nor a pair of such lines, which processors fetch together. The
-// first word of the table is that of no place, and nothing writes it: each split and each join of
-// passes reads it.
+// first word of the table is that of no place, and nothing writes it: creations, ends, and each split
+// and join of passes read it.
 pub(crate) fn take_turn(words: &Words, seat: &mut Seat<Slot, View>, place: usize) -> Result<(), u64>
     requires laid { Laid words.now.table_id words.now.key }
     requires table { (seat.old.table_id ≡ words.now.table_id) × (place < words.now.table_id.slots) }
