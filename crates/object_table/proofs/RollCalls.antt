@@ -324,7 +324,7 @@ module _ (key : RunPlan) (slots o : ℕ) (q : TallyView) (t now : Task) (b : Beg
     })
 
 -- a view in which alone the table's side, what is in hand and what is known of the end differ from another
-module _ (t : Task) (r : Rests t) (o : ℕ) (q : TallyView) (w : View) (seat : w.seat ≡ t.seat.me.0.seat) (held : w.held ≡ t.seat.me.0.held) where
+module _ (t : Task) (r : Rests t) (w : View) (seat : w.seat ≡ t.seat.me.0.seat) (held : w.held ≡ t.seat.me.0.held) where
   abbrev at0 : View
   at0 = t.seat.me.0
 
@@ -349,13 +349,13 @@ rests_with t r t3 w me seat held live unborn off path children spare touched eve
     record {
       holds = ap (λ (m : Me Slot View). m.1) me;
       idle = ap (λ (m : Me Slot View). m.0.turn) me ∙ off;
-      touches = to (λ m. all_touches t3.touched m.0 ≡ true) (ap (λ k. all_touches k w) touched ∙ all_other t r 0 (record { due = 0; notes = [] }) w seat held);
+      touches = to (λ m. all_touches t3.touched m.0 ≡ true) (ap (λ k. all_touches k w) touched ∙ all_other t r w seat held);
       path = to (λ m. t3.path ≡ m.0.seat.path) (path ∙ r.path ∙ sym (ap (λ (z : Place). z.path) seat));
       spare = to (λ m. m.0.live ≡ true → t3.spare ≡ Some t3.path) (λ l. spare ∙ r.spare (sym live ∙ l) ∙ ap (λ p. Some p) (sym path));
       children = to (λ m. t3.children ≡ m.0.seat.children) (children ∙ r.children ∙ sym (ap (λ (z : Place). z.children) seat));
       events = to (λ m. t3.events ≡ (passed t3.touched m.0).seat.walker.done % 2 ^ 64) (events ∙ r.events
           ∙ sym (ap (λ k. (passed k w).seat.walker.done % 2 ^ 64) touched
-          ∙ ap (λ (z : View). z.seat.walker.done % 2 ^ 64) (passed_other t r 0 (record { due = 0; notes = [] }) w seat held)));
+          ∙ ap (λ (z : View). z.seat.walker.done % 2 ^ 64) (passed_other t r w seat held)));
       over = to (λ m. t3.over ≡ m.0.over) over;
       tickets = to (λ m. t3.tickets ≡ m.0.tickets) purse.tickets;
       notes = to (λ m. t3.notes ≡ m.0.notes) purse.notes;
@@ -422,7 +422,7 @@ module _ (key : RunPlan) (slots o : ℕ) (place : o ≡ count_of key) (now : Tas
         let moved : (shown t3) ≡ passed poor.touched after = (λ i. passed ((ap (λ (z : Task). z.touched) is3) i) (me_is i).0) in
         record {
           roll = s.roll;
-          after = moved ∙ passed_other poor poor_rests o s.roll after refl refl
+          after = moved ∙ passed_other poor poor_rests after refl refl
               ∙ (λ i. record (saw_roll o s.roll (sym (shown_is poor) i)) { tickets = (sym (shown_is poor) i).tickets + stock; turn = idle_same poor poor_rests i });
         }
 
@@ -513,7 +513,7 @@ module _ (key : RunPlan) (laws : Laws key) (slots o : ℕ) (place : o ≡ count_
           record {
             roll = q;
             counts = roll_counts b;
-            after = moved ∙ passed_other t last_rests o q after3 refl refl
+            after = moved ∙ passed_other t last_rests after3 refl refl
                 ∙ ap (λ c. record after3 { seat = (shown t).seat; held = (shown t).held; over = t.seat.me.0.over || c }) all
                 ∙ (λ i. record (saw_roll o q (sym (shown_is t) i)) {
                   tickets = 0;

@@ -20,12 +20,12 @@ pub(crate) const MOST: u64 = 1 << 62;
 /// note that a task has in hand. The notes are in a list whose nodes tasks bring along, so that no
 /// turn takes memory, and none writes but here, in the last node that was handed in before, and in
 /// the first that comes. The words behind are not used: a slot has room for each of its kinds, so
-/// what lies in one slot is on other cache lines of 64 bytes than what lies in the next.
+/// what lies in one slot is on other pairs of cache lines of 64 bytes than what lies in the next.
 #[derive(Drop)]
 pub(crate) struct Tally {
     due: u64,
     notes: Notes,
-    apart: [u64; 16],
+    apart: [u64; 24],
 }
 
 impl Model for Tally {
@@ -44,7 +44,7 @@ impl Tally {
         Tally {
             due: STOCK,
             notes: Notes::none(alloc),
-            apart: [0; 16],
+            apart: [0; 24],
         }
     }
 
