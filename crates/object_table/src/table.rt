@@ -274,8 +274,8 @@ impl<'c> ObjectTable<'c> {
     }
 
     /// The task's end, which is the pass's last event; its last part has so many steps, and it ended
-    /// with this fault, if with one. The pass has a note of it. No word is tried for it, and it takes
-    /// no memory.
+    /// with this fault, if with one. The pass has a note of it. No word is tried for it, and it does
+    /// not fail for want of memory.
     pub fn resign(&self, pass: &mut TaskPass, blame: Option<Blame>, steps: u64)
         requires mark { pass.old.mark ≡ self.now.mark }
         requires next { Next (Resign blame steps) pass.old.shows }
@@ -286,7 +286,7 @@ impl<'c> ObjectTable<'c> {
     }
 
     /// Takes one resigned pass into another, with its tickets and notes; what either knew of the end is
-    /// kept. No word is tried for it, and it takes no memory.
+    /// kept. No word is tried for it, and it does not fail for want of memory.
     pub fn end(&self, keeper: &mut TaskPass, ended: TaskPass)
         requires mark { (keeper.old.mark ≡ self.now.mark) × (ended.mark ≡ self.now.mark) }
         requires gone { IsGone keeper.old.shows × IsGone ended.shows }
@@ -300,7 +300,7 @@ impl<'c> ObjectTable<'c> {
     /// One try to hand in all tickets and notes of a resigned pass, at the roll's word; it is no event.
     /// Where nothing may come any more after it, no task is live, all notes were handed in, and the pass
     /// knows from then on that all is over. Where the pass has nothing to hand in, no word is tried. It
-    /// takes no memory.
+    /// does not fail for want of memory.
     pub fn hand_in(&self, pass: &mut TaskPass) -> Tried
         requires mark { pass.old.mark ≡ self.now.mark }
         requires gone { IsGone pass.old.shows }

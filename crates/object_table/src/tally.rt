@@ -17,10 +17,10 @@ pub(crate) const MOST: u64 = 1 << 62;
 
 /// The roll, but for the paths of its live tasks: what is due, and the notes that were handed in. A
 /// ticket is the leave to note one part of a task; due are the tickets that are out, and one for each
-/// note that a task has in hand. The notes are in a list whose nodes tasks bring along, so that no
-/// turn takes memory, and none writes but here, in the last node that was handed in before, and in
-/// the first that comes. The words behind are not used: a slot has room for each of its kinds, so
-/// what lies in one slot is on other pairs of cache lines of 64 bytes than what lies in the next.
+/// note that a task has in hand. The notes lie in chunks, each in a node that a task has brought
+/// along, so that no turn fails for want of memory. The words behind are not used: a slot has room
+/// for each of its kinds, so what lies in one slot is on other pairs of cache lines of 64 bytes than
+/// what lies in the next.
 #[derive(Drop)]
 pub(crate) struct Tally {
     due: u64,
@@ -63,7 +63,7 @@ impl Tally {
     }
 
     /// A pass hands its notes in, and gives its tickets back; both together are worth so many tickets.
-    /// The answer is whether nothing may still come. It takes no memory.
+    /// The answer is whether nothing may still come. It does not fail for want of memory.
     pub(crate) fn receive(&mut self, worth: u64, notes: &mut Notes) -> bool
         requires due { worth ≤ self.old.due }
         requires room { self.old.due + length self.old.notes ≤ most }
