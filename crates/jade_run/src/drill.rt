@@ -1,26 +1,27 @@
 //! What a drill comes to: a program that is made from a number of tasks, run, and told by a sum.
 
-ghost use Rattle.std.specs.Prelude.{◌≡◌, ◌≤◌, [], length, map, IfOk};
+ghost use Rattle.std.specs.Prelude.{◌≡◌, ◌≤◌, [], length, IfOk};
 ghost use Rattle.std.specs.List.{sum_by};
 ghost use Rattle.jade_syntax.specs.Image.{program};
 ghost use Rattle.jade_syntax.specs.Objects.{input_names};
 ghost use Rattle.jade_meaning.specs.Answer.{answer};
-ghost use Rattle.jade_meaning.specs.Report.{Ascends};
+ghost use Rattle.jade_meaning.specs.Report.{report};
 ghost use Rattle.jade_meaning.specs.ReportAnswer.{report_answer};
-ghost use Rattle.jade_run.specs.Outcome.{fault_key, IsCrew, IsDrilled};
+ghost use Rattle.jade_run.specs.Outcome.{IsCrew, IsDrilled};
 ghost use Rattle.jade_run.specs.Witnessed.{seen_with, SawRun};
 ghost use Rattle.jade_run.specs.steps.Drilling.{ShowsSum};
 ghost use Rattle.jade_gen.specs.Drill.{drill_text};
 
 use crate::answer::{Answer, Ready, prepare};
-use crate::run::{answer_of, fault_of};
+use crate::run::answer_of;
 use crate::sums::total;
 use crate::witness::Witness;
 use crate::{Status, texts};
-use jade_base::{Memory, Report};
+use jade_base::Memory;
 use jade_gen::drill_text;
 use jade_meaning::laws::{report_ascends, report_tells};
 use jade_syntax::Checked;
+use object_table::Ran;
 use std::alloc::Global;
 use std::sync::Wait;
 use std::thread::Threads;
@@ -30,24 +31,24 @@ use task_codegen::compile;
 /// The most steps of a drill: the greatest limit.
 const MOST_STEPS: u32 = u32::MAX;
 
-/// What the report of a drill is answered with: a fault as a run's, or else the sum of all cells.
-fn sum_answer(
-    alloc: Global,
-    checked: &Checked,
-    tasks: u32,
-    report: &Report,
-) -> Result<Answer, Memory>
-    requires ascending { Ascends (map fault_key report.now.faults) }
-    requires few { sum_by length report.now.objects ≤ 1048576 }
-    ensures { IfOk result (λ a. ShowsSum (program checked.now.program) tasks (report_answer 4294967295 report.now) a.text.items a.status) }
+/// What the run of a drill is answered with: a fault as that of any run, or else the sum of all cells.
+fn sum_of_run(alloc: Global, checked: &Checked, tasks: u32, ran: Ran<'_>) -> Result<Answer, Memory>
+    requires few { sum_by length (report (program ran.plan.program) ran.plan.numbers ran.plan.limit).objects ≤ 1048576 }
+    ensures { IfOk result (λ a. ShowsSum (program checked.now.program) tasks
+        (report_answer 4294967295 (report (program ran.entry.plan.program) ran.entry.plan.numbers ran.entry.plan.limit)) a.text.items a.status) }
 {
-    match fault_of(report, MOST_STEPS) {
-        Some(_) => answer_of(alloc, checked, report, MOST_STEPS),
-        None => Ok(Answer {
-            text: texts::drilled(alloc, tasks, total(&report.objects))?,
-            status: Status::Good,
-        }),
+    match ran.cells(MOST_STEPS) {
+        Some(cells) => {
+            return Ok(Answer {
+                text: texts::drilled(alloc, tasks, total(cells))?,
+                status: Status::Good,
+            });
+        }
+        None => {}
     }
+    report_ascends();
+    let report = ran.report(alloc)?;
+    answer_of(alloc, checked, &report, MOST_STEPS)
 }
 
 /// What the program of a drill comes to, where so many workers run its tasks. The witness is shown
@@ -68,14 +69,13 @@ fn drill_checked<R: Threads + Wait + Sync, G: Gate, W: Witness>(
     ensures answer { IfOk result
         (λ a. ShowsSum (program checked.program) tasks (answer (program checked.program) [] 4294967295) a.text.items a.status) }
 {
-    report_ascends();
     report_tells();
     let compiled = compile(alloc, checked)?;
     let ran = run_tasks(rt, alloc, &compiled, &[], workers, MOST_STEPS, gate)?;
     witness.see(&ran);
     let seen = compiled.checked();
     let _program = seen.program();
-    let answer = sum_answer(alloc, seen, tasks, ran.report())?;
+    let answer = sum_of_run(alloc, seen, tasks, ran)?;
     Ok(answer)
 }
 

@@ -5,7 +5,7 @@ ghost use Rattle.std.specs.Option.{option_copied};
 ghost use Rattle.jade_syntax.specs.Image.{program};
 ghost use Rattle.jade_syntax.specs.Objects.{input_names};
 ghost use Rattle.jade_meaning.specs.Answer.{answer, Faulted, Cells};
-ghost use Rattle.jade_meaning.specs.Report.{Ascends};
+ghost use Rattle.jade_meaning.specs.Report.{Ascends, report};
 ghost use Rattle.jade_meaning.specs.ReportAnswer.{report_answer, first_note, step_over};
 ghost use Rattle.serial_machine.specs.Answers.{told};
 ghost use Rattle.jade_run.specs.Outcome.{fault_key, IsAnswered, IsCrew, Shows};
@@ -20,6 +20,7 @@ use jade_base::{
 };
 use jade_meaning::laws::{report_ascends, report_tells};
 use jade_syntax::Checked;
+use object_table::Ran;
 use serial_machine::{RunAnswer, run_serial};
 use std::alloc::Global;
 use std::sync::Wait;
@@ -93,6 +94,31 @@ pub(crate) fn answer_of(
     }
 }
 
+/// What a run is answered with, of which the report tells the answer. It is put in order only where it
+/// tells a fault.
+fn answer_of_run(
+    alloc: Global,
+    checked: &Checked,
+    ran: Ran<'_>,
+    limit: u32,
+) -> Result<Answer, Memory>
+    ensures { IfOk result (λ a. Shows (program checked.now.program)
+        (report_answer limit (report (program ran.entry.plan.program) ran.entry.plan.numbers ran.entry.plan.limit)) a.text.items a.status) }
+{
+    match ran.cells(limit) {
+        Some(cells) => {
+            return Ok(Answer {
+                text: texts::objects(alloc, checked, cells)?,
+                status: Status::Good,
+            });
+        }
+        None => {}
+    }
+    report_ascends();
+    let report = ran.report(alloc)?;
+    answer_of(alloc, checked, &report, limit)
+}
+
 /// What an answer is written as.
 fn shown(alloc: Global, checked: &Checked, answer: &RunAnswer) -> Result<Answer, Memory>
     ensures { IfOk result (λ a. Shows (program checked.now.program) (told answer.now) a.text.items a.status) }
@@ -128,12 +154,11 @@ fn run_by_workers<R: Threads + Wait + Sync, G: Gate, W: Witness>(
         ≡ seen_with (W.seen witness.old) (record { program = checked.program; numbers = numbers.now; limit = limit })) }
     ensures answer { IfOk result (λ a. Shows (program checked.program) (answer (program checked.program) numbers.now limit) a.text.items a.status) }
 {
-    report_ascends();
     report_tells();
     let compiled = compile(alloc, checked)?;
     let ran = run_tasks(rt, alloc, &compiled, numbers, workers, limit, gate)?;
     witness.see(&ran);
-    let answer = answer_of(alloc, compiled.checked(), ran.report(), limit)?;
+    let answer = answer_of_run(alloc, compiled.checked(), ran, limit)?;
     Ok(answer)
 }
 

@@ -23,5 +23,6 @@ pub mod Splitting
 pub mod Joining
 pub mod RollCalls
 pub mod Endings
+mod Telling
 pub mod Sizes
 pub mod Leaving

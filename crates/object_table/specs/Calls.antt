@@ -7,6 +7,8 @@ use Rattle.jade_base.specs.declared.report.Blame.{Blame}
 use Rattle.jade_base.specs.declared.report.Report.{Report}
 use Rattle.jade_base.specs.declared.rights.Mode.{Mode}
 use Rattle.jade_syntax.specs.Objects.{sizes}
+use Rattle.jade_meaning.specs.Answer.{Answer, Faulted}
+use Rattle.jade_meaning.specs.Serial.{Path}
 use Rattle.jade_meaning.specs.Talk.{Event}
 use Rattle.jade_meaning.specs.Walk.{upcoming, First}
 use Rattle.object_shelf.specs.declared.queue.Entry.{Entry}
@@ -35,6 +37,10 @@ pub record Desk : Type 0 where
 pub record Pass : Type 0 where
   pub mark : TableId
   pub shows : View
+
+-- an answer that is a fault of a task
+abbrev pub IsFault : Answer → Type 0
+IsFault a = (p : Path) × (b : Blame) × (a ≡ Faulted p b)
 
 -- what a run did, to its end, and the plan that it is of
 pub record RanView : Type 0 where

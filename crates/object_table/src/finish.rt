@@ -3,22 +3,19 @@
 ghost use Rattle.std.specs.Prelude.{◌≡◌, ◌<◌, ◌≤◌, ◌+◌, [], ◌∷◌, ◌++◌, true, map, vec_len, vec_capacity, take, IfOk};
 ghost use Rattle.std.specs.Mem.Slots.{slots_filled, slots_items, slots_len, IsFull};
 ghost use Rattle.jade_meaning.specs.Plan.{RunPlan};
-ghost use Rattle.schedule_core.specs.Reports.{told_of};
-ghost use Rattle.task_roll.specs.Rolls.{by_key};
 ghost use Rattle.object_table.specs.steps.Kept.{Laid, shown};
 ghost use Rattle.object_table.specs.steps.Endings.{EndLaws, LastSlots, Emptied, cells_in, notes_in};
 
+use crate::notes::Notes;
 use crate::ran::Ran;
 use crate::slot::Slot;
 use crate::task::Task;
 use crate::view::{Sharing, View};
 use atomic_table::{Closed, Table};
-use jade_base::{CellLists, Memory, Numbers, Report};
+use jade_base::{CellLists, Memory, Numbers};
 use jade_list::sequence::Sequence;
 use jade_meaning::Plan;
-use schedule_core::reports::report_of;
 use std::alloc::Global;
-use task_roll::PartNote;
 
 // What is true of every core at its end.
 fn end_laws()
@@ -43,8 +40,13 @@ pub(crate) fn finish_with<'c>(
 {
     end_laws();
     let (slots, roll) = close(alloc, table, task)?;
-    let report = report_in(alloc, slots, roll)?;
-    Ok(Ran { report, plan })
+    let objects = contents_of(alloc, slots.as_slice())?;
+    let notes = notes_of(alloc, roll);
+    Ok(Ran {
+        objects,
+        notes,
+        plan,
+    })
 }
 
 // The slots of the objects and that of the roll, once nobody shares them.
@@ -107,16 +109,6 @@ fn add(slots: &mut Vec<Slot>, slot: Slot)
     }
 }
 
-// The report of contents and notes in slots.
-fn report_in(alloc: Global, slots: Vec<Slot>, roll: Slot) -> Result<Report, Memory>
-    ensures { IfOk result (λ r. r ≡ told_of (map cells_in slots.items) (by_key (notes_in roll))) }
-{
-    let objects = contents_of(alloc, slots.as_slice())?;
-    let notes = notes_of(alloc, roll)?;
-    let report = report_of(alloc, objects, notes)?;
-    Ok(report)
-}
-
 // The contents at home in slots.
 fn contents_of(alloc: Global, slots: &[Slot]) -> Result<CellLists, Memory>
     ensures { IfOk result (λ lists. lists ≡ map cells_in slots.now) }
@@ -147,12 +139,12 @@ fn cells_of(alloc: Global, slot: &Slot) -> Result<Numbers, Memory>
 }
 
 // The notes in a slot.
-fn notes_of(alloc: Global, slot: Slot) -> Result<Vec<PartNote>, Memory>
-    ensures { IfOk result (λ notes. notes.items ≡ notes_in slot) }
+fn notes_of(alloc: Global, slot: Slot) -> Notes
+    ensures { result ≡ notes_in slot }
 {
     match slot {
-        Slot::Roll(tally) => tally.into_notes(alloc),
-        Slot::Away => Ok(Vec::new(alloc)),
-        Slot::Object(_) => Ok(Vec::new(alloc)),
+        Slot::Roll(tally) => tally.into_notes(),
+        Slot::Away => Notes::none(alloc),
+        Slot::Object(_) => Notes::none(alloc),
     }
 }

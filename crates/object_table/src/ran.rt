@@ -1,19 +1,26 @@
 //! What a run did.
 
-ghost use Rattle.std.specs.Prelude.{◌≡◌};
+ghost use Rattle.std.specs.Prelude.{◌≡◌, IfOk, MatchOption};
 ghost use Rattle.jade_syntax.specs.Image.{program as abstracted};
+ghost use Rattle.jade_meaning.specs.Answer.{Cells};
 ghost use Rattle.jade_meaning.specs.Report.{report};
+ghost use Rattle.jade_meaning.specs.ReportAnswer.{report_answer};
+ghost use Rattle.object_table.specs.Calls.{IsFault};
 
-use jade_base::Report;
+use crate::notes::Notes;
+use jade_base::{CellLists, Memory, Report};
 use jade_meaning::Plan;
+use schedule_core::reports::report_of;
+use std::alloc::Global;
 use std::marker::Model;
 
 /// What a run did, to its end: the report, and the plan that it is of. `ObjectTable::finish` alone
 /// makes one, and its report is the one that the meaning has for the plan's program, its numbers and
-/// its limit.
+/// its limit. Its parts are put in order only where the report is asked for.
 #[derive(Drop)]
 pub struct Ran<'c> {
-    pub(crate) report: Report,
+    pub(crate) objects: CellLists,
+    pub(crate) notes: Notes,
     pub(crate) plan: Plan<'c>,
 }
 
@@ -21,6 +28,8 @@ impl<'c> Model for Ran<'c> {
     ghost use Rattle.std.specs.Prelude.{◌≡◌};
     ghost use Rattle.jade_syntax.specs.Image.{program as abstracted};
     ghost use Rattle.jade_meaning.specs.Report.{report as reported};
+    ghost use Rattle.task_roll.specs.Rolls.{by_key};
+    ghost use Rattle.schedule_core.specs.Reports.{told_of};
     ghost use Rattle.object_table.specs.Calls.{RanView};
     ghost use Rattle.object_table.specs.Codes.{coded_ran};
 
@@ -28,18 +37,36 @@ impl<'c> Model for Ran<'c> {
 
     ghost coded = { coded_ran };
 
-    ghost view = { λ r. record { report = r.report; plan = r.plan } };
+    ghost view = { λ r. record { report = told_of r.objects (by_key r.notes); plan = r.plan } };
 
-    ghost invariant = { λ r. r.report ≡ reported (abstracted r.plan.program) r.plan.numbers r.plan.limit };
+    ghost invariant = { λ r. told_of r.objects (by_key r.notes) ≡ reported (abstracted r.plan.program) r.plan.numbers r.plan.limit };
 }
 
 impl<'c> Ran<'c> {
-    /// The report: that of the meaning, for the plan's program, its numbers and its limit. It takes no
-    /// memory.
-    pub fn report(&self) -> &Report
-        ensures is { result.now ≡ self.now.report }
-        ensures meaning { result.now ≡ report (abstracted self.now.plan.program) self.now.plan.numbers self.now.plan.limit }
+    /// The contents of the objects, where they are what the report tells, with so many steps allowed
+    /// in all; `None` exactly where it tells a fault. It takes no memory.
+    pub fn cells(&self, limit: u32) -> Option<&CellLists>
+        ensures meaning { self.now.report ≡ report (abstracted self.now.plan.program) self.now.plan.numbers self.now.plan.limit }
+        ensures told { MatchOption result (IsFault (report_answer limit self.now.report)) (λ cells. report_answer limit self.now.report ≡ Cells cells.now) }
     {
-        &self.report
+        match self.notes.left_of(u64::from(limit)) {
+            Some(_) => Some(&self.objects),
+            None => None,
+        }
+    }
+
+    /// The report: that of the meaning, for the plan's program, its numbers and its limit. The error is
+    /// want of memory.
+    pub fn report(self, alloc: Global) -> Result<Report, Memory>
+        ensures is { IfOk result (λ r. r ≡ self.entry.report) }
+        ensures meaning { IfOk result (λ r. r ≡ report (abstracted self.entry.plan.program) self.entry.plan.numbers self.entry.plan.limit) }
+    {
+        let Ran {
+            objects,
+            notes,
+            plan: _,
+        } = self;
+        let notes = notes.into_vec(alloc)?;
+        report_of(alloc, objects, notes)
     }
 }

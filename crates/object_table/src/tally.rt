@@ -1,13 +1,11 @@
 //! What the roll's slot holds.
 
-ghost use Rattle.std.specs.Prelude.{◌≡◌, ◌≤◌, ◌+◌, [], true, false, length, IfOk};
+ghost use Rattle.std.specs.Prelude.{◌≡◌, ◌≤◌, ◌+◌, [], true, false, length};
 ghost use Rattle.object_table.specs.Tallies.{most, opened, restocked, received, is_settled};
 
 use crate::notes::Notes;
-use jade_base::Memory;
 use std::alloc::Global;
 use std::marker::Model;
-use task_roll::PartNote;
 
 /// How many tickets a pass is given at once.
 pub(crate) const STOCK: u64 = 1 << 32;
@@ -77,11 +75,11 @@ impl Tally {
         self.due == 0
     }
 
-    /// The notes, for a caller that is done with the rest. The error is want of memory.
-    pub(crate) fn into_notes(self, alloc: Global) -> Result<Vec<PartNote>, Memory>
-        ensures { IfOk result (λ notes. notes.items ≡ self.notes) }
+    /// The notes, for a caller that is done with the rest. It takes no memory.
+    pub(crate) fn into_notes(self) -> Notes
+        ensures { result ≡ self.notes }
     {
-        self.notes.into_vec(alloc)
+        self.notes
     }
 }
 

@@ -34,6 +34,7 @@ use jade_base::{Blame, Content, Memory, Mode, Path, Rights};
 use jade_meaning::Plan;
 use object_shelf::Shelf;
 use std::alloc::Global;
+use task_roll::PartNote;
 
 /// The words and slots of a table.
 pub(crate) type Words<'c> = Shared<Slot, View, Plan<'c>, Sharing>;
@@ -237,6 +238,41 @@ fn bear(words: &Words, task: &mut Task, spare: SpareNote, children: u32, steps: 
     task.tickets -= 1;
     task.notes.push(spare, task.children, None, steps);
     task.children = children;
+}
+
+// The same, where the pass has tickets enough already; the memory for the note is taken now. The error
+// is want of it, and changes nothing.
+fn bear_at_once(
+    words: &Words,
+    alloc: Global,
+    task: &mut Task,
+    children: u32,
+    steps: u64,
+) -> Result<(), Memory>
+    requires laid { Laid words.now.table_id words.now.key }
+    requires mark { task.old.seat.table_id ≡ words.now.table_id }
+    requires rests { Rests task.old }
+    requires next { (t : TaskOf) × Next (Enroll t steps) (shown task.old) }
+    requires rich { 2 < task.old.tickets }
+    requires count { children ≡ task.old.children + 1 }
+    ensures mark { task.new.seat.table_id ≡ task.old.seat.table_id }
+    ensures rests { Rests task.new }
+    ensures done { OnOk result (Bore steps (shown task.old) (shown task.new)) }
+    ensures unchanged { OnErr result (shown task.new ≡ shown task.old) }
+{
+    core_laws();
+    let note = PartNote {
+        path: task.path.copy(alloc)?,
+        children: task.children,
+        steps,
+        blame: None,
+    };
+    task.notes.add(alloc, note)?;
+    words.load::<Enrolling>(&mut task.seat, 0);
+    settle(task);
+    task.tickets -= 1;
+    task.children = children;
+    Ok(())
 }
 
 // The room that is kept for the last note.
@@ -554,6 +590,31 @@ pub(crate) fn enroll_at(
         Some(children) => children,
         None => return Err(Memory),
     };
+    if task.tickets < 3 {
+        return enroll_with_more(words, alloc, task, place, children, steps);
+    }
+    bear_at_once(words, alloc, task, children, steps)?;
+    Ok(Tried::Done)
+}
+
+// The same, by a pass that may want tickets first: after they are got nothing may want memory.
+fn enroll_with_more(
+    words: &Words,
+    alloc: Global,
+    task: &mut Task,
+    place: usize,
+    children: u32,
+    steps: u64,
+) -> Result<Tried, Memory>
+    requires fits { FitsRoll words.now.table_id words.now.key task.old place }
+    requires rests { Rests task.old }
+    requires next { (t : TaskOf) × Next (Enroll t steps) (shown task.old) }
+    requires count { children ≡ task.old.children + 1 }
+    ensures mark { task.new.seat.table_id ≡ task.old.seat.table_id }
+    ensures rests { Rests task.new }
+    ensures answer { IfOk result (λ r. EnrolledAs place steps (shown task.old) r (shown task.new)) }
+    ensures unchanged { OnErr result (AsBefore (shown task.old) (shown task.new)) }
+{
     let spare = SpareNote::of(alloc, &task.path)?;
     match provide(words, task, place)? {
         Tried::Done => {

@@ -8,7 +8,7 @@ mod answer;
 mod gate;
 mod words;
 
-use crate::answer::{has_fault, tell_objects};
+use crate::answer::tell_objects;
 use crate::gate::TimeGate;
 use crate::words::{Words, given};
 use jade_base::{Source, StdSource};
@@ -51,11 +51,11 @@ fn tell_all<R: Threads + Wait + Sync + Env + Print, S: Source>(
     let words = given(rt, alloc)?;
     let compiled = compile(alloc, read_program(alloc, source)?)?;
     let ran = run(rt, alloc, &compiled, &words, gate)?;
-    if has_fault(ran.report(), words.limit) {
+    let Some(cells) = ran.cells(words.limit) else {
         return Err(Stop::Fault);
-    }
+    };
     gate.tell(rt, words.is_timed)?;
-    tell_objects(rt, alloc, compiled.checked(), ran.report())
+    tell_objects(rt, alloc, compiled.checked(), cells)
 }
 
 fn main(rt: HostRuntime) -> ExitCode {

@@ -37,7 +37,8 @@ pub(crate) fn run_by<R: Wait + Print>(
 {
     let (table, pass) = ObjectTable::start(alloc, &plan_of(compiled))?;
     let ran = run_named::<Brand, R>(rt, alloc, table, pass, compiled, schedule)?;
-    report_text(alloc, ran.report())
+    let report = ran.report(alloc)?;
+    report_text(alloc, &report)
 }
 
 /// The run of a table, under a name.

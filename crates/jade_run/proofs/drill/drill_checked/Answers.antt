@@ -1,5 +1,5 @@
 use Rattle.std.specs.Prelude.{ℤ}
-use Rattle.std.proofs.Common.{◌≡◌, ℕ, ◌≤◌, true, [], length, ap, ◌∙◌, sym, subst, List}
+use Rattle.std.proofs.Common.{◌≡◌, ℕ, ◌≤◌, true, [], length, ap, ◌∙◌, sym, subst, refl, List}
 use Rattle.std.specs.List.{sum_by}
 use Rattle.jade_base.specs.declared.report.Report.{Report}
 use Rattle.jade_syntax.specs.CheckedProgram.{CheckedProgram}
@@ -11,7 +11,7 @@ use Rattle.jade_meaning.specs.ReportAnswer.{report_answer, ReportTells}
 use Rattle.jade_meaning.specs.Serial.{serial_run}
 use Rattle.jade_run.specs.declared.status.Status.{Status}
 use Rattle.jade_run.specs.steps.Drilling.{ShowsSum}
-use Rattle.jade_run.proofs.Running.{reported, faults_ascend}
+use Rattle.jade_run.proofs.Running.{reported}
 use Rattle.jade_run.proofs.Totals.{few_after}
 use Rattle.jade_run.proofs.drill.drill_checked.Goals as goal
 
@@ -32,23 +32,20 @@ few r p q s limit e f g h =
     let Q : CheckedProgram → Type 0 = λ x. within_limits x.program.items ≡ true in
     subst P (sym e) (few_after p.program.items (serial_run (program p.program) [] limit) (subst Q (g ∙ f) h))
 
-pub sum_answer-requires-clause-ascending : goal.sum_answer-requires-clause-ascending
-sum_answer-requires-clause-ascending g c =
-    faults_ascend c.report.result.now (program c.args.checked.program) [] 4294967295
-    (reported c.report.result.now c.in_ok-ran.ran.plan c.args.checked c.in_ok-compiled.compiled [] 4294967295 c.report.ensures.meaning c.in_ok-ran.ensures
-    c.in_ok-compiled.ensures)
-    (c.report_ascends.ensures (program c.args.checked.program) [] 4294967295).faults
-
-pub sum_answer-requires-clause-few : goal.sum_answer-requires-clause-few
-sum_answer-requires-clause-few g c =
-    few c.report.result.now c.args.checked c.in_ok-compiled.compiled c.checked-seen.result.now 4294967295
-    (reported c.report.result.now c.in_ok-ran.ran.plan c.args.checked c.in_ok-compiled.compiled [] 4294967295 c.report.ensures.meaning c.in_ok-ran.ensures
-    c.in_ok-compiled.ensures)
-    c.in_ok-compiled.ensures c.checked-seen.ensures c.program-program.ensures.limits
+pub sum_of_run-requires : goal.sum_of_run-requires
+sum_of_run-requires g c =
+    let plan = c.in_ok-ran.ran.plan in
+    let all = report (program plan.program) plan.numbers plan.limit in
+    record {
+      few = few all c.args.checked c.in_ok-compiled.compiled c.checked-seen.result.now 4294967295
+          (reported all plan c.args.checked c.in_ok-compiled.compiled [] 4294967295 refl c.in_ok-ran.ensures c.in_ok-compiled.ensures)
+          c.in_ok-compiled.ensures c.checked-seen.ensures c.program-program.ensures.limits;
+    }
 
 pub returns-clause-answer : goal.returns-clause-answer
 returns-clause-answer g c =
-    told c.report.result.now c.args.checked c.in_ok-compiled.compiled c.checked-seen.result.now c.args.tasks 4294967295 _ _
-    (reported c.report.result.now c.in_ok-ran.ran.plan c.args.checked c.in_ok-compiled.compiled [] 4294967295 c.report.ensures.meaning c.in_ok-ran.ensures
-    c.in_ok-compiled.ensures)
+    let plan = c.in_ok-ran.ran.plan in
+    let all = report (program plan.program) plan.numbers plan.limit in
+    told all c.args.checked c.in_ok-compiled.compiled c.checked-seen.result.now c.args.tasks 4294967295 _ _
+    (reported all plan c.args.checked c.in_ok-compiled.compiled [] 4294967295 refl c.in_ok-ran.ensures c.in_ok-compiled.ensures)
     c.in_ok-compiled.ensures c.checked-seen.ensures (c.report_tells.ensures (program c.args.checked.program) [] 4294967295) c.in_ok-answer.ensures

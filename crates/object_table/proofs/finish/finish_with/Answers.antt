@@ -1,8 +1,10 @@
-use Rattle.std.proofs.Common.{rules, sym, ap, ◌∙◌}
+use Rattle.std.proofs.Common.{rules, sym, ap, ◌∙◌, map}
 use Rattle.jade_syntax.specs.Image.{program as abstracted}
 use Rattle.jade_meaning.specs.Plan.{RunPlan}
 use Rattle.jade_meaning.specs.Report.{report}
-use Rattle.object_table.specs.steps.Endings.{LastSlots}
+use Rattle.schedule_core.specs.Reports.{told_of}
+use Rattle.task_roll.specs.Rolls.{by_key}
+use Rattle.object_table.specs.steps.Endings.{LastSlots, cells_in}
 use Rattle.object_table.proofs.Endings.{reported}
 use Rattle.object_table.proofs.finish.finish_with.Goals as goal
 
@@ -10,5 +12,6 @@ pub invariant_of-result : goal.invariant_of-result
 invariant_of-result c =
     let key = c.args.table.shared.key in
     let slots : LastSlots key c.in_ok-slots.slots.items c.in_ok-slots.roll = search rules in
-    c.in_ok-report.ensures ∙ reported key (c.end_laws.ensures key) c.in_ok-slots.slots.items c.in_ok-slots.roll slots
+    (λ i. told_of ((c.in_ok-objects.ensures ∙ ap (map cells_in) c.as_slice.ensures.value) i) (by_key (c.notes_of-notes.ensures i)))
+    ∙ reported key (c.end_laws.ensures key) c.in_ok-slots.slots.items c.in_ok-slots.roll slots
     ∙ ap (λ (k : RunPlan). report (abstracted k.program) k.numbers k.limit) (sym c.requires.plan)

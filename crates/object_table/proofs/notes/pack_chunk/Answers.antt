@@ -3,9 +3,8 @@ use Rattle.std.proofs.lemmas.Grind.{common_steps}
 use Rattle.object_table.proofs.Packing.{set_last}
 use Rattle.object_table.proofs.notes.pack_chunk.Goals as goal
 
--- src/notes.rt:195:1
-pub returns-then-len-le-PACKED-clause-notes : goal.returns-then-len-le-PACKED-clause-notes
-returns-then-len-le-PACKED-clause-notes c = set_last (λ v. vec_items v) c.args.chunks.now (length c.args.chunks.now - 1) c.in-Some.last.now c.append.new.self c.append.new.other.items c.args.chunk.now.items there
+pub returns-then-has_room-clause-notes : goal.returns-then-has_room-clause-notes
+returns-then-has_room-clause-notes c = set_last (λ v. vec_items v) c.args.chunks.now (length c.args.chunks.now - 1) c.in-Some.last.now c.append.new.self c.append.new.other.items c.args.chunk.now.items there
     c.in-Some.ensures.value moved
   where
     there : length c.args.chunks.now - 1 + 1 ≡ length c.args.chunks.now

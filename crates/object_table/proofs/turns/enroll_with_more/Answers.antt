@@ -9,7 +9,7 @@ use Rattle.object_table.specs.declared.answers.Tried.TheVariants.{Done}
 use Rattle.object_table.specs.declared.task.Task.{Task}
 use Rattle.object_table.proofs.Calls.{path_is, children_is, tickets_is}
 use Rattle.object_table.proofs.RollCalls.{next_after, bore_after, seat_after_all}
-use Rattle.object_table.proofs.turns.enroll_at.Goals as goal
+use Rattle.object_table.proofs.turns.enroll_with_more.Goals as goal
 
 -- a task that may have got tickets has its path and its children as before
 same_path_after : (o : ℕ) (t u : Task) → Rests t → Rests u → (shown u ≡ shown t) ⊎ Restocked o (shown t) (shown u) → u.path ≡ t.path
@@ -41,7 +41,7 @@ bear-requires-clause-spare c =
 pub bear-requires-clause-count : goal.bear-requires-clause-count
 bear-requires-clause-count c =
     let got = provided c.args.place (shown c.args.task.now) (shown c.provide.new.task) _ c.in-Done.is c.in_ok-provide.ensures.answer in
-    let is : c.in-Some.children ≡ c.args.task.now.children + 1 = search rules in
+    let is : c.args.children ≡ c.args.task.now.children + 1 = c.requires.count in
     is ∙ ap (λ k. k + 1)
     (sym (same_children_after c.args.place c.args.task.now c.provide.new.task c.requires.rests c.in_ok-provide.ensures.rests got.1))
 
