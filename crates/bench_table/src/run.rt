@@ -19,6 +19,9 @@ use task_suspend::{Capsule, RunName};
 /// The most steps of a task.
 const LIMIT: u32 = 4_294_967_295;
 
+/// So many words of memory lie between two tasks that one thread makes.
+const APART: usize = 512;
+
 /// How many threads, how many tasks that are live all the while, and how many cycles. The threads
 /// share the tasks and the cycles evenly; what is left over is left out.
 #[derive(Clone, Copy)]
@@ -93,6 +96,14 @@ fn run_named<'c, N: RunName + Send + Sync, R: Threads + Sync>(
     })
 }
 
+/// Takes memory that nothing uses, so that what is taken behind it lies apart from what lies before it.
+/// In a run a worker's tasks lie in memory that it took itself; here one thread makes all of them.
+fn leave_room(alloc: Global) -> Result<(), Stop> {
+    let room: Vec<u64> = Vec::with_capacity(alloc, APART)?;
+    forget(room);
+    Ok(())
+}
+
 /// Has a task create so many children, which are put to the others; the task.
 fn create<'c, N: RunName>(
     alloc: Global,
@@ -106,6 +117,7 @@ fn create<'c, N: RunName>(
     let mut task = first;
     for _ in 0..count {
         let (parent, child) = next_child(alloc, table, task)?;
+        leave_room(alloc)?;
         if children.push(child).is_err() {
             return Err(Stop::Failed);
         }
