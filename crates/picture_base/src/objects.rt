@@ -1,5 +1,8 @@
 //! The labels of objects.
 
+ghost use Rattle.std.specs.Prelude.{◌≡◌, length, vec_len, IfOk};
+ghost use Rattle.jade_syntax.specs.Objects.{sizes};
+
 use crate::stop::Stop;
 use jade_base::ObjectId;
 use jade_syntax::Checked;
@@ -23,7 +26,9 @@ fn label(alloc: Global, name: &str, member: Option<u32>) -> Result<String, Stop>
 }
 
 /// The labels of a program's objects, by the numbers of these. The error is want of memory.
-pub fn labels(alloc: Global, checked: &Checked) -> Result<Vec<String>, Stop> {
+pub fn labels(alloc: Global, checked: &Checked) -> Result<Vec<String>, Stop>
+    ensures { IfOk result (λ labels. vec_len labels ≡ length (sizes checked.now.program.items)) }
+{
     let mut labels = Vec::new(alloc);
     for number in 0..checked.objects() {
         let (name, member) = checked.label(ObjectId(number));

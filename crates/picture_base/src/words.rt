@@ -1,5 +1,7 @@
 //! The words after a program's name.
 
+ghost use Rattle.std.specs.Prelude.{◌≤◌, vec_len, IfOk};
+
 use crate::stop::Stop;
 use jade_base::Word;
 use std::alloc::Global;
@@ -52,7 +54,9 @@ fn number_of(word: &Word) -> Result<i64, Stop> {
 
 /// The numbers that the words from this place on spell, at most 65. The error is a word that spells
 /// none, or want of memory.
-pub fn numbers_from<E: Env>(system: &E, alloc: Global, place: usize) -> Result<Vec<i64>, Stop> {
+pub fn numbers_from<E: Env>(system: &E, alloc: Global, place: usize) -> Result<Vec<i64>, Stop>
+    ensures { IfOk result (λ numbers. vec_len numbers ≤ 65) }
+{
     let mut numbers = Vec::new(alloc);
     for count in 0..MOST_NUMBERS {
         match word_at(system, alloc, place.saturating_add(count))? {
