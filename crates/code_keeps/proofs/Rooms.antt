@@ -88,8 +88,8 @@ slots_kept calls n (i.Read s t o c at) h =
 slots_kept calls n (i.WriteOf o c v at) h = and_true (is_there n c) (is_there n v) (there n c (first (reach c) (reach v) n h))
     (there n v (second (reach c) (reach v) n h))
 slots_kept calls n (i.Write o c v at) h = two n o c v h
-slots_kept calls n (i.Fresh c) h = refl
-slots_kept calls n i.Draft h = refl
+slots_kept calls n (i.Fresh c at) h = refl
+slots_kept calls n (i.Draft at) h = refl
 slots_kept calls n (i.Declare how o at) h = there n o h
 slots_kept calls n (i.Create b at) h = refl
 slots_kept calls n i.Commit h = refl

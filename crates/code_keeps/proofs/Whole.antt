@@ -75,8 +75,8 @@ module _ (bodies : List Body) (inputs own slots : ℕ) where
   creates_later (i.Read s t o k at) c h = refl
   creates_later (i.WriteOf o k v at) c h = refl
   creates_later (i.Write o k v at) c h = refl
-  creates_later (i.Fresh k) c h = refl
-  creates_later i.Draft c h = refl
+  creates_later (i.Fresh k at) c h = refl
+  creates_later (i.Draft at) c h = refl
   creates_later (i.Declare how o at) c h = refl
   creates_later i.Commit c h = refl
   creates_later i.Finish c h = refl

@@ -113,10 +113,10 @@ pub enum Instruction {
         value: Operand,
         pos: Pos,
     },
-    /// The specification of a child begins, of so many objects.
-    Fresh(u32),
-    /// The task's own specification begins to change.
-    Draft,
+    /// The specification of a child begins, of so many objects. A task that commutes has a fault here.
+    Fresh(u32, Pos),
+    /// The task's own specification begins to change. A task that commutes has a fault here.
+    Draft(Pos),
     /// A word on an object, by its number.
     Declare(DeclareWord, Operand, Pos),
     /// A task with the body of this number is created.

@@ -5,3 +5,4 @@ pub mod Orders
 pub mod Reading
 pub mod Writing
 mod Paths
+mod Uncommuting

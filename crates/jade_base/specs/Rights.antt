@@ -70,6 +70,14 @@ covered parent child =
     (not (is_there child.reads) || is_there parent.reads) && (not (is_there child.writes) || is_there parent.writes)
     && (not (is_there child.commutes) || (is_there parent.reads && is_there parent.writes))
 
+-- a cell may be read now
+abbrev pub may_read : Rights → Bool
+may_read a = is_immediate a.reads || is_immediate a.commutes
+
+-- a cell may be written now
+abbrev pub may_write : Rights → Bool
+may_write a = is_immediate a.writes || is_immediate a.commutes
+
 -- the mode in which an object with these rights is held
 abbrev pub mode_of : Rights → Option Mode
 mode_of a =

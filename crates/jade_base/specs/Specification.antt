@@ -1,9 +1,9 @@
 -- What a task may do with which objects, and a draft of it.
-use Rattle.std.specs.Prelude.{◌≡◌, ◌≢◌, ℕ, suc, ◌<◌, ◌≤◌, ◌==◌, nat_lt, Bool, List, [], ◌∷◌, length, map, IsTrue, if◌then◌else◌, slice_index_or}
+use Rattle.std.specs.Prelude.{◌≡◌, ◌≢◌, ℕ, suc, ◌<◌, ◌≤◌, ◌==◌, nat_lt, Bool, false, List, [], ◌∷◌, length, map, IsTrue, if◌then◌else◌, slice_index_or}
 use Rattle.jade_base.specs.declared.place.ObjectId.{ObjectId}
 use Rattle.jade_base.specs.declared.rights.Rights.{Rights}
 use Rattle.jade_base.specs.declared.spec.Entry.{Entry}
-use Rattle.jade_base.specs.Rights.{no_rights, has_rights, join}
+use Rattle.jade_base.specs.Rights.{no_rights, has_rights, is_there, join}
 
 -- the objects with their rights, by ascending number, and for each of them the rights in the draft
 pub record Specification : Type 0 where
@@ -78,3 +78,13 @@ IsThere xs o place = (place ≡ place_in xs o) × (place < length xs) × ((d : E
 -- the object has no entry, and this is where one would stand
 abbrev pub IsAbsent : List Entry → ObjectId → ℕ → Type 0
 IsAbsent xs o place = (place ≡ place_in xs o) × (place ≤ length xs) × ((d : Entry) → place < length xs → (slice_index_or xs place d).object.0 ≢ o.0)
+
+-- these rights let no task commute
+abbrev pub NoneCommutes : List Rights → Type 0
+NoneCommutes [] = Unit {0}
+NoneCommutes (r ∷ rs) = (is_there r.commutes ≡ false) × NoneCommutes rs
+
+-- no right to commute stands among the rights or in the draft
+pub record IsUncommuting (s : Specification) : Type 0 where
+  pub rights : NoneCommutes (map (λ e. e.1) s.entries)
+  pub drafts : NoneCommutes s.draft

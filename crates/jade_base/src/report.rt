@@ -12,6 +12,7 @@ pub enum FaultKind {
     Cover,
     Change,
     Limit,
+    Commute,
 }
 
 /// Why a task ended early, and where in the text; `pos` is `None` exactly for the kind `Limit`.

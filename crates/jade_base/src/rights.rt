@@ -1,5 +1,5 @@
 ghost use Rattle.std.specs.Prelude.{◌≡◌};
-ghost use Rattle.jade_base.specs.Rights.{at_once, covered, has_rights, is_there, join, joined};
+ghost use Rattle.jade_base.specs.Rights.{at_once, covered, has_rights, is_there, join, joined, may_read, may_write};
 
 /// What a task may do with an object in one respect: nothing, something later, or something now.
 #[derive(Clone, Copy, Debug, PartialEq, Eq)]
@@ -72,6 +72,20 @@ impl Rights {
         ensures { result ≡ has_rights self }
     {
         self.reads.is_there() || self.writes.is_there() || self.commutes.is_there()
+    }
+
+    /// Whether a cell may be read now.
+    pub fn may_read(self) -> bool
+        ensures { result ≡ may_read self }
+    {
+        matches!(self.reads, Right::Immediate) || matches!(self.commutes, Right::Immediate)
+    }
+
+    /// Whether a cell may be written now.
+    pub fn may_write(self) -> bool
+        ensures { result ≡ may_write self }
+    {
+        matches!(self.writes, Right::Immediate) || matches!(self.commutes, Right::Immediate)
     }
 
     /// The rights that both declarations give together.

@@ -1,7 +1,7 @@
 ghost use Rattle.std.specs.Prelude.{◌≡◌, ◌≢◌, ◌<◌, [], length, map, filter, false, IfOk, OnOk, OnErr, MatchResult, Some, slice_get, slice_set};
 ghost use Rattle.std.specs.List.{position_from};
 ghost use Rattle.jade_base.specs.Rights.{no_rights, has_rights, join};
-ghost use Rattle.jade_base.specs.Specification.{IsAscending, joined_in, kept, IsAbsent, IsSettled, IsThere, is_of, rights_in, settled, shown_all, specification};
+ghost use Rattle.jade_base.specs.Specification.{IsAscending, joined_in, kept, IsAbsent, IsSettled, IsThere, IsUncommuting, is_of, rights_in, settled, shown_all, specification};
 
 use crate::{Memory, ObjectId, Rights};
 use std::alloc::Global;
@@ -14,6 +14,8 @@ pub struct Spec {
     entries: Vec<Entry>,
     // Whether the draft may differ from the rights: where it can't, nothing is to be done to drop it.
     drafted: bool,
+    // Whether some right to commute may be there: where none can be, none is to be looked for.
+    commuting: bool,
 }
 
 // The rights on an object, and those in the draft.
@@ -26,13 +28,14 @@ struct Entry {
 
 impl Model for Spec {
     ghost use Rattle.std.specs.Prelude.{◌≡◌, false};
-    ghost use Rattle.jade_base.specs.Specification.{IsAscending, IsSettled, Specification, shown_all, specification};
+    ghost use Rattle.jade_base.specs.Specification.{IsAscending, IsSettled, IsUncommuting, Specification, shown_all, specification};
 
     ghost Value = { Specification };
 
     ghost view = { λ s. specification s.entries.items };
 
-    ghost invariant = { λ s. IsAscending (shown_all s.entries.items) × (s.drafted ≡ false → IsSettled s.entries.items) };
+    ghost invariant = { λ s. IsAscending (shown_all s.entries.items) × (s.drafted ≡ false → IsSettled s.entries.items)
+        × (s.commuting ≡ false → IsUncommuting (specification s.entries.items)) };
 }
 
 impl Spec {
@@ -43,6 +46,7 @@ impl Spec {
         Spec {
             entries: Vec::new(alloc),
             drafted: false,
+            commuting: false,
         }
     }
 
@@ -63,6 +67,7 @@ impl Spec {
         declare_among(&mut self.entries, object, rights)?;
         settle(&mut self.entries, self.drafted);
         self.drafted = false;
+        self.commuting = self.commuting | rights.commutes.is_there();
         Ok(())
     }
 
@@ -93,6 +98,13 @@ impl Spec {
         self.entries.len()
     }
 
+    /// Whether some object may have a right to commute; where this is not so, none has.
+    pub fn may_commute(&self) -> bool
+        ensures { result ≡ false → IsUncommuting self.now }
+    {
+        self.commuting
+    }
+
     /// The object at a place, counted from 0 by ascending number, with its rights.
     pub fn entry(&self, place: usize) -> (ObjectId, Rights)
         requires { place < length self.now.entries }
@@ -117,6 +129,7 @@ impl Spec {
     {
         self.entries[place].draft = rights;
         self.drafted = true;
+        self.commuting = self.commuting | rights.commutes.is_there();
     }
 
     /// Makes the draft the rights; an object for which it has none has no entry then.
@@ -143,6 +156,7 @@ impl Spec {
         Ok(Spec {
             entries,
             drafted: self.drafted,
+            commuting: self.commuting,
         })
     }
 }

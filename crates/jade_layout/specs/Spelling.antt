@@ -7,7 +7,7 @@ use Rattle.jade_syntax.specs.declared.tree.Number.{Number}
 use Rattle.jade_syntax.specs.declared.tree.ValueKind.{ValueKind}
 use Rattle.jade_syntax.specs.declared.tree.ValueKind.TheVariants.{Int, Bool as BoolWord}
 use Rattle.jade_syntax.specs.declared.tree.DeclareWord.{DeclareWord}
-use Rattle.jade_syntax.specs.declared.tree.DeclareWord.TheVariants.{Rd, Wr, RdWr, DfRd, DfWr, DfRdWr, NoRd, NoWr, NoRdWr}
+use Rattle.jade_syntax.specs.declared.tree.DeclareWord.TheVariants.{Rd, Wr, RdWr, DfRd, DfWr, DfRdWr, Cm, NoRd, NoWr, NoRdWr}
 use Rattle.jade_syntax.specs.declared.tree.Relation.{Relation}
 use Rattle.jade_syntax.specs.declared.tree.Relation.TheVariants.{Equal, Unequal, Less, LessEqual, Greater, GreaterEqual}
 use Rattle.jade_syntax.specs.declared.tree.SumOp.{SumOp}
@@ -79,6 +79,7 @@ declare_word RdWr = codes "rd_wr"
 declare_word DfRd = codes "df_rd"
 declare_word DfWr = codes "df_wr"
 declare_word DfRdWr = codes "df_rd_wr"
+declare_word Cm = codes "cm"
 declare_word NoRd = codes "no_rd"
 declare_word NoWr = codes "no_wr"
 declare_word NoRdWr = codes "no_rd_wr"

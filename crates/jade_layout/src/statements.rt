@@ -36,6 +36,7 @@ fn word_text(word: &DeclareWord) -> &'static [u8]
         DeclareWord::DfRd => b"df_rd",
         DeclareWord::DfWr => b"df_wr",
         DeclareWord::DfRdWr => b"df_rd_wr",
+        DeclareWord::Cm => b"cm",
         DeclareWord::NoRd => b"no_rd",
         DeclareWord::NoWr => b"no_wr",
         DeclareWord::NoRdWr => b"no_rd_wr",

@@ -9,9 +9,10 @@ use Rattle.jade_base.specs.declared.report.PartStep.{PartStep}
 use Rattle.jade_syntax.specs.Abstract.{AbstractProgram}
 use Rattle.jade_syntax.specs.Objects.{sizes}
 use Rattle.jade_meaning.specs.Answer.{decided, first_fault, limit_place, blame_of, parts_by_key}
-use Rattle.jade_meaning.specs.Report.{fault_of, step_of}
-use Rattle.jade_meaning.specs.Serial.{Path, Part, Store, serial_run, after, zeros}
-use Rattle.jade_meaning.specs.ReportAnswer.{first_note, step_over, answer_by, ReportTells}
+use Rattle.jade_meaning.specs.Report.{fault_of, step_of, reported}
+use Rattle.jade_meaning.specs.Serial.{Path, Mark, Part, Store, after, zeros}
+use Rattle.jade_meaning.specs.Turns.{marks_by}
+use Rattle.jade_meaning.specs.ReportAnswer.{first_note, step_over, answer_by, report_answer, ReportTells}
 
 -- a part with a fault as a note
 abbrev as_note : Part → FaultNote
@@ -44,8 +45,12 @@ answer_by_is None (Some l) store = refl
 answer_by_is (Some f) None store = refl
 answer_by_is (Some f) (Some l) store = refl
 
-pub report_tells : (p : AbstractProgram) (ns : List ℤ) (limit : ℕ) → ReportTells p ns limit
-report_tells p ns limit =
-    let ps = parts_by_key (serial_run p ns limit) in
-    let store = after (serial_run p ns limit) (zeros (sizes p.items)) in
-    record { same = rw (notes_first ps, steps_over limit ps) (answer_by_is (first_fault ps) (limit_place limit ps) store) }
+pub reported_tells : (ns : List ℕ) (ms : List Mark) (limit : ℕ) → report_answer limit (reported ns ms) ≡ decided (first_fault (parts_by_key ms))
+    (limit_place limit (parts_by_key ms)) (after ms (zeros ns))
+reported_tells ns ms limit =
+    let ps = parts_by_key ms in
+    rw (notes_first ps, steps_over limit ps) (answer_by_is (first_fault ps) (limit_place limit ps) (after ms (zeros ns)))
+
+pub report_tells : (p : AbstractProgram) (ns : List ℤ) (limit : ℕ) (turns : ℕ → List Path) → ReportTells p ns limit turns
+report_tells p ns limit turns =
+    record { same = reported_tells (sizes p.items) (marks_by p ns limit turns) limit }

@@ -1,5 +1,5 @@
 -- A report has its parts and its faults by ascending key.
-use Rattle.std.proofs.Common.{◌≡◌, ℕ, true, List, [], ◌∷◌, map, Option, Some, None, sym, subst}
+use Rattle.std.proofs.Common.{◌≡◌, ℕ, true, List, [], ◌∷◌, map, Option, Some, None}
 use Rattle.std.specs.Prelude.{ℤ}
 use Rattle.std.specs.List.{filter_map, cons_option}
 use Rattle.jade_base.specs.Places.{is_before}
@@ -7,11 +7,13 @@ use Rattle.jade_base.specs.declared.report.Blame.{Blame}
 use Rattle.jade_base.specs.declared.report.FaultNote.{FaultNote}
 use Rattle.jade_base.specs.declared.report.PartStep.{PartStep}
 use Rattle.jade_syntax.specs.Abstract.{AbstractProgram}
-use Rattle.jade_meaning.specs.Serial.{Path, Part, serial_run}
+use Rattle.jade_meaning.specs.Serial.{Path, Part}
+use Rattle.jade_meaning.specs.Turns.{marks_by}
 use Rattle.jade_meaning.specs.Answer.{key, parts_by_key}
 use Rattle.jade_meaning.specs.Laws.{Every, child_path}
 use Rattle.jade_meaning.specs.Report.{fault_of, step_of, Ascends, ReportAscends}
-use Rattle.jade_meaning.proofs.Stops.{KeysAscend, all_ascend, parts_stand, every_map}
+use Rattle.jade_meaning.proofs.Stops.{KeysAscend, every_map}
+use Rattle.jade_meaning.proofs.Sorting.{sorted_ascend}
 
 abbrev step_key : PartStep → Path
 step_key s = child_path s.path s.children
@@ -44,8 +46,8 @@ faults_ascend : (ps : List Part) → KeysAscend ps → Ascends (map fault_key (n
 faults_ascend [] h = tt
 faults_ascend (p ∷ ps) h = one_ascends p.blame p (noted ps) (every_noted (λ q. is_before (key p) q ≡ true) ps h.0) (faults_ascend ps h.1)
 
-pub report_ascends : (p : AbstractProgram) (ns : List ℤ) (limit : ℕ) → ReportAscends p ns limit
-report_ascends p ns limit =
-    let ms = serial_run p ns limit in
-    let h : KeysAscend (parts_by_key ms) = subst KeysAscend (sym (parts_stand p ns limit)) (all_ascend p ns limit) in
+pub report_ascends : (p : AbstractProgram) (ns : List ℤ) (limit : ℕ) (turns : ℕ → List Path) → ReportAscends p ns limit turns
+report_ascends p ns limit turns =
+    let ms = marks_by p ns limit turns in
+    let h : KeysAscend (parts_by_key ms) = sorted_ascend p ns limit turns in
     record { steps = steps_ascend (parts_by_key ms) h; faults = faults_ascend (parts_by_key ms) h }

@@ -5,15 +5,14 @@ use Rattle.std.proofs.Common.{◌⊎◌, inl, inr, ◌≤◌}
 use Rattle.std.proofs.lemmas.Bool.{ltb-true, ltb-false}
 use Rattle.std.proofs.lemmas.Bool.Decides.{eqb_tells}
 use Rattle.std.proofs.lemmas.List.{set_past}
-use Rattle.std.specs.Prelude.{ℤ, pos, ◌+ℤ◌, nat_lt, nat_eq, slice_set, replicate}
+use Rattle.std.specs.Prelude.{ℤ, pos, ◌+ℤ◌, nat_lt, nat_eq, slice_set}
 use Rattle.jade_base.specs.declared.place.Pos.{Pos}
+use Rattle.jade_base.specs.declared.report.FaultKind.TheVariants.{Commute as Commuted}
 use Rattle.jade_base.specs.declared.rights.Right.{Right}
-use Rattle.jade_base.specs.declared.rights.Right.TheVariants.{Absent, Deferred, Immediate}
 use Rattle.jade_base.specs.declared.rights.Rights.{Rights}
-use Rattle.jade_base.specs.Rights.{no_rights, both_rights, is_immediate, is_there, joined, join}
+use Rattle.jade_base.specs.Rights.{no_rights, is_there, may_read, may_write}
 use Rattle.jade_syntax.specs.declared.tree.DeclareWord.{DeclareWord}
-use Rattle.jade_syntax.specs.declared.tree.DeclareWord.TheVariants.{Rd, Wr, RdWr, DfRd, DfWr, DfRdWr, NoRd, NoWr, NoRdWr}
-use Rattle.jade_syntax.specs.Objects.{sizes}
+use Rattle.jade_syntax.specs.declared.tree.DeclareWord.TheVariants.{Rd, Wr, RdWr, DfRd, DfWr, DfRdWr, Cm, NoRd, NoWr, NoRdWr}
 use Rattle.jade_syntax.specs.Abstract.{Name, Expression, Whole, Truth, Variable, Group, Signed, Chain, Cell, Links, Last, Link, Place, Alone, Member}
 use Rattle.jade_syntax.specs.Abstract.{Action, Local, Assign, Store, If, IfElse, For, Withonly, With, Declare, Actions, Done, Then, AbstractProgram}
 use Rattle.jade_meaning.specs.declared.values.Value.{Value}
@@ -21,12 +20,13 @@ use Rattle.jade_meaning.specs.declared.values.Value.TheVariants.{IntOf}
 use Rattle.jade_meaning.specs.declared.resolve.Range.{Range}
 use Rattle.jade_meaning.specs.declared.resolve.ResolvedObject.{ResolvedObject}
 use Rattle.jade_meaning.specs.Values.{Given, Gives, Fails, operated, decides, signed, whole, holds, is_index, magnitude, turn_count}
-use Rattle.jade_meaning.specs.Specification.{Specification, rights_on, covers, fitted}
-use Rattle.jade_meaning.specs.Changes.{amended, declared}
+use Rattle.jade_meaning.specs.Specification.{Specification, rights_on, objects, covers, fitted, is_commuting, commuting_on, may_commute}
+use Rattle.jade_meaning.specs.Changes.{amended}
 use Rattle.jade_meaning.specs.Course.{Course, root_spec, root_course, Mine, On, Draft, NoDraft, Building, Amending, drafted, Setting, finish, choose, step}
-use Rattle.jade_meaning.specs.Course.{given, place_of, member, reach, read_cell, write_cell, bind, leave, scoped, turns, amend, declare, create, working}
-use Rattle.jade_meaning.specs.Course.{change, child_start, eval, eval_links, find, run, run_all, range_from, assigned, inputs}
-use Rattle.jade_meaning.specs.Proper.{NoMore, Uncommuting, Proper, proper_read, proper_write, proper_step, proper_create, proper_change, proper_end}
+use Rattle.jade_meaning.specs.Course.{given, place_of, member, reach, read_cell, write_cell, bind, leave, scoped, turns, amend, declare, create_covered, create, section_begins, fault, working}
+use Rattle.jade_meaning.specs.Course.{change, child_start, eval, eval_links, find, run, run_all, range_from, assigned, inputs, none_of}
+use Rattle.jade_meaning.specs.Proper.{NoMore, Proper, proper_read, proper_write, proper_step, proper_create, proper_change, proper_end}
+use Rattle.jade_meaning.proofs.Uncommuted.{less_false, none_commutes, none_from, not_commuting}
 
 -- one right of some rights
 data Side : Type 0 where
@@ -41,17 +41,29 @@ right Commute a = a.commutes
 record Fewer (new old : Specification) : Type 0 where
   none : (side : Side) (o : ℕ) → is_there (right side (rights_on new o)) ≡ true → is_there (right side (rights_on old o)) ≡ true
 
+-- where it is asked: no right to commute
+abbrev Calm : Bool → Specification → Type 0
+Calm true spec = commuting_on spec ≡ None
+Calm false spec = Unit {0}
+
+calm_if : (b : Bool) (spec : Specification) → commuting_on spec ≡ None → Calm b spec
+calm_if true spec h = h
+calm_if false spec h = tt
+
 abbrev FitsDraft : Draft → Specification → Type 0
 FitsDraft NoDraft spec = Unit {0}
-FitsDraft (Building d) spec = Uncommuting d
+FitsDraft (Building d) spec = Unit {0}
 FitsDraft (Amending d) spec = Fewer d spec
 
 abbrev Fit : Mine → Type 0
-Fit m = FitsDraft m.draft m.spec × Uncommuting m.spec
+Fit m = FitsDraft m.draft m.spec
 
 -- what goes on well from every fit state
-abbrev Good : On → Type 0
-Good on = (n : Mine) → Fit n → Proper n.spec (on n)
+abbrev Good : Bool → On → Type 0
+Good q on = (n : Mine) → Fit n → Calm q n.spec → Proper n.spec (on n)
+
+weak : (q : Bool) (on : On) → Good q on → Good true on
+weak q on h n fit k = h n fit (calm_if q n.spec k)
 
 choose_good : (b : Bool) (f g : On) (m : Mine) → (b ≡ true → Proper m.spec (f m)) → Proper m.spec (g m) → Proper m.spec (choose b f g m)
 choose_good true f g m h k = h refl
@@ -61,29 +73,31 @@ given_good : (v : Given) (at : Pos) (m : Mine) (on : Value → Course) → ((w :
 given_good (Gives v) at m on h = h v
 given_good (Fails kind) at m on h = proper_end
 
-step_good : (limit : ℕ) (on : On) → Good on → Good (step limit on)
-step_good limit on h m fit = choose_good (nat_lt m.taken limit) _ _ m (λ e. proper_step (h (record m { taken = suc m.taken }) fit)) proper_end
+step_good : (q : Bool) (limit : ℕ) (on : On) → Good q on → Good q (step limit on)
+step_good q limit on h m fit k = choose_good (nat_lt m.taken limit) _ _ m (λ e. proper_step (h (record m { taken = suc m.taken }) fit k)) proper_end
 
-scoped_good : (body : On → On) → ((on : On) → Good on → Good (body on)) → (on : On) (m : Mine) → Good on → Fit m → Proper m.spec (scoped body on m)
-scoped_good body b on m h fit = b (λ n. on (leave m n)) (λ n f. h (leave m n) f) m fit
+scoped_good : (q : Bool) (body : On → On) → ((on : On) → Good q on → Good q (body on)) → (on : On) (m : Mine) → Good q on → Fit m → Calm q m.spec
+    → Proper m.spec (scoped body on m)
+scoped_good q body b on m h fit k = b (λ n. on (leave m n)) (λ n f i. h (leave m n) f i) m fit k
 
-turns_good : (limit n : ℕ) (i : ℤ) (x : Name) (body : On → On) → ((on : On) → Good on → Good (body on)) → (on : On) → Good on → Good (turns limit n i x body on)
-turns_good limit zero i x body b on h m fit = h m fit
-turns_good limit (suc n) i x body b on h m fit =
+turns_good : (q : Bool) (limit n : ℕ) (i : ℤ) (x : Name) (body : On → On) → ((on : On) → Good q on → Good q (body on)) → (on : On) → Good q on
+    → Good q (turns limit n i x body on)
+turns_good q limit zero i x body b on h m fit k = h m fit k
+turns_good q limit (suc n) i x body b on h m fit k =
     let turn : On → On = λ k a. body k (bind x (IntOf i) a) in
-    step_good limit (λ a. scoped turn (turns limit n (i +ℤ pos 1) x body on) a) (λ a f. scoped_good turn (λ k g c d. b k g (bind x (IntOf i) c) d)
-    (turns limit n (i +ℤ pos 1) x body on) a (turns_good limit n (i +ℤ pos 1) x body b on h) f) m fit
+    step_good q limit (λ a. scoped turn (turns limit n (i +ℤ pos 1) x body on) a) (λ a f j. scoped_good q turn (λ k g c d e. b k g (bind x (IntOf i) c) d e)
+    (turns limit n (i +ℤ pos 1) x body on) a (turns_good q limit n (i +ℤ pos 1) x body b on h) f j) m fit k
 
 no_more_refl : (spec : Specification) → Fewer spec spec
 no_more_refl spec = record { none = λ side o h. h }
 
 read_good : (o c : ℕ) (at : Pos) (m : Mine) (on : Value → Course) → ((v : Value) → Proper m.spec (on v)) → Proper m.spec (read_cell o c at m on)
 read_good o c at m on h =
-    choose_good (is_immediate (rights_on m.spec o).reads) _ _ m (λ e. proper_read e (λ z. h (IntOf z))) proper_end
+    choose_good (may_read (rights_on m.spec o)) _ _ m (λ e. proper_read e (λ z. h (IntOf z))) proper_end
 
 write_good : (o c : ℕ) (z : ℤ) (at : Pos) (on : On) (m : Mine) → Proper m.spec (on m) → Proper m.spec (write_cell o c z at on m)
 write_good o c z at on m h =
-    choose_good (is_immediate (rights_on m.spec o).writes) _ _ m (λ e. proper_write e h) proper_end
+    choose_good (may_write (rights_on m.spec o)) _ _ m (λ e. proper_write e h) proper_end
 
 reach_good : (f : ResolvedObject) (i : ℤ) (at : Pos) (m : Mine) (on : ℕ → Course) → ((c : ℕ) → Proper m.spec (on c)) → Proper m.spec (reach f i at m on)
 reach_good f i at m on h = choose_good (is_index i f.size) _ _ m (λ e. h (magnitude i)) proper_end
@@ -136,6 +150,9 @@ amended_less DfWr a b Commute e h = grind arith
 amended_less DfRdWr a b Read e h = grind arith
 amended_less DfRdWr a b Write e h = grind arith
 amended_less DfRdWr a b Commute e h = grind arith
+amended_less Cm a b Read e h = grind arith
+amended_less Cm a b Write e h = grind arith
+amended_less Cm a b Commute e h = grind arith
 amended_less NoRd a b Read e h = grind arith
 amended_less NoRd a b Write e h = grind arith
 amended_less NoRd a b Commute e h = grind arith
@@ -146,63 +163,6 @@ amended_less NoRdWr a b Read e h = grind arith
 amended_less NoRdWr a b Write e h = grind arith
 amended_less NoRdWr a b Commute e h = grind arith
 
-no_more_none : (new old : Specification) → NoMore new old → Uncommuting old → Uncommuting new
-no_more_none new old less h = record { none = λ o. go o (is_there (rights_on new o).commutes) refl (h.none o) }
-  where
-    go : (o : ℕ) (b : Bool) → is_there (rights_on new o).commutes ≡ b → is_there (rights_on old o).commutes ≡ false → is_there (rights_on new o).commutes
-        ≡ false
-    go o true e f = absurd (let x = less.commutes o e in cc)
-    go o false e f = e
-
-fewer_none : (new old : Specification) → Fewer new old → Uncommuting old → Uncommuting new
-fewer_none new old less h = record { none = λ o. go o (is_there (rights_on new o).commutes) refl (h.none o) }
-  where
-    go : (o : ℕ) (b : Bool) → is_there (rights_on new o).commutes ≡ b → is_there (rights_on old o).commutes ≡ false → is_there (rights_on new o).commutes
-        ≡ false
-    go o true e f = absurd (let x = less.none Commute o e in cc)
-    go o false e f = e
-
-joined_none : (how : DeclareWord) (r : Right) → is_there r ≡ false → is_there (joined r (declared how).commutes) ≡ false
-joined_none how Absent h = by how
-  where
-    by : (how : DeclareWord) → is_there (joined Absent (declared how).commutes) ≡ false
-    by Rd = refl
-    by Wr = refl
-    by RdWr = refl
-    by DfRd = refl
-    by DfWr = refl
-    by DfRdWr = refl
-    by NoRd = refl
-    by NoWr = refl
-    by NoRdWr = refl
-joined_none how Deferred h = absurd (cc)
-joined_none how Immediate h = absurd (cc)
-
-declared_none : (how : DeclareWord) (spec : Specification) (o : ℕ) → Uncommuting spec → Uncommuting (slice_set spec o (join (rights_on spec o) (declared how)))
-declared_none how spec o h = record { none = λ x. at x (set_either spec o (join (rights_on spec o) (declared how)) x) }
-  where
-    at : (x : ℕ) → ((x ≡ o) × (rights_on (slice_set spec o (join (rights_on spec o) (declared how))) x ≡ join (rights_on spec o) (declared how))) ⊎
-        (rights_on (slice_set spec o (join (rights_on spec o) (declared how))) x ≡ rights_on spec x)
-        → is_there (rights_on (slice_set spec o (join (rights_on spec o) (declared how))) x).commutes ≡ false
-    at x (inl q) = ap (λ a. is_there a.commutes) q.1 ∙ joined_none how (rights_on spec o).commutes (h.none o)
-    at x (inr q) = ap (λ a. is_there a.commutes) q ∙ h.none x
-
-replicate_rights : (a : Rights) → is_there a.commutes ≡ false → (n o : ℕ) → is_there (rights_on (replicate n a) o).commutes ≡ false
-replicate_rights a h zero o = refl
-replicate_rights a h (suc n) zero = h
-replicate_rights a h (suc n) (suc o) = replicate_rights a h n o
-
-replicate_none : (n : ℕ) → Uncommuting (replicate n no_rights)
-replicate_none n = record { none = replicate_rights no_rights refl n }
-
-pub replicate_both : (n : ℕ) → Uncommuting (replicate n both_rights)
-replicate_both n = record { none = replicate_rights both_rights refl n }
-
-drafted_none : (d : Draft) (spec : Specification) → FitsDraft d spec → Uncommuting spec → Uncommuting (drafted d)
-drafted_none NoDraft spec f h = record { none = λ o. refl }
-drafted_none (Building d) spec f h = f
-drafted_none (Amending d) spec f h = fewer_none d spec f h
-
 -- a fitted specification has the rights, or none
 fitted_on : (base spec : Specification) (o : ℕ) → (rights_on (fitted base spec) o ≡ rights_on spec o) ⊎ (rights_on (fitted base spec) o ≡ no_rights)
 fitted_on [] spec o = inr refl
@@ -211,28 +171,19 @@ fitted_on (a ∷ base) [] (suc o) = fitted_on base [] o
 fitted_on (a ∷ base) (b ∷ spec) zero = inl refl
 fitted_on (a ∷ base) (b ∷ spec) (suc o) = fitted_on base spec o
 
-fitted_none : (base spec : Specification) → Uncommuting spec → Uncommuting (fitted base spec)
-fitted_none base spec h = record { none = λ o. at o (fitted_on base spec o) }
-  where
-    at : (o : ℕ) → (rights_on (fitted base spec) o ≡ rights_on spec o) ⊎ (rights_on (fitted base spec) o ≡ no_rights)
-        → is_there (rights_on (fitted base spec) o).commutes ≡ false
-    at o (inl q) = ap (λ a. is_there a.commutes) q ∙ h.none o
-    at o (inr q) = ap (λ a. is_there a.commutes) q
-
 amend_good : (r : Option Rights) (spec : Specification) (o : ℕ) (at : Pos) (on : On) (m : Mine)
-    → ((b : Rights) → r ≡ Some b → Fewer (slice_set spec o b) m.spec) → Good on → Fit m → Proper m.spec (amend r spec o at on m)
-amend_good None spec o at on m h g fit = proper_end
-amend_good (Some b) spec o at on m h g fit = g (record m { draft = Amending (slice_set spec o b) }) (h b refl, fit.1)
+    → ((b : Rights) → r ≡ Some b → Fewer (slice_set spec o b) m.spec) → (q : Bool) → Good q on → Fit m → Calm q m.spec → Proper m.spec (amend r spec o at on m)
+amend_good None spec o at on m h q g fit k = proper_end
+amend_good (Some b) spec o at on m h q g fit k = g (record m { draft = Amending (slice_set spec o b) }) (h b refl) k
 
-declare_good : (d : Draft) (how : DeclareWord) (o : ℕ) (at : Pos) (on : On) (m : Mine) → m.draft ≡ d → Good on → Fit m → Proper m.spec (declare d how o at on m)
-declare_good NoDraft how o at on m e g fit = g m fit
-declare_good (Building spec) how o at on m e g fit =
-    let none : Uncommuting spec = subst (λ d. FitsDraft d m.spec) e fit.0 in
-    g _ (declared_none how spec o none, fit.1)
-declare_good (Amending spec) how o at on m e g fit =
-    let less : Fewer spec m.spec = subst (λ d. FitsDraft d m.spec) e fit.0 in
+declare_good : (d : Draft) (how : DeclareWord) (o : ℕ) (at : Pos) (on : On) (m : Mine) → m.draft ≡ d → (q : Bool) → Good q on → Fit m → Calm q m.spec
+    → Proper m.spec (declare d how o at on m)
+declare_good NoDraft how o at on m e q g fit k = g m fit k
+declare_good (Building spec) how o at on m e q g fit k = g _ tt k
+declare_good (Amending spec) how o at on m e q g fit k =
+    let less : Fewer spec m.spec = subst (λ d. FitsDraft d m.spec) e fit in
     amend_good (amended how (rights_on spec o)) spec o at on m
-    (λ b q. once m.spec spec o b less (λ side w. less.none side o (amended_less how (rights_on spec o) b side q w))) g fit
+    (λ b i. once m.spec spec o b less (λ side w. less.none side o (amended_less how (rights_on spec o) b side i w))) q g fit k
 
 working_less : (d : Draft) (spec : Specification) → FitsDraft d spec → Fewer (working d spec) spec
 working_less NoDraft spec f = no_more_refl spec
@@ -262,19 +213,25 @@ fitted_less base spec old f e = record {
     at side o (inl q) h = f.none side o (ap (λ a. is_there (right side a)) (sym q) ∙ h)
     at side o (inr q) h = none side o (ap (λ a. is_there (right side a)) (sym q) ∙ h)
 
-change_good : (on : On) → Good on → Good (change on)
-change_good on h m fit =
+change_good : (on : On) → Good true on → Good true (change on)
+change_good on h m fit k =
     let new = fitted m.spec (working m.draft m.spec) in
-    let less = fitted_less m.spec (working m.draft m.spec) m.spec (working_less m.draft m.spec fit.0) refl in
-    proper_change less (h (record m { spec = new; draft = NoDraft }) (tt, no_more_none new m.spec less fit.1))
+    let less = fitted_less m.spec (working m.draft m.spec) m.spec (working_less m.draft m.spec fit) refl in
+    proper_change k less (h (record m { spec = new; draft = NoDraft }) tt
+    (none_from new (objects new) (λ o. less_false _ _ (less.commutes o) (none_commutes m.spec k o))))
 
-create_good : (s : Setting) (at : Pos) (names : List Name) (body on : On) → Good body → Good on → Good (create s at names body on)
-create_good s at names body on b h m fit =
-    choose_good (covers m.spec (fitted m.spec (drafted m.draft))) _ _ m (λ e. proper_create e (fitted_sized m.spec (drafted m.draft)) none (b _ (tt, none))
-    (h (record m { draft = NoDraft }) (tt, fit.1))) proper_end
+create_good : (s : Setting) (at : Pos) (names : List Name) (body on : On) → Good false body → Good true on → Good true (create s at names body on)
+create_good s at names body on b h m fit k =
+    let child = fitted m.spec (drafted m.draft) in
+    choose_good (may_commute child) (create_covered s at names child body on) _ m (λ may. choose_good (covers m.spec child) _ _ m
+    (λ e. proper_create k may e (fitted_sized m.spec (drafted m.draft)) (b _ tt tt) (h (record m { draft = NoDraft }) tt k)) proper_end) proper_end
+
+section_good : (at : Pos) (d : Draft) (on : On) (m : Mine) → FitsDraft d m.spec → Good true on → Proper m.spec (section_begins at d on m)
+section_good at d on m f h = go (is_commuting m.spec) refl
   where
-    none : Uncommuting (fitted m.spec (drafted m.draft))
-    none = fitted_none m.spec (drafted m.draft) (drafted_none m.draft m.spec fit.0 fit.1)
+    go : (b : Bool) → is_commuting m.spec ≡ b → Proper m.spec (choose b (fault Commuted at) (λ n. on (record n { draft = d })) m)
+    go true e = proper_end
+    go false e = h (record m { draft = d }) f (not_commuting m.spec e)
 
 module _ (s : Setting) where
   mutual
@@ -298,35 +255,36 @@ module _ (s : Setting) where
     find_good (Member x at e) m on h = eval_good e m _ (λ i. member_good (range_from 0 x s.items) (whole i) at m on h)
 
   mutual
-    run_good : (st : Action) (on : On) → Good on → Good (run s st on)
-    run_good (Local kind x e) on h m fit = eval_good e m _ (λ v. h (bind x v m) fit)
-    run_good (Assign x e) on h m fit = eval_good e m _ (λ v. h (record m { env = assigned x v m.env }) fit)
-    run_good (Store o e v) on h m fit =
+    run_good : (st : Action) (q : Bool) (on : On) → Good q on → Good q (run s st on)
+    run_good (Local kind x e) q on h m fit k = eval_good e m _ (λ v. h (bind x v m) fit k)
+    run_good (Assign x e) q on h m fit k = eval_good e m _ (λ v. h (record m { env = assigned x v m.env }) fit k)
+    run_good (Store o e v) q on h m fit k =
         find_good o m _
         (λ f. eval_good e m _ (λ i. reach_good f (whole i) (place_of o) m _
-        (λ c. eval_good v m _ (λ z. write_good f.number c (whole z) (place_of o) on m (h m fit)))))
-    run_good (If e b) on h m fit =
-        eval_good e m _ (λ v. choose_good (holds v) _ _ m (λ q. scoped_good (run_all s b) (all_good b) on m h fit) (h m fit))
-    run_good (IfElse e b c) on h m fit =
-        eval_good e m _ (λ v. choose_good (holds v) _ _ m (λ q. scoped_good (run_all s b) (all_good b) on m h fit)
-        (scoped_good (run_all s c) (all_good c) on m h fit))
-    run_good (For x low high body) on h m fit =
-        eval_good low m _ (λ l. eval_good high m _ (λ k. turns_good s.limit (turn_count (whole l) (whole k)) (whole l) x (run_all s body)
-        (all_good body) on h m fit))
-    run_good (Withonly at section names body) on h m fit =
-        scoped_good (run_all s section) (all_good section) (create s at names (run_all s body finish) on) _ (create_good s at names (run_all s body finish) on
-        (all_good body finish (λ n f. proper_end)) h) (replicate_none (length (sizes s.items)), fit.1)
-    run_good (With at section) on h m fit =
-        scoped_good (run_all s section) (all_good section) (change on) (record m { draft = Amending m.spec }) (change_good on h) (no_more_refl m.spec, fit.1)
-    run_good (Declare how at o) on h m fit =
-        find_good o m _ (λ f. declare_good m.draft how f.number at on m refl h fit)
+        (λ c. eval_good v m _ (λ z. write_good f.number c (whole z) (place_of o) on m (h m fit k)))))
+    run_good (If e b) q on h m fit k =
+        eval_good e m _ (λ v. choose_good (holds v) _ _ m (λ i. scoped_good q (run_all s b) (all_good b q) on m h fit k) (h m fit k))
+    run_good (IfElse e b c) q on h m fit k =
+        eval_good e m _ (λ v. choose_good (holds v) _ _ m (λ i. scoped_good q (run_all s b) (all_good b q) on m h fit k)
+        (scoped_good q (run_all s c) (all_good c q) on m h fit k))
+    run_good (For x low high body) q on h m fit k =
+        eval_good low m _ (λ l. eval_good high m _ (λ u. turns_good q s.limit (turn_count (whole l) (whole u)) (whole l) x (run_all s body)
+        (all_good body q) on h m fit k))
+    run_good (Withonly at section names body) q on h m fit k =
+        section_good at (Building (none_of s.items)) (scoped (run_all s section) (create s at names (run_all s body finish) on)) m tt
+        (λ n f i. scoped_good true (run_all s section) (all_good section true) (create s at names (run_all s body finish) on) n
+        (create_good s at names (run_all s body finish) on (all_good body false finish (λ n f i. proper_end)) (weak q on h)) f i)
+    run_good (With at section) q on h m fit k =
+        section_good at (Amending m.spec) (scoped (run_all s section) (change on)) m (no_more_refl m.spec)
+        (λ n f i. scoped_good true (run_all s section) (all_good section true) (change on) n (change_good on (weak q on h)) f i)
+    run_good (Declare how at o) q on h m fit k =
+        find_good o m _ (λ f. declare_good m.draft how f.number at on m refl q h fit k)
 
-    all_good : (b : Actions) (on : On) → Good on → Good (run_all s b on)
-    all_good Done on h m fit = h m fit
-    all_good (Then st b) on h m fit = step_good s.limit (run s st (run_all s b on)) (run_good st (run_all s b on) (all_good b on h)) m fit
+    all_good : (b : Actions) (q : Bool) (on : On) → Good q on → Good q (run_all s b on)
+    all_good Done q on h m fit k = h m fit k
+    all_good (Then st b) q on h m fit k = step_good q s.limit (run s st (run_all s b on)) (run_good st q (run_all s b on) (all_good b q on h)) m fit k
 
 pub keeps : (p : AbstractProgram) (ns : List ℤ) (limit : ℕ) → Proper (root_spec p) (root_course p ns limit)
 keeps p ns limit =
     let given = inputs p.items ns in
-    all_good (record { items = p.items; given = given; limit = limit }) p.main finish (λ n f. proper_end) (child_start given (root_spec p))
-    (tt, replicate_both (length (sizes p.items)))
+    all_good (record { items = p.items; given = given; limit = limit }) p.main false finish (λ n f k. proper_end) (child_start given (root_spec p)) tt tt

@@ -6,7 +6,7 @@ use Rattle.jade_base.specs.declared.place.Pos.{Pos}
 use Rattle.jade_base.specs.declared.report.FaultKind.{FaultKind}
 use Rattle.jade_base.specs.declared.report.FaultKind.TheVariants.{Object, Index, Right as RightFault}
 use Rattle.jade_base.specs.declared.report.Blame.{Blame}
-use Rattle.jade_base.specs.Rights.{is_immediate}
+use Rattle.jade_base.specs.Rights.{may_read, may_write}
 use Rattle.jade_syntax.specs.Abstract.{Expression, Whole, Truth, Variable, Group, Signed, Chain, Cell, Links, Last, Link, Place, Alone, Member, Store}
 use Rattle.jade_meaning.specs.declared.values.Value.{Value}
 use Rattle.jade_meaning.specs.declared.values.Value.TheVariants.{IntOf}
@@ -130,7 +130,7 @@ module _ (s : Setting) (vs : List ℤ) where
         bind_tells vs (T k) (G f) (reached f) on (fed (drop k vs) (looked f)) (eval_tells e m (reached f) k) (λ i j.
         bind_tells vs (kept (I f i) j) (C f) (reads f) on (fed (drop j vs) (reached f i))
         (index_tells vs (is_index (whole i) f.size) (magnitude (whole i)) Index at m (reads f) j) (λ c h.
-        read_tells vs (is_immediate (rights_on m.spec f.number).reads) f.number c at m on h)))
+        read_tells vs (may_read (rights_on m.spec f.number)) f.number c at m on h)))
 
     links_tell : (links : Links) (v : Value) (m : Mine) (on : Value → Course) (n : ℕ) → Tells vs (evaluate_links s.items m.env m.spec (Answers vs) links v n) on
         (fed (drop n vs) (eval_links s links v m on))
@@ -181,7 +181,7 @@ module _ (s : Setting) (vs : List ℤ) where
       bind_tells vs (kept (I f i) j) (F2 f) (g2 f) W (fed (drop j vs) (g1 f i)) (index_tells vs (is_index (whole i) f.size) (magnitude (whole i)) Index at m
       (g2 f) j) (λ c h.
       bind_tells vs (T v h) (F3 f c) (g3 f c) W (fed (drop h vs) (g2 f c)) (eval_tells v m (g3 f c) h) (λ z g.
-      write_tells (is_immediate (rights_on m.spec f.number).writes) f.number c (whole z) at m on g))))
+      write_tells (may_write (rights_on m.spec f.number)) f.number c (whole z) at m on g))))
 
   -- the bounds of a loop
   pub bounds_tell : (low high : Expression) (m : Mine) (on : ℤ → ℤ → Course) (n : ℕ) → Tells vs (evaluate_bounds s.items m.env m.spec (Answers vs) low high n)

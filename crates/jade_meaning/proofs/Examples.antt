@@ -1,4 +1,5 @@
 -- Small programs and what they mean.
+use Rattle.jade_meaning.specs.Turns.{in_order}
 use Rattle.std.specs.Prelude.{◌≡◌, ℕ, List, [], ◌∷◌, Some, pos, negsuc, refl}
 use Rattle.std.specs.List.{sum_by}
 use Rattle.jade_base.specs.declared.place.Pos.{Pos}
@@ -120,7 +121,7 @@ column = record {
 abbrev two_steps : AbstractProgram
 two_steps = record { items = []; main = (Then (Local Int (97 ∷ []) (Whole (pos 1))) (Then (Assign (97 ∷ []) (Whole (pos 2))) Done)) }
 
-one_child_report : report one_child [] 100 ≡ record {
+one_child_report : report one_child [] 100 in_order ≡ record {
   objects = (pos 7 ∷ []) ∷ [];
   faults = [];
   turns = [] ∷ [];
@@ -129,7 +130,7 @@ one_child_report : report one_child [] 100 ≡ record {
 }
 one_child_report = refl
 
-one_child_limit : report one_child [] 1 ≡ record {
+one_child_limit : report one_child [] 1 in_order ≡ record {
   objects = (pos 0 ∷ []) ∷ [];
   faults = record { path = 0 ∷ []; children = 0; blame = limit_blame } ∷ [];
   turns = [] ∷ [];
@@ -137,34 +138,34 @@ one_child_limit : report one_child [] 1 ≡ record {
 }
 one_child_limit = refl
 
-one_child_whole_limit : answer one_child [] 2 ≡ Faulted (0 ∷ 0 ∷ []) limit_blame
+one_child_whole_limit : answer one_child [] 2 in_order ≡ Faulted (0 ∷ 0 ∷ []) limit_blame
 one_child_whole_limit = refl
 
-reads_without_right_faults : (report reads_without_right [] 1000).faults ≡ fault_at (0 ∷ 0 ∷ []) 0 Right 4 8 ∷ []
+reads_without_right_faults : (report reads_without_right [] 1000 in_order).faults ≡ fault_at (0 ∷ 0 ∷ []) 0 Right 4 8 ∷ []
 reads_without_right_faults = refl
 
-right_made_immediate_cells : answer right_made_immediate [] 1000 ≡ Cells ((pos 3 ∷ []) ∷ [])
+right_made_immediate_cells : answer right_made_immediate [] 1000 in_order ≡ Cells ((pos 3 ∷ []) ∷ [])
 right_made_immediate_cells = refl
 
-right_given_up_faults : (report right_given_up [] 1000).faults ≡ fault_at (0 ∷ []) 0 Change 3 18 ∷ []
+right_given_up_faults : (report right_given_up [] 1000 in_order).faults ≡ fault_at (0 ∷ []) 0 Change 3 18 ∷ []
 right_given_up_faults = refl
 
-no_such_member_faults : (report no_such_member [] 1000).faults ≡ fault_at (0 ∷ []) 0 Object 3 15 ∷ []
+no_such_member_faults : (report no_such_member [] 1000 in_order).faults ≡ fault_at (0 ∷ []) 0 Object 3 15 ∷ []
 no_such_member_faults = refl
 
-grandchild_cells : answer grandchild [] 1000 ≡ Cells ((pos 12 ∷ []) ∷ [])
+grandchild_cells : answer grandchild [] 1000 in_order ≡ Cells ((pos 12 ∷ []) ∷ [])
 grandchild_cells = refl
 
-two_steps_limit : answer two_steps [] 1 ≡ Faulted (0 ∷ []) limit_blame
+two_steps_limit : answer two_steps [] 1 in_order ≡ Faulted (0 ∷ []) limit_blame
 two_steps_limit = refl
 
-column_cells : answer column (pos 7 ∷ []) 1000 ≡ Cells ((pos 0 ∷ pos 7 ∷ []) ∷ (pos 10 ∷ pos 7 ∷ []) ∷ (pos 30 ∷ pos 7 ∷ []) ∷ (pos 60 ∷ pos 7 ∷ []) ∷ [])
+column_cells : answer column (pos 7 ∷ []) 1000 in_order ≡ Cells ((pos 0 ∷ pos 7 ∷ []) ∷ (pos 10 ∷ pos 7 ∷ []) ∷ (pos 30 ∷ pos 7 ∷ []) ∷ (pos 60 ∷ pos 7 ∷ []) ∷ [])
 column_cells = refl
 
 column_steps : sum_by (λ p. p.steps) (parts (serial_run column (pos 7 ∷ []) 1000)) ≡ 37
 column_steps = refl
 
-column_limit : answer column (pos 7 ∷ []) 36 ≡ Faulted (0 ∷ 6 ∷ []) limit_blame
+column_limit : answer column (pos 7 ∷ []) 36 in_order ≡ Faulted (0 ∷ 6 ∷ []) limit_blame
 column_limit = refl
 
 column_stops : run_answer (stopping_run column (pos 7 ∷ []) 36) [] ≡ Faulted (0 ∷ 6 ∷ []) limit_blame

@@ -5,7 +5,7 @@ use Rattle.std.proofs.lemmas.Bool.{le-ltb, lt-ltb}
 use Rattle.std.proofs.lemmas.List.{drop_all}
 use Rattle.std.specs.Prelude.{ℤ, pos, ◌+ℤ◌, ◌<ℤ◌, ◌≤ℤ◌, slice_get, slice_set}
 use Rattle.jade_base.specs.declared.place.Pos.{Pos}
-use Rattle.jade_base.specs.declared.report.FaultKind.TheVariants.{Cover, Change}
+use Rattle.jade_base.specs.declared.report.FaultKind.TheVariants.{Cover, Change, Commute}
 use Rattle.jade_base.specs.declared.report.Blame.{Blame}
 use Rattle.jade_base.specs.declared.rights.Rights.{Rights}
 use Rattle.jade_syntax.specs.declared.tree.ValueKind.{ValueKind}
@@ -25,10 +25,10 @@ use Rattle.jade_meaning.specs.declared.resolve.ResolvedObject.{ResolvedObject}
 use Rattle.jade_meaning.specs.Values.{holds, turn_count}
 use Rattle.jade_meaning.specs.Changes.{amended, declared}
 use Rattle.jade_base.specs.Rights.{join}
-use Rattle.jade_meaning.specs.Specification.{Specification, rights_on, covers, fitted}
+use Rattle.jade_meaning.specs.Specification.{Specification, rights_on, covers, fitted, is_commuting, may_commute}
 use Rattle.jade_meaning.specs.Course.{Course, Environment, Reads, Writes, Steps, Creates, Changes, Ends, Setting, Mine, On, Draft, NoDraft, Building}
 use Rattle.jade_meaning.specs.Course.{Amending, fault, choose, finish, bind, scoped, turns, amend, declare, assigned, run, run_all, limit_blame, step}
-use Rattle.jade_meaning.specs.Course.{create, change, child_start, copied, drafted}
+use Rattle.jade_meaning.specs.Course.{create, create_covered, section_begins, change, child_start, copied, drafted}
 use Rattle.jade_meaning.specs.steps.Perform.{mine_of, changed}
 use Rattle.jade_meaning.specs.steps.Direct.{blame_at, drafted_with, amended_with}
 use Rattle.jade_meaning.specs.steps.Evaluation.{Evaluation, Got, Answers, stopped, evaluate, evaluate_object}
@@ -299,25 +299,46 @@ module _ (s : Setting) (vs : List ℤ) (r : Running) where
 
   -- a child is made, or not
   pub create_goes : (at : Pos) (names : List Name) (body : On) (child : Specification) (env : Environment) → child ≡ fitted r.task.spec (drafted r.task.draft)
-      → covers r.task.spec child ≡ true → env ≡ copied names r.task.scope ++ s.given → begun_with vs (create s at names body onward) r ≡ Creates child
-      (body (child_start env child)) (fed (drop r.used vs) (onward (record (mine_of r.task) { draft = NoDraft })))
-  create_goes at names body child env e h g =
+      → may_commute child ≡ true → covers r.task.spec child ≡ true → env ≡ copied names r.task.scope ++ s.given → begun_with vs (create s at names body onward) r
+      ≡ Creates child (body (child_start env child)) (fed (drop r.used vs) (onward (record (mine_of r.task) { draft = NoDraft })))
+  create_goes at names body child env e may h g =
       let made : Specification → Mine → Course = λ c n. Creates c (body (child_start (copied names n.env ++ s.given) c))
       (onward (record n { draft = NoDraft })) in
-      ap (λ c. fed (drop r.used vs) (choose (covers r.task.spec c) (made c) (fault Cover at) (mine_of r.task))) (sym e)
+      ap (λ c. fed (drop r.used vs) (choose (may_commute c) (create_covered s at names c body onward) (fault Commute at) (mine_of r.task))) (sym e)
+      ∙ ap (λ b. fed (drop r.used vs) (choose b (create_covered s at names child body onward) (fault Commute at) (mine_of r.task))) may
       ∙ ap (λ b. fed (drop r.used vs) (choose b (made child) (fault Cover at) (mine_of r.task))) h
       ∙ fed_creates (drop r.used vs) child (body (child_start (copied names r.task.scope ++ s.given) child))
       (onward (record (mine_of r.task) { draft = NoDraft }))
       ∙ ap (λ n. Creates child (body (child_start n child)) (fed (drop r.used vs) (onward (record (mine_of r.task) { draft = NoDraft })))) (sym g)
 
   pub create_stops : (at : Pos) (names : List Name) (body : On) (child : Specification) → child ≡ fitted r.task.spec (drafted r.task.draft)
-      → covers r.task.spec child ≡ false → begun_with vs (create s at names body onward) r ≡ Ends (Some (blame_at Cover at))
-  create_stops at names body child e h =
+      → may_commute child ≡ true → covers r.task.spec child ≡ false → begun_with vs (create s at names body onward) r ≡ Ends (Some (blame_at Cover at))
+  create_stops at names body child e may h =
       let made : Specification → Mine → Course = λ c n. Creates c (body (child_start (copied names n.env ++ s.given) c))
       (onward (record n { draft = NoDraft })) in
-      ap (λ c. fed (drop r.used vs) (choose (covers r.task.spec c) (made c) (fault Cover at) (mine_of r.task))) (sym e)
+      ap (λ c. fed (drop r.used vs) (choose (may_commute c) (create_covered s at names c body onward) (fault Commute at) (mine_of r.task))) (sym e)
+      ∙ ap (λ b. fed (drop r.used vs) (choose b (create_covered s at names child body onward) (fault Commute at) (mine_of r.task))) may
       ∙ ap (λ b. fed (drop r.used vs) (choose b (made child) (fault Cover at) (mine_of r.task))) h
       ∙ fed_ends (drop r.used vs) (Some (blame_at Cover at))
+
+  -- or it may not commute as it would
+  pub create_bars : (at : Pos) (names : List Name) (body : On) (child : Specification) → child ≡ fitted r.task.spec (drafted r.task.draft)
+      → may_commute child ≡ false → begun_with vs (create s at names body onward) r ≡ Ends (Some (blame_at Commute at))
+  create_bars at names body child e may =
+      ap (λ c. fed (drop r.used vs) (choose (may_commute c) (create_covered s at names c body onward) (fault Commute at) (mine_of r.task))) (sym e)
+      ∙ ap (λ b. fed (drop r.used vs) (choose b (create_covered s at names child body onward) (fault Commute at) (mine_of r.task))) may
+      ∙ fed_ends (drop r.used vs) (Some (blame_at Commute at))
+
+  -- a section begins, or the task commutes
+  pub section_opens : (at : Pos) (d : Draft) (on : On) → is_commuting r.task.spec ≡ false
+      → begun_with vs (section_begins at d on) r ≡ fed (drop r.used vs) (on (record (mine_of r.task) { draft = d }))
+  section_opens at d on h = ap (λ b. fed (drop r.used vs) (choose b (fault Commute at) (λ n. on (record n { draft = d })) (mine_of r.task))) h
+
+  pub section_bars : (at : Pos) (d : Draft) (on : On) → is_commuting r.task.spec ≡ true
+      → begun_with vs (section_begins at d on) r ≡ Ends (Some (blame_at Commute at))
+  section_bars at d on h =
+      ap (λ b. fed (drop r.used vs) (choose b (fault Commute at) (λ n. on (record n { draft = d })) (mine_of r.task))) h
+      ∙ fed_ends (drop r.used vs) (Some (blame_at Commute at))
 
   -- the task's own rights change
   pub change_goes : (t : Task) (new : Specification) → t ≡ changed r.task → new ≡ t.spec → begun_with vs (change onward) r ≡ Changes new

@@ -3,10 +3,10 @@ use Rattle.std.proofs.Common.{◌≡◌, ℕ, zero, suc, ◌+◌, Bool, true, fa
 use Rattle.std.specs.Prelude.{ℤ, pos, ◌+ℤ◌, nat_lt, if◌then◌else◌}
 use Rattle.jade_base.specs.declared.place.Pos.{Pos}
 use Rattle.jade_base.specs.declared.report.FaultKind.{FaultKind}
-use Rattle.jade_base.specs.declared.report.FaultKind.TheVariants.{Object, Index, Right as RightFault, Cover}
+use Rattle.jade_base.specs.declared.report.FaultKind.TheVariants.{Object, Index, Right as RightFault, Cover, Commute}
 use Rattle.jade_base.specs.declared.report.Blame.{Blame}
 use Rattle.jade_base.specs.declared.rights.Rights.{Rights}
-use Rattle.jade_base.specs.Rights.{is_immediate}
+use Rattle.jade_base.specs.Rights.{may_read, may_write}
 use Rattle.jade_syntax.specs.declared.tree.DeclareWord.{DeclareWord}
 use Rattle.jade_syntax.specs.Abstract.{Name, Expression, Whole, Truth, Variable, Group, Signed, Chain, Cell, Links, Last, Link, Place, Alone, Member}
 use Rattle.jade_syntax.specs.Abstract.{Action, Local, Assign, Store, If, IfElse, For, Withonly, With, Declare, Actions, Done as NoMore, Then}
@@ -18,16 +18,16 @@ use Rattle.jade_meaning.specs.declared.resolve.Range.{Range}
 use Rattle.jade_meaning.specs.declared.resolve.ResolvedObject.{ResolvedObject}
 use Rattle.jade_meaning.specs.Values.{Given, Gives, Fails, operated, decides, signed, whole, holds, is_index, magnitude, turn_count, index_in}
 use Rattle.jade_meaning.specs.Changes.{amended}
-use Rattle.jade_meaning.specs.Specification.{Specification, rights_on, covers, fitted}
+use Rattle.jade_meaning.specs.Specification.{Specification, rights_on, covers, fitted, commuting_on, is_commuting, may_commute}
 use Rattle.jade_meaning.specs.Course.{Course, Reads, Writes, Steps, Creates, Ends, Setting, Mine, On, Draft, NoDraft, Building, Amending, drafted, finish}
 use Rattle.jade_meaning.specs.Course.{fault, choose, step, given, place_of, member, reach, read_cell, write_cell, bind, leave, scoped, turns, amend}
-use Rattle.jade_meaning.specs.Course.{declare, create, change, child_start, copied, assigned, eval, eval_links, find, run, run_all, range_from, limit_blame}
+use Rattle.jade_meaning.specs.Course.{declare, create, create_covered, change, child_start, copied, assigned, eval, eval_links, find, run, run_all, range_from, limit_blame}
 use Rattle.jade_meaning.specs.Course.{none_of}
 use Rattle.jade_meaning.specs.Serial.{Path, cell}
-use Rattle.jade_meaning.specs.steps.Carry.{carried, noted, put}
+use Rattle.jade_meaning.specs.steps.Carry.{carried, noted, put, turn_noted}
 use Rattle.jade_meaning.specs.steps.Direct.{◌>>=◌, blamed, blame_at, indexed, member_of, read_of, worth, linked, located, drafted_with, amended_with}
 use Rattle.jade_meaning.specs.steps.Perform.{Outcome, Goes, Stops, mine_of, then_on, valued, with_variable, begun, within, written, turned_once, turned}
-use Rattle.jade_meaning.specs.steps.Perform.{ended, child_task, next_path, created, changed, value_at, object_at, stored_in, perform, perform_all}
+use Rattle.jade_meaning.specs.steps.Perform.{ended, child_task, next_path, created, created_covered, changed, value_at, object_at, stored_in, perform, perform_all}
 
 -- what is done with a value, or the end with a fault
 abbrev pub resumes : {A : Type 0} → Result A Blame → (A → Course) → Course
@@ -98,7 +98,7 @@ module _ (s : Setting) (p : Path) (k n : ℕ) (l : RunState) where
         eval_is e m (reached f)
         ∙ bound_is p k n l W (λ i. I f i >>= R f) (reached f) on (λ i.
         index_is p k n l (is_index (whole i) f.size) (magnitude (whole i)) Index (place_of o) m (reads f)
-        ∙ bound_is p k n l (I f i) (R f) (reads f) on (λ c. read_is p k n l (is_immediate (rights_on m.spec f.number).reads) f.number c (place_of o) m on)))
+        ∙ bound_is p k n l (I f i) (R f) (reads f) on (λ c. read_is p k n l (may_read (rights_on m.spec f.number)) f.number c (place_of o) m on)))
 
     links_is : (links : Links) (v : Value) (m : Mine) (on : Value → Course) → carried p (eval_links s links v m on) k n l ≡ carried p
         (resumes (linked s.items m.env m.spec l.objects links v) on) k n l
@@ -199,12 +199,29 @@ create_at : (s : Setting) (p : Path) (on : On) (b : Bool) (at : Pos) (names : Li
     (f q u m)) → carried p (choose b (λ n. Creates child (body (child_start (copied names n.env ++ s.given) child)) (on (record n { draft = NoDraft })))
     (fault Cover at) (mine_of t)) t.tally.children t.tally.part l
     ≡ continues p on (if b then Goes (record t { draft = NoDraft; tally = record { taken = t.tally.taken; part = 0; children = suc t.tally.children } })
-    (ended (next_path p t) (f (next_path p t) (child_task (copied names t.scope ++ s.given) child) (noted p t.tally.children t.tally.part None l)))
+    (ended (next_path p t) (f (next_path p t) (child_task (copied names t.scope ++ s.given) child) (turn_noted (commuting_on child) (next_path p t) (noted p t.tally.children t.tally.part None l))))
     else Stops (blame_at Cover at) (record t { draft = NoDraft }) l)
 create_at s p on true at names body f t l child h =
     ap (carried p (on (record (mine_of t) { draft = NoDraft })) (suc t.tally.children) 0)
-    (h (next_path p t) (child_task (copied names t.scope ++ s.given) child) (noted p t.tally.children t.tally.part None l))
+    (h (next_path p t) (child_task (copied names t.scope ++ s.given) child)
+    (turn_noted (commuting_on child) (next_path p t) (noted p t.tally.children t.tally.part None l)))
 create_at s p on false at names body f t l child h = refl
+
+-- a child that may not commute as it would
+bar_at : (s : Setting) (p : Path) (on : On) (b : Bool) (at : Pos) (f : On) (t : Task) (l : RunState) (o : Outcome)
+    → carried p (f (mine_of t)) t.tally.children t.tally.part l ≡ continues p on o
+    → carried p (choose b f (fault Commute at) (mine_of t)) t.tally.children t.tally.part l
+    ≡ continues p on (if b then o else Stops (blame_at Commute at) (record t { draft = NoDraft }) l)
+bar_at s p on true at f t l o h = h
+bar_at s p on false at f t l o h = refl
+
+-- a section begins, or not
+section_at : (s : Setting) (p : Path) (on : On) (b : Bool) (at : Pos) (d : Draft) (f : On) (t : Task) (l : RunState) (o : Outcome)
+    → carried p (f (mine_of (record t { draft = d }))) t.tally.children t.tally.part l ≡ continues p on o
+    → carried p (choose b (fault Commute at) (λ n. f (record n { draft = d })) (mine_of t)) t.tally.children t.tally.part l
+    ≡ continues p on (if b then Stops (blame_at Commute at) t l else o)
+section_at s p on true at d f t l o h = refl
+section_at s p on false at d f t l o h = h
 
 module _ (s : Setting) where
   mutual
@@ -236,7 +253,7 @@ module _ (s : Setting) where
         ∙ valued_is p on (I f i) t l (g2 f) (f3 f) (λ c.
         eval_is s p k n l v m (g3 f c)
         ∙ valued_is p on (value_at s v t l) t l (g3 f c) (λ z. written f.number c (whole z) at t l)
-        (λ z. written_at p on (is_immediate (rights_on t.spec f.number).writes) f.number c (whole z) at t l))))
+        (λ z. written_at p on (may_write (rights_on t.spec f.number)) f.number c (whole z) at t l))))
     perform_is p (If e first) on t l =
         let g : Value → Course = λ v. choose (holds v) (scoped (run_all s first) on) on (mine_of t) in
         eval_is s p t.tally.children t.tally.part l e (mine_of t) g
@@ -263,16 +280,23 @@ module _ (s : Setting) where
         (perform_all s p body) (λ k u w. all_is p body k u w) on t l))
     perform_is p (Withonly at section names body) on t l =
         let u : Task = record t { draft = Building (none_of s.items) } in
-        all_is p section (λ n. (create s at names (run_all s body finish) on) (leave (mine_of u) n)) u l
+        section_at s p on (is_commuting t.spec) at (Building (none_of s.items)) (scoped (run_all s section) (create s at names (run_all s body finish) on)) t l
+        (then_on (within u (perform_all s p section u l)) (created s p at names (λ q. perform_all s q body)))
+        (all_is p section (λ n. (create s at names (run_all s body finish) on) (leave (mine_of u) n)) u l
         ∙ within_is p (create s at names (run_all s body finish) on) u (perform_all s p section u l)
         ∙ then_is p on (create s at names (run_all s body finish) on) (within u (perform_all s p section u l))
         (created s p at names (λ q. perform_all s q body)) (λ w m.
-        create_at s p on (covers w.spec (fitted w.spec (drafted w.draft))) at names (run_all s body finish) (λ q. perform_all s q body) w m
-        (fitted w.spec (drafted w.draft)) (λ q c d. all_is q body finish c d ∙ ended_is q (perform_all s q body c d)))
+        bar_at s p on (may_commute (fitted w.spec (drafted w.draft))) at
+        (create_covered s at names (fitted w.spec (drafted w.draft)) (run_all s body finish) on) w m
+        (created_covered s p at names (λ q. perform_all s q body) w m)
+        (create_at s p on (covers w.spec (fitted w.spec (drafted w.draft))) at names (run_all s body finish) (λ q. perform_all s q body) w m
+        (fitted w.spec (drafted w.draft)) (λ q c d. all_is q body finish c d ∙ ended_is q (perform_all s q body c d)))))
     perform_is p (With at section) on t l =
         let u : Task = record t { draft = Amending t.spec } in
-        all_is p section (λ n. (change on) (leave (mine_of u) n)) u l ∙ within_is p (change on) u (perform_all s p section u l)
-        ∙ then_is p on (change on) (within u (perform_all s p section u l)) (λ w m. Goes (changed w) m) (λ w m. refl)
+        section_at s p on (is_commuting t.spec) at (Amending t.spec) (scoped (run_all s section) (change on)) t l
+        (then_on (within u (perform_all s p section u l)) (λ w m. Goes (changed w) m))
+        (all_is p section (λ n. (change on) (leave (mine_of u) n)) u l ∙ within_is p (change on) u (perform_all s p section u l)
+        ∙ then_is p on (change on) (within u (perform_all s p section u l)) (λ w m. Goes (changed w) m) (λ w m. refl))
     perform_is p (Declare how at o) on t l =
         let g : ResolvedObject → Course = λ f. declare t.draft how f.number at on (mine_of t) in
         find_is s p t.tally.children t.tally.part l o (mine_of t) g

@@ -16,12 +16,13 @@ use Rattle.jade_syntax.specs.Abstract.{AbstractProgram}
 use Rattle.jade_syntax.specs.Objects.{sizes}
 use Rattle.jade_meaning.specs.Course.{Course, Reads, Writes, Steps, Creates, Changes, Ends, root_course, limit_blame}
 use Rattle.jade_meaning.specs.Talk.{Task}
-use Rattle.jade_meaning.specs.Serial.{Mark, Path, Store, Deed, DidRead, DidWrite, DidCreate, DidEnd, serial, own, under, after, cell, with_cell, done_to}
+use Rattle.jade_meaning.specs.Serial.{Mark, Path, Store, Deed, DidTurn, DidRead, DidWrite, DidCreate, DidEnd, serial, own, under, after, cell, with_cell, done_to}
 use Rattle.jade_meaning.specs.Serial.{zeros, Part, parts, part_of_deed, serial_run}
-use Rattle.jade_meaning.specs.Laws.{Every, child_path}
+use Rattle.jade_meaning.specs.Laws.{Every, child_path, NoneCommutes}
+use Rattle.jade_meaning.proofs.Plainly.{runs_plainly}
 use Rattle.jade_base.specs.Places.{is_before, path_order}
 use Rattle.jade_meaning.specs.Answer.{Answer, Faulted, Cells, key, first_fault, limit_place, blame_of, decided, Run, Stopped, Through, noted, noted_all}
-use Rattle.jade_meaning.specs.Answer.{then_on, stopping, run_answer, run_marks, accesses, access_deed, filed, by_key, parts_by_key, PartsStandByKey}
+use Rattle.jade_meaning.specs.Answer.{then_on, stopping, stopping_run, run_answer, run_marks, accesses, access_deed, filed, by_key, parts_by_key, PartsStandByKey}
 use Rattle.jade_meaning.specs.Answer.{StoppingAgrees}
 
 -- going through the parts: what is left of the limit, or where it ends
@@ -85,6 +86,7 @@ scan_map k left (p ∷ ps) =
 -- a list of marks under a number
 one_part_under : (k : ℕ) (m : Mark) (d : Deed) (ps qs : List Part) → ps ≡ map (part_under k) qs → cons_option (part_of_deed d (under k m)) ps ≡ map
     (part_under k) (cons_option (part_of_deed d m) qs)
+one_part_under k m (DidTurn o) ps qs e = e
 one_part_under k m (DidRead o c v) ps qs e = e
 one_part_under k m (DidWrite o c v) ps qs e = e
 one_part_under k m (DidCreate t n) ps qs e = ap (λ x. record { path = k ∷ m.path; children = m.children; steps = n; blame = None } ∷ x) e
@@ -96,6 +98,7 @@ parts_under k (m ∷ ms) = one_part_under k m m.deed (parts (map (under k) ms)) 
 
 one_access_under : (k : ℕ) (m : Mark) (d : Deed) (ps qs : List Mark) → ps ≡ map (under k) qs → cons_option (access_deed d (under k m)) ps ≡ map (under k)
     (cons_option (access_deed d m) qs)
+one_access_under k m (DidTurn o) ps qs e = e
 one_access_under k m (DidRead o c v) ps qs e = ap (λ x. under k m ∷ x) e
 one_access_under k m (DidWrite o c v) ps qs e = ap (λ x. under k m ∷ x) e
 one_access_under k m (DidCreate t n) ps qs e = e
@@ -108,6 +111,7 @@ accesses_under k (m ∷ ms) = one_access_under k m m.deed (accesses (map (under 
 -- the accesses alone change the store
 one_access_after : (m : Mark) (d : Deed) (ms : List Mark) (store : Store) → m.deed ≡ d → ((s : Store) → after (accesses ms) s ≡ after ms s)
     → after (cons_option (access_deed d m) (accesses ms)) store ≡ after (m ∷ ms) store
+one_access_after m (DidTurn o) ms store e h = h store ∙ ap (λ d. after ms (done_to d store)) (sym e)
 one_access_after m (DidRead o c v) ms store e h = h _
 one_access_after m (DidWrite o c v) ms store e h = h _
 one_access_after m (DidCreate t n) ms store e h = h store ∙ ap (λ d. after ms (done_to d store)) (sym e)
@@ -286,10 +290,10 @@ equal_is i j h = sym (nat_cmp_is i j Equal h)
 before_same : (k : ℕ) (p q : Path) → is_before (k ∷ p) (k ∷ q) ≡ is_before p q
 before_same k p q = ap (λ o. is_lt (ordering_then o (path_order p q))) (equal_is k k refl)
 
-before_greater : (i j : ℕ) (p q : Path) → i < j → is_before (i ∷ p) (j ∷ q) ≡ true
+pub before_greater : (i j : ℕ) (p q : Path) → i < j → is_before (i ∷ p) (j ∷ q) ≡ true
 before_greater i j p q lt = ap (λ o. is_lt (ordering_then o (path_order p q))) (less_is i j lt)
 
-before_not : (i j : ℕ) (p q : Path) → j < i → is_before (i ∷ p) (j ∷ q) ≡ false
+pub before_not : (i j : ℕ) (p q : Path) → j < i → is_before (i ∷ p) (j ∷ q) ≡ false
 before_not i j p q lt = ap (λ o. is_lt (ordering_then o (path_order p q))) (greater_is i j lt)
 
 before_longer : (k : ℕ) (p : Path) (part : ℕ) → is_before (k ∷ []) (k ∷ child_path p part) ≡ true
@@ -376,10 +380,10 @@ and_parts : (a b : Bool) → (a && b) ≡ true → (a ≡ true) × (b ≡ true)
 and_parts true b h = (refl, h)
 and_parts false b h = absurd (cc)
 
-equal_both : (i j : ℕ) (p q : Path) → i ≡ j → is_before (i ∷ p) (j ∷ q) ≡ is_before p q
+pub equal_both : (i j : ℕ) (p q : Path) → i ≡ j → is_before (i ∷ p) (j ∷ q) ≡ is_before p q
 equal_both i j p q e = ap (λ o. is_lt (ordering_then o (path_order p q))) (equal_is i j e)
 
-not_both_ways : (p q : Path) → is_before p q ≡ true → is_before q p ≡ false
+pub not_both_ways : (p q : Path) → is_before p q ≡ true → is_before q p ≡ false
 not_both_ways [] [] h = absurd (cc)
 not_both_ways (i ∷ p) [] h = absurd (cc)
 not_both_ways [] (j ∷ q) h = refl
@@ -475,16 +479,31 @@ root_first (Stopped p b ns) ms limit h =
 root_first (Through less ns) ms limit h =
     ([], accesses_under 0 ms ∙ ap (map (under 0)) h.1 ∙ sym (append-nil _ ∙ append-nil _))
 
-pub stopping_agrees : (p : AbstractProgram) (ns : List ℤ) (limit : ℕ) → StoppingAgrees p ns limit
-stopping_agrees p ns limit =
+-- the run that stops has the answer of the plain run
+pub stops_plainly : (p : AbstractProgram) (ns : List ℤ) (limit : ℕ) → run_answer (stopping_run p ns limit) (zeros (sizes p.items))
+    ≡ decided (first_fault (parts_by_key (serial_run p ns limit))) (limit_place limit (parts_by_key (serial_run p ns limit)))
+    (after (serial_run p ns limit) (zeros (sizes p.items)))
+stops_plainly p ns limit =
     let c = root_course p ns limit in
     let store = zeros (sizes p.items) in
     let ms = serial c 0 0 store in
     let r = stopping c 0 limit store in
     let f = subst (Fits r ms) (add-zero limit) (fits c 0 0 limit store) in
+    root_scan r ms limit store f
+    ∙ scan_decides limit (parts (map (under 0) ms)) (after (map (under 0) ms) store) (all_ascend p ns limit)
+    ∙ ap (λ ps. decided (first_fault ps) (limit_place limit ps) (after (map (under 0) ms) store)) (sym (parts_stand p ns limit))
+
+pub stopping_agrees : (p : AbstractProgram) (ns : List ℤ) (limit : ℕ) (turns : ℕ → List Path) → NoneCommutes p ns limit turns → StoppingAgrees p ns limit turns
+stopping_agrees p ns limit turns none =
+    let c = root_course p ns limit in
+    let store = zeros (sizes p.items) in
+    let ms = serial c 0 0 store in
+    let r = stopping c 0 limit store in
+    let f = subst (Fits r ms) (add-zero limit) (fits c 0 0 limit store) in
+    let plain = (runs_plainly p ns limit turns none).marks in
+    let told = λ (ps : List Mark). decided (first_fault (parts_by_key ps)) (limit_place limit (parts_by_key ps)) (after ps store) in
+    let first = root_first r ms limit f in
     record {
-      same = root_scan r ms limit store f
-          ∙ scan_decides limit (parts (map (under 0) ms)) (after (map (under 0) ms) store) (all_ascend p ns limit)
-          ∙ ap (λ ps. decided (first_fault ps) (limit_place limit ps) (after (map (under 0) ms) store)) (sym (parts_stand p ns limit));
-      first = root_first r ms limit f;
+      same = stops_plainly p ns limit ∙ ap told (sym plain);
+      first = (first.0, ap accesses plain ∙ first.1);
     }

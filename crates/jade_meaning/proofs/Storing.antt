@@ -4,7 +4,7 @@ use Rattle.std.specs.Prelude.{if◌then◌else◌}
 use Rattle.jade_base.specs.declared.place.Pos.{Pos}
 use Rattle.jade_base.specs.declared.report.FaultKind.TheVariants.{Index, Right as RightFault}
 use Rattle.jade_base.specs.declared.report.Blame.{Blame}
-use Rattle.jade_base.specs.Rights.{is_immediate}
+use Rattle.jade_base.specs.Rights.{may_read}
 use Rattle.jade_syntax.specs.declared.tree.Item.{Item}
 use Rattle.jade_syntax.specs.Abstract.{Expression, Whole, Truth, Variable, Group, Signed, Chain, Cell, Links, Last, Link, Place, Alone, Member}
 use Rattle.jade_meaning.specs.declared.values.Value.{Value}
@@ -56,7 +56,7 @@ module _ (items : List Item) (env : Environment) (spec : Specification) (l : Sto
         let R : ResolvedObject → ℕ → Result Value Blame = λ f c. read_of spec l f.number c (place_of o) in
         let g : ResolvedObject → Value → ℕ → Evaluation Value = λ f i j. kept (I f i) j >>> C f in
         let q : ResolvedObject → Value → Result Value Blame = λ f i. I f i >>= R f in
-        let cells : (f : ResolvedObject) (c : ℕ) → C f c n ≡ kept (R f c) n = λ f c. cell_at (is_immediate (rights_on spec f.number).reads) l f.number c
+        let cells : (f : ResolvedObject) (c : ℕ) → C f c n ≡ kept (R f c) n = λ f c. cell_at (may_read (rights_on spec f.number)) l f.number c
         (place_of o) n in
         let inner : (f : ResolvedObject) → (T n >>> g f) ≡ kept (worth items env spec l e >>= q f) n = λ f. bind_evaluated (T n) (worth items env spec l e)
         (g f) (q f) n (evaluate_is e n) (λ i. bind_kept (I f i) (C f) (R f) n (cells f)) in

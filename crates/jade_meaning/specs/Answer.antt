@@ -6,8 +6,9 @@ use Rattle.jade_base.specs.declared.report.Blame.{Blame}
 use Rattle.jade_syntax.specs.Abstract.{AbstractProgram}
 use Rattle.jade_syntax.specs.Objects.{sizes}
 use Rattle.jade_meaning.specs.Course.{Course, Reads, Writes, Steps, Creates, Changes, Ends, root_course, limit_blame}
-use Rattle.jade_meaning.specs.Serial.{Path, Store, Mark, Deed, DidRead, DidWrite, DidCreate, DidEnd, own, under, after, cell, with_cell, zeros, Part, parts}
+use Rattle.jade_meaning.specs.Serial.{Path, Store, Mark, Deed, DidTurn, DidRead, DidWrite, DidCreate, DidEnd, own, under, after, cell, with_cell, zeros, Part, parts}
 use Rattle.jade_meaning.specs.Serial.{serial_run}
+use Rattle.jade_meaning.specs.Turns.{marks_by, in_order}
 
 -- what a program answers: the task that faults first and why, or the cells of its objects
 pub data Answer : Type 0 where
@@ -54,10 +55,10 @@ decided (Some f) None store = Faulted f.path (blame_of f.blame)
 decided None (Some l) store = Faulted l.path limit_blame
 decided (Some f) (Some l) store = if is_before (key f) (key l) then Faulted f.path (blame_of f.blame) else Faulted l.path limit_blame
 
--- the answer of a program whose tasks and whose whole serial run may begin so many steps
-abbrev pub answer : AbstractProgram → List ℤ → ℕ → Answer
-answer p ns limit =
-    let ms = serial_run p ns limit in
+-- the answer of a program whose tasks and whose whole serial run by turn lists may begin so many steps
+abbrev pub answer : AbstractProgram → (numbers : List ℤ) → (limit : ℕ) → (turns : ℕ → List Path) → Answer
+answer p ns limit turns =
+    let ms = marks_by p ns limit turns in
     decided (first_fault (parts_by_key ms)) (limit_place limit (parts_by_key ms)) (after ms (zeros (sizes p.items)))
 
 -- a run that stops at the first fault, or at the first step beyond the limit; what it did until then
@@ -105,6 +106,7 @@ run_marks (Through left ms) = ms
 
 -- a mark whose deed is a read or a write
 abbrev pub access_deed : Deed → Mark → Option Mark
+access_deed (DidTurn o) m = None
 access_deed (DidRead o c v) m = Some m
 access_deed (DidWrite o c v) m = Some m
 access_deed (DidCreate t n) m = None
@@ -119,11 +121,15 @@ abbrev pub stopping_run : AbstractProgram → List ℤ → ℕ → Run
 stopping_run p ns limit =
     let store = zeros (sizes p.items) in then_on 0 (stopping (root_course p ns limit) 0 limit store) (λ left ms. Through left [])
 
--- the parts of the serial run stand by ascending key already
+-- the parts of a serial run in which no task commutes stand by ascending key already
 pub record PartsStandByKey (p : AbstractProgram) (ns : List ℤ) (limit : ℕ) : Type 0 where
   pub same : parts_by_key (serial_run p ns limit) ≡ parts (serial_run p ns limit)
 
--- the run that stops has the answer, and what it does is what the serial run does first
-pub record StoppingAgrees (p : AbstractProgram) (ns : List ℤ) (limit : ℕ) : Type 0 where
-  pub same : run_answer (stopping_run p ns limit) (zeros (sizes p.items)) ≡ answer p ns limit
-  pub first : (rest : List Mark) × (accesses (serial_run p ns limit) ≡ run_marks (stopping_run p ns limit) ++ rest)
+-- the run that stops has the answer, and what it does is what the serial run by turn lists does first
+pub record StoppingAgrees (p : AbstractProgram) (ns : List ℤ) (limit : ℕ) (turns : ℕ → List Path) : Type 0 where
+  pub same : run_answer (stopping_run p ns limit) (zeros (sizes p.items)) ≡ answer p ns limit turns
+  pub first : (rest : List Mark) × (accesses (marks_by p ns limit turns) ≡ run_marks (stopping_run p ns limit) ++ rest)
+
+-- the run that stops, each commuting task at once, has the answer of the serial run in the order of creation
+pub record StopsInOrder (p : AbstractProgram) (ns : List ℤ) (limit : ℕ) : Type 0 where
+  pub same : run_answer (stopping_run p ns limit) (zeros (sizes p.items)) ≡ answer p ns limit in_order

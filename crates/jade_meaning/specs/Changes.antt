@@ -7,7 +7,7 @@ use Rattle.access_spec.specs.declared.change.Change.{Change}
 use Rattle.access_spec.specs.declared.change.Change.TheVariants.{Reads, Writes, Both, NoReads, NoWrites, Neither}
 use Rattle.access_spec.specs.Amended.{amended as amended_by}
 use Rattle.jade_syntax.specs.declared.tree.DeclareWord.{DeclareWord}
-use Rattle.jade_syntax.specs.declared.tree.DeclareWord.TheVariants.{Rd, Wr, RdWr, DfRd, DfWr, DfRdWr, NoRd, NoWr, NoRdWr}
+use Rattle.jade_syntax.specs.declared.tree.DeclareWord.TheVariants.{Rd, Wr, RdWr, DfRd, DfWr, DfRdWr, Cm, NoRd, NoWr, NoRdWr}
 
 -- the rights that a word gives a child
 abbrev pub declared : DeclareWord → Rights
@@ -17,11 +17,12 @@ declared RdWr = both_rights
 declared DfRd = record no_rights { reads = Deferred }
 declared DfWr = record no_rights { writes = Deferred }
 declared DfRdWr = record no_rights { reads = Deferred; writes = Deferred }
+declared Cm = record no_rights { commutes = Immediate }
 declared NoRd = no_rights
 declared NoWr = no_rights
 declared NoRdWr = no_rights
 
--- the change that a word of a `with` asks for; a deferred declaration asks for none
+-- the change that a word of a `with` asks for; a deferred or a commuting declaration asks for none
 abbrev pub change_of : DeclareWord → Option Change
 change_of Rd = Some Reads
 change_of Wr = Some Writes
@@ -32,6 +33,7 @@ change_of NoRdWr = Some Neither
 change_of DfRd = None
 change_of DfWr = None
 change_of DfRdWr = None
+change_of Cm = None
 
 -- the rights after a change, if one is asked for
 abbrev pub after_change : Option Change → Rights → Option Rights

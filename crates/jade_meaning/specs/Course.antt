@@ -3,10 +3,10 @@ use Rattle.std.specs.Prelude.{ℕ, zero, suc, ◌+◌, ◌-◌, Bool, true, fals
 use Rattle.std.specs.Prelude.{slice_set, replicate, if◌then◌else◌}
 use Rattle.jade_base.specs.declared.place.Pos.{Pos}
 use Rattle.jade_base.specs.declared.report.FaultKind.{FaultKind}
-use Rattle.jade_base.specs.declared.report.FaultKind.TheVariants.{Index, Object, Right as RightFault, Cover, Change, Limit}
+use Rattle.jade_base.specs.declared.report.FaultKind.TheVariants.{Index, Object, Right as RightFault, Cover, Change, Limit, Commute}
 use Rattle.jade_base.specs.declared.report.Blame.{Blame}
 use Rattle.jade_base.specs.declared.rights.Rights.{Rights}
-use Rattle.jade_base.specs.Rights.{no_rights, both_rights, is_immediate, join}
+use Rattle.jade_base.specs.Rights.{no_rights, both_rights, may_read, may_write, join}
 use Rattle.jade_syntax.specs.declared.tree.Item.{Item}
 use Rattle.jade_syntax.specs.declared.tree.Item.TheVariants.{Input, Single, Family}
 use Rattle.jade_syntax.specs.declared.tree.DeclareWord.{DeclareWord}
@@ -19,7 +19,7 @@ use Rattle.jade_meaning.specs.declared.values.Value.TheVariants.{IntOf, BoolOf}
 use Rattle.jade_meaning.specs.declared.resolve.Range.{Range}
 use Rattle.jade_meaning.specs.declared.resolve.ResolvedObject.{ResolvedObject}
 use Rattle.jade_meaning.specs.Values.{Given, Gives, Fails, operated, decides, signed, whole, holds, is_index, magnitude, turn_count}
-use Rattle.jade_meaning.specs.Specification.{Specification, rights_on, covers, fitted}
+use Rattle.jade_meaning.specs.Specification.{Specification, rights_on, covers, fitted, is_commuting, may_commute}
 use Rattle.jade_meaning.specs.Changes.{declared, amended}
 
 -- what a task goes on to do
@@ -144,12 +144,12 @@ reach o i at m on = choose (is_index i o.size) (λ n. on (magnitude i)) (fault I
 -- a cell is read, or the fault `right`
 abbrev pub read_cell : (o c : ℕ) → Pos → Mine → (Value → Course) → Course
 read_cell o c at m on =
-    choose (is_immediate (rights_on m.spec o).reads) (λ n. Reads o c (λ z. on (IntOf z))) (fault RightFault at) m
+    choose (may_read (rights_on m.spec o)) (λ n. Reads o c (λ z. on (IntOf z))) (fault RightFault at) m
 
 -- a cell is written, or the fault `right`
 abbrev pub write_cell : (o c : ℕ) → ℤ → Pos → On → On
 write_cell o c z at on m =
-    choose (is_immediate (rights_on m.spec o).writes) (λ n. Writes o c z (on n)) (fault RightFault at) m
+    choose (may_write (rights_on m.spec o)) (λ n. Writes o c z (on n)) (fault RightFault at) m
 
 -- a new variable
 abbrev pub bind : Name → Value → Mine → Mine
@@ -190,12 +190,21 @@ copied (x ∷ xs) env = record { name = x; value = value_of x env } ∷ copied x
 abbrev pub child_start : Environment → Specification → Mine
 child_start env spec = record { env = env; spec = spec; draft = NoDraft; taken = 0 }
 
--- the end of the section of a `withonly`: the child is made, or the fault `cover`
+-- a child is made with a specification, or the fault `cover`
+abbrev pub create_covered : Setting → Pos → List Name → Specification → On → On → On
+create_covered s at names child body on m =
+    choose (covers m.spec child) (λ n. Creates child (body (child_start (copied names n.env ++ s.given) child)) (on (record n { draft = NoDraft })))
+    (fault Cover at) m
+
+-- the end of the section of a `withonly`: the child is made, or the fault `commute` or `cover`
 abbrev pub create : Setting → Pos → List Name → On → On → On
 create s at names body on m =
     let child = fitted m.spec (drafted m.draft) in
-    choose (covers m.spec child) (λ n. Creates child (body (child_start (copied names n.env ++ s.given) child)) (on (record n { draft = NoDraft })))
-    (fault Cover at) m
+    choose (may_commute child) (create_covered s at names child body on) (fault Commute at) m
+
+-- a section begins with this draft, or in a task that commutes the fault `commute`
+abbrev pub section_begins : Pos → Draft → On → On
+section_begins at draft on m = choose (is_commuting m.spec) (fault Commute at) (λ n. on (record n { draft = draft })) m
 
 -- the task's own specification as the section of a `with` leaves it
 abbrev pub working : Draft → Specification → Specification
@@ -250,8 +259,8 @@ module _ (s : Setting) where
     run (For x low high body) on m =
         eval low m (λ l. eval high m (λ h. turns s.limit (turn_count (whole l) (whole h)) (whole l) x (run_all body) on m))
     run (Withonly at section names body) on m =
-        scoped (run_all section) (create s at names (run_all body finish) on) (record m { draft = Building (none_of s.items) })
-    run (With at section) on m = scoped (run_all section) (change on) (record m { draft = Amending m.spec })
+        section_begins at (Building (none_of s.items)) (scoped (run_all section) (create s at names (run_all body finish) on)) m
+    run (With at section) on m = section_begins at (Amending m.spec) (scoped (run_all section) (change on)) m
     run (Declare how at o) on m = find o m (λ f. declare m.draft how f.number at on m)
 
     -- statements in order, each a step, and then what follows

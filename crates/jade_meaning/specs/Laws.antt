@@ -4,9 +4,12 @@ use Rattle.std.specs.List.{filter_map}
 use Rattle.jade_syntax.specs.Abstract.{AbstractProgram}
 use Rattle.jade_meaning.specs.Course.{root_course, root_spec}
 use Rattle.jade_meaning.specs.Talk.{Task, Event, Enroll, TouchRead, TouchWrite, Wants, Resign, talk}
-use Rattle.jade_meaning.specs.Serial.{Mark, Path, Deed, DidRead, DidWrite, DidCreate, DidEnd, serial_run, deeds_at, read_of}
+use Rattle.jade_meaning.specs.Serial.{Mark, Path, Deed, DidTurn, DidRead, DidWrite, DidCreate, DidEnd, deeds_at, read_of, serial_run, after, zeros}
+use Rattle.jade_meaning.specs.Specification.{commuting_on}
+use Rattle.jade_meaning.specs.Turns.{marks_by, store_by, fill}
+use Rattle.jade_syntax.specs.Objects.{sizes}
 
--- the reads, writes, created tasks and end of which the events tell
+-- the read, write, created task or end of which an event tells
 abbrev pub deed_of : Event → Option Deed
 deed_of (Enroll t n) = Some (DidCreate t n)
 deed_of (TouchRead o c v) = Some (DidRead o c v)
@@ -33,9 +36,17 @@ ends_with_resign (e ∷ f ∷ es) = ends_with_resign (f ∷ es)
 pub record IsOver (es : List Event) : Type 0 where
   pub over : ends_with_resign es ≡ true
 
--- a task whose reads are answered by those of these deeds does these deeds, up to its end
+-- a deed but a turn, of which the take for commuting tells
+abbrev pub but_turn : Deed → Option Deed
+but_turn (DidTurn o) = None
+but_turn (DidRead o c v) = Some (DidRead o c v)
+but_turn (DidWrite o c v) = Some (DidWrite o c v)
+but_turn (DidCreate t n) = Some (DidCreate t n)
+but_turn (DidEnd b n) = Some (DidEnd b n)
+
+-- a task whose reads are answered by those of these deeds does these deeds, but for the turn, up to its end
 pub record DoesIts (ds : List Deed) (t : Task) : Type 0 where
-  pub same : deeds (talk t (filter_map read_of ds)) ≡ ds
+  pub same : deeds (talk t (filter_map read_of ds)) ≡ filter_map but_turn ds
   pub over : IsOver (talk t (filter_map read_of ds))
 
 -- a fact of each item of a list
@@ -56,10 +67,31 @@ child_path p k = p ++ k ∷ []
 abbrev pub root_task : AbstractProgram → List ℤ → ℕ → Task
 root_task p ns limit = record { spec = root_spec p; course = root_course p ns limit }
 
--- each task of the serial run says by itself what it does there, when its reads are answered as there
-pub record TalkFollowsSerial (p : AbstractProgram) (ns : List ℤ) (limit : ℕ) : Type 0 where
-  pub root : DoesIts (deeds_at (0 ∷ []) (serial_run p ns limit)) (root_task p ns limit)
-  pub children : Every (λ m. ChildDoesIts (serial_run p ns limit) (child_path m.path m.children) m.deed) (serial_run p ns limit)
+-- each task of the serial run by turn lists says by itself what it does there, when its reads are answered as there
+pub record TalkFollowsSerial (p : AbstractProgram) (ns : List ℤ) (limit : ℕ) (turns : ℕ → List Path) : Type 0 where
+  pub root : DoesIts (deeds_at (0 ∷ []) (marks_by p ns limit turns)) (root_task p ns limit)
+  pub children : Every (λ m. ChildDoesIts (marks_by p ns limit turns) (child_path m.path m.children) m.deed) (marks_by p ns limit turns)
+
+-- a deed that creates no task that commutes
+abbrev pub CreatesPlain : Deed → Type 0
+CreatesPlain (DidCreate t n) = commuting_on t.spec ≡ None
+CreatesPlain (DidTurn o) = Unit {0}
+CreatesPlain (DidRead o c v) = Unit {0}
+CreatesPlain (DidWrite o c v) = Unit {0}
+CreatesPlain (DidEnd b n) = Unit {0}
+
+-- a run by turn lists in which no task that commutes is created
+pub record NoneCommutes (p : AbstractProgram) (ns : List ℤ) (limit : ℕ) (turns : ℕ → List Path) : Type 0 where
+  pub each : Every (λ m. CreatesPlain m.deed) (marks_by p ns limit turns)
+
+-- a run by turn lists that is the plain serial run, in which no task takes a turn
+pub record RunsPlainly (p : AbstractProgram) (ns : List ℤ) (limit : ℕ) (turns : ℕ → List Path) : Type 0 where
+  pub marks : marks_by p ns limit turns ≡ serial_run p ns limit
+  pub none : (o : ℕ) → fill p ns limit turns o ≡ []
+
+-- the contents after a run by turn lists are those after its writes
+pub record ContentsFollow (p : AbstractProgram) (ns : List ℤ) (limit : ℕ) (turns : ℕ → List Path) : Type 0 where
+  pub same : store_by p ns limit turns ≡ after (marks_by p ns limit turns) (zeros (sizes p.items))
 
 -- with more answers: the same events, or more from the read that had none
 pub data Extends : List Event → List Event → Type 0 where

@@ -6,12 +6,15 @@ pub mod Course
 pub mod Talk
 pub mod Doing
 pub mod Serial
+pub mod Turns
+pub mod Uncommuting
 pub mod Laws
 pub mod Answer
 pub mod Proper
 pub mod Report
 pub mod Plan
 pub mod ReportAnswer
+pub mod AtOnce
 pub mod Walks
 pub mod Codes
 pub mod Walk

@@ -8,7 +8,7 @@ use Rattle.jade_syntax.specs.Abstract.{AbstractProgram}
 use Rattle.jade_meaning.specs.Answer.{Answer, Faulted, Cells, answer}
 use Rattle.jade_meaning.specs.Course.{limit_blame}
 use Rattle.jade_meaning.specs.Report.{report}
-use Rattle.jade_meaning.specs.Serial.{Store}
+use Rattle.jade_meaning.specs.Serial.{Path, Store}
 
 -- the first of the notes, which stand by ascending key
 abbrev pub first_note : List FaultNote → Option FaultNote
@@ -33,5 +33,5 @@ abbrev pub report_answer : (limit : ℕ) → Report → Answer
 report_answer limit r = answer_by (first_note r.faults) (step_over limit r.steps) r.objects
 
 -- the report of the serial run tells the answer
-pub record ReportTells (p : AbstractProgram) (ns : List ℤ) (limit : ℕ) : Type 0 where
-  pub same : report_answer limit (report p ns limit) ≡ answer p ns limit
+pub record ReportTells (p : AbstractProgram) (ns : List ℤ) (limit : ℕ) (turns : ℕ → List Path) : Type 0 where
+  pub same : report_answer limit (report p ns limit turns) ≡ answer p ns limit turns

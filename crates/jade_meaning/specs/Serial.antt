@@ -1,4 +1,4 @@
--- The serial run: one map from objects to lists of cells, and each child run whole where it is created.
+-- The serial run of a task in which no child commutes: one map from objects to lists of cells, and each child run whole where it is created.
 use Rattle.std.specs.Prelude.{ℕ, suc, List, [], ◌∷◌, ◌++◌, map, Option, Some, None, ℤ, pos, slice_index_or, slice_set, replicate, if◌then◌else◌}
 use Rattle.std.specs.List.{filter_map}
 use Rattle.jade_base.specs.declared.report.Blame.{Blame}
@@ -16,8 +16,9 @@ Path = List ℕ
 abbrev pub Store : Type 0
 Store = List (List ℤ)
 
--- what a task does that others may see: reads, writes, children with the steps of the part, and its end
+-- what a task does that others may see: its turn, where it commutes on an object, reads, writes, children with the steps of the part, and its end
 pub data Deed : Type 0 where
+  DidTurn : (object : ℕ) → Deed
   DidRead : (object cell : ℕ) → ℤ → Deed
   DidWrite : (object cell : ℕ) → ℤ → Deed
   DidCreate : Task → (steps : ℕ) → Deed
@@ -76,11 +77,11 @@ abbrev pub zeros : List ℕ → Store
 zeros [] = []
 zeros (n ∷ ns) = replicate n (pos 0) ∷ zeros ns
 
--- the serial run of a program
+-- the serial run of a program of which no task commutes
 abbrev pub serial_run : AbstractProgram → List ℤ → ℕ → List Mark
 serial_run p ns limit = map (under 0) (serial (root_course p ns limit) 0 0 (zeros (sizes p.items)))
 
--- the store after the serial run
+-- the store after that run
 abbrev pub final : AbstractProgram → List ℤ → ℕ → Store
 final p ns limit = after (serial_run p ns limit) (zeros (sizes p.items))
 
@@ -95,6 +96,7 @@ pub record Part : Type 0 where
 abbrev pub part_of_deed : Deed → Mark → Option Part
 part_of_deed (DidCreate t n) m = Some (record { path = m.path; children = m.children; steps = n; blame = None })
 part_of_deed (DidEnd b n) m = Some (record { path = m.path; children = m.children; steps = n; blame = b })
+part_of_deed (DidTurn o) m = None
 part_of_deed (DidRead o c v) m = None
 part_of_deed (DidWrite o c v) m = None
 
@@ -105,6 +107,10 @@ parts ms = filter_map (λ m. part_of_deed m.deed m) ms
 -- the deeds of the task at a path
 abbrev pub deeds_at : Path → List Mark → List Deed
 deeds_at p ms = filter_map (λ m. if same_path m.path p then Some m.deed else None) ms
+
+-- the marks of the task at a path
+abbrev pub marks_at : Path → List Mark → List Mark
+marks_at p ms = filter_map (λ m. if same_path m.path p then Some m else None) ms
 
 -- the value that a deed reads
 abbrev pub read_of : Deed → Option ℤ

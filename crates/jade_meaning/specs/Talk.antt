@@ -1,12 +1,12 @@
 -- The events of one task, whose reads are answered by a list.
-use Rattle.std.specs.Prelude.{ℕ, suc, Bool, true, false, not, ◌&&◌, ◌||◌, List, [], ◌∷◌, ◌++◌, map, Option, Some, None, is_none, is_some, ℤ, slice_index_or}
+use Rattle.std.specs.Prelude.{ℕ, suc, Bool, true, false, not, ◌&&◌, ◌||◌, List, [], ◌∷◌, ◌++◌, map, Option, Some, None, is_none, is_some, ℤ, slice_index_or, nat_eq}
 use Rattle.std.specs.Prelude.{slice_set, if◌then◌else◌}
 use Rattle.std.specs.List.{flat_map}
 use Rattle.jade_base.specs.declared.report.Blame.{Blame}
 use Rattle.jade_base.specs.declared.rights.Rights.{Rights}
 use Rattle.jade_base.specs.declared.rights.Mode.{Mode}
 use Rattle.jade_base.specs.Rights.{is_immediate, has_rights, same_rights, mode_of}
-use Rattle.jade_meaning.specs.Specification.{Specification, rights_on, objects, yields, same_hold}
+use Rattle.jade_meaning.specs.Specification.{Specification, rights_on, objects, yields, same_hold, commuting_on}
 use Rattle.jade_meaning.specs.Course.{Course, Reads, Writes, Steps, Creates, Changes, Ends}
 
 -- a task: what it may touch, and what it does
@@ -58,9 +58,19 @@ touched spec h o = slice_set h o (mode_of (rights_on spec o))
 abbrev pub start_holds : Specification → Holds
 start_holds spec = map mode_of spec
 
--- what a task takes when it begins
+-- these objects but one
+abbrev pub without : ℕ → List ℕ → List ℕ
+without o [] = []
+without o (x ∷ xs) = if nat_eq o x then without o xs else x ∷ without o xs
+
+-- these objects, with the one on which the task commutes, if it does, last
+abbrev pub own_last : Option ℕ → List ℕ → List ℕ
+own_last None os = os
+own_last (Some o) os = without o os ++ o ∷ []
+
+-- what a task takes when it begins: ascending, but the object on which it commutes last, so that it waits for nothing while it holds that one
 abbrev pub start_takes : Specification → List Event
-start_takes spec = flat_map (λ o. take_in (mode_of (rights_on spec o)) o) (objects spec)
+start_takes spec = flat_map (λ o. take_in (mode_of (rights_on spec o)) o) (own_last (commuting_on spec) (objects spec))
 
 -- what is given up for a child
 abbrev pub creation_gives : Specification → Holds → List Event

@@ -11,7 +11,7 @@ ghost use Rattle.jade_meaning.specs.steps.Configuration.{taken_first, pending_of
 use crate::dense_spec::DenseSpec;
 use crate::draft::Draft;
 use crate::frames::{Frame, Newborn, Running, Transition};
-use crate::holds::{Holds, Keeping, Listing, PendingEvent, add, named, take_in, tell};
+use crate::holds::{Holds, Keeping, Listing, PendingEvent, add, named, take_in, tell, tell_start};
 use crate::scope::Scope;
 use crate::setting::{Setting, Task};
 use crate::tally::Tally;
@@ -312,7 +312,7 @@ fn unbegun<'c>(
     frames.push(Frame::Rest(body, 0))?;
     let none = Holds::empty(alloc);
     let mut pending = Vec::new(alloc);
-    tell(Listing::StartTakes, spec, spec, &none, &mut pending)?;
+    tell_start(alloc, spec, &none, &mut pending)?;
     let holds = none.next(alloc, Keeping::AtStart, spec, spec)?;
     let own = scope.copy(alloc)?;
     let rights = spec.copy(alloc)?;

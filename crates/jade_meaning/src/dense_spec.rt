@@ -2,7 +2,7 @@
 
 ghost use Rattle.std.specs.Prelude.{◌≡◌, [], length, replicate, slice_set, IfOk, OnOk};
 ghost use Rattle.jade_base.specs.Rights.{no_rights, both_rights};
-ghost use Rattle.jade_meaning.specs.Specification.{rights_on, covers, fitted};
+ghost use Rattle.jade_meaning.specs.Specification.{rights_on, covers, fitted, objects, commuting_on, is_commuting, fits_commuting, all_fit, may_commute};
 
 use jade_base::{Memory, Right, Rights};
 use std::alloc::Global;
@@ -91,11 +91,62 @@ impl DenseSpec {
         Ok(DenseSpec { rights })
     }
 
+    /// The same rights, but none on one object.
+    pub(crate) fn without(&self, alloc: Global, object: usize) -> Result<DenseSpec, Memory>
+        ensures { IfOk result (λ spec. spec ≡ slice_set self.now object no_rights) }
+    {
+        let mut others = self.copy(alloc)?;
+        others.set(object, Rights::NONE);
+        Ok(others)
+    }
+
     /// Makes these the rights on as many objects as `base` tells of.
     pub(crate) fn fit(&mut self, base: &DenseSpec) -> Result<(), Memory>
         ensures { OnOk result (self.new ≡ fitted base.now self.old) }
     {
         Ok(self.rights.resize(base.len(), Rights::NONE)?)
+    }
+
+    /// The object on which a task with these rights commutes, if it does.
+    pub(crate) fn commuting_on(&self) -> Option<usize>
+        ensures { result ≡ commuting_on self.now }
+    {
+        for object in 0..self.len() {
+            if self.on(object).commutes.is_there() {
+                return Some(object);
+            }
+        }
+        None
+    }
+
+    /// Whether a task with these rights commutes on some object.
+    pub(crate) fn is_commuting(&self) -> bool
+        ensures { result ≡ is_commuting self.now }
+    {
+        self.commuting_on().is_some()
+    }
+
+    /// Whether a task may have these rights: none to commute, or one and nothing else but immediate
+    /// reads of other objects.
+    pub(crate) fn may_commute(&self) -> bool
+        ensures { result ≡ may_commute self.now }
+    {
+        match self.commuting_on() {
+            None => true,
+            Some(own) => self.all_fit(own),
+        }
+    }
+
+    // Whether the rights on each object are what a task that commutes on `own` may have.
+    fn all_fit(&self, own: usize) -> bool
+        ensures { result ≡ all_fit own self.now (objects self.now) }
+    {
+        for object in 0..self.len() {
+            if !fits_commuting(own, object, self.on(object)) {
+                return false;
+            }
+        }
+        true
     }
 
     /// Whether these rights cover a child's.
@@ -108,5 +159,16 @@ impl DenseSpec {
             }
         }
         true
+    }
+}
+
+// What a task that commutes on `own` may have on an object.
+fn fits_commuting(own: usize, object: usize, rights: Rights) -> bool
+    ensures { result ≡ fits_commuting own object rights }
+{
+    if own == object {
+        !rights.reads.is_there() && !rights.writes.is_there() && rights.commutes == Right::Immediate
+    } else {
+        rights.reads != Right::Deferred && !rights.writes.is_there() && !rights.commutes.is_there()
     }
 }

@@ -178,11 +178,10 @@ impl<'c> Setting<'c> {
             Ok(value) => value.whole(),
             Err(pause) => return Err(pause),
         };
-        match task.spec.on(found.number).writes {
-            Right::Immediate => Ok((found.number, cell, number)),
-            Right::Absent | Right::Deferred => {
-                Err(Pause::Fault(blame_at(FaultKind::Right, target.pos)))
-            }
+        if task.spec.on(found.number).may_write() {
+            Ok((found.number, cell, number))
+        } else {
+            Err(Pause::Fault(blame_at(FaultKind::Right, target.pos)))
         }
     }
 
@@ -334,6 +333,9 @@ impl<'c> Setting<'c> {
         ensures { (vs : List ℤ) → IfOk result (λ transition. Did (shown self.now) vs transition
             (abstract.Withonly at (block section.now) (map (λ n. n.name) names.now) (block body.now)) run.old run.new) }
     {
+        if run.task.spec.is_commuting() {
+            return Ok(Transition::Ended(Some(blame_at(FaultKind::Commute, at))));
+        }
         self.begin_building(&mut run.task)?;
         run.frames.push(Frame::Creating(at, names, body))?;
         enter(run, section)?;
@@ -349,6 +351,9 @@ impl<'c> Setting<'c> {
     ) -> Result<Transition<'c>, Memory>
         ensures { (vs : List ℤ) → IfOk result (λ transition. Did (shown self.now) vs transition (abstract.With at (block section.now)) run.old run.new) }
     {
+        if run.task.spec.is_commuting() {
+            return Ok(Transition::Ended(Some(blame_at(FaultKind::Commute, at))));
+        }
         self.begin_amending(&mut run.task)?;
         run.frames.push(Frame::Changing)?;
         enter(run, section)?;
@@ -468,7 +473,7 @@ impl<'c> Setting<'c> {
         }
     }
 
-    // The end of the section of a `withonly`: a child, or the fault `cover`.
+    // The end of the section of a `withonly`: a child, or the fault `commute` or `cover`.
     fn create_transition(
         &self,
         at: Pos,
@@ -480,6 +485,9 @@ impl<'c> Setting<'c> {
             (Frame.Creating at names.entry body.entry) run.old run.new) }
     {
         let spec = self.end_building(&mut run.task)?;
+        if !spec.may_commute() {
+            return Ok(Transition::Ended(Some(blame_at(FaultKind::Commute, at))));
+        }
         if !run.task.spec.covers(&spec) {
             return Ok(Transition::Ended(Some(blame_at(FaultKind::Cover, at))));
         }

@@ -3,7 +3,7 @@
 ghost use Rattle.std.specs.Prelude.{◌≡◌, [], ◌++◌, map, is_some, slice_set, not, ◌&&◌, IfOk, OnOk};
 ghost use Rattle.jade_base.specs.Rights.{mode_of, is_immediate, same_rights};
 ghost use Rattle.jade_meaning.specs.Specification.{yields, same_hold, objects};
-ghost use Rattle.jade_meaning.specs.Talk.{Task, held, made_immediate, when, take_in, shift};
+ghost use Rattle.jade_meaning.specs.Talk.{Task, held, made_immediate, when, take_in, shift, start_takes};
 ghost use Rattle.jade_meaning.specs.steps.Holding.{event_of, events_of, listed, all_listed, kept_as, kept_on, is_taken_anew};
 
 use crate::dense_spec::DenseSpec;
@@ -282,6 +282,27 @@ pub(crate) fn tell(
         )?;
     }
     Ok(())
+}
+
+/// Tells what a task takes when it begins: each object that has a mode, ascending, but the one on
+/// which it commutes last.
+pub(crate) fn tell_start(
+    alloc: Global,
+    spec: &DenseSpec,
+    none: &Holds,
+    events: &mut Vec<PendingEvent>,
+) -> Result<(), Memory>
+    ensures { OnOk result ((t : Task) → map (event_of t) events.new.items ≡ map (event_of t) events.old.items ++ start_takes spec.now) }
+{
+    match spec.commuting_on() {
+        None => tell(Listing::StartTakes, spec, spec, none, events),
+        Some(own) => {
+            let others = spec.without(alloc, own)?;
+            tell(Listing::StartTakes, &others, &others, none, events)?;
+            let id = named(own)?;
+            add(events, take_in(mode_of(spec.on(own)), id))
+        }
+    }
 }
 
 // An event more, if there is one.

@@ -1,6 +1,7 @@
 //! The meaning of programs: what each task says of itself, the serial run, and the answer.
 #![tactic(auto)]
 
+pub mod commuting;
 mod configuration;
 mod dense_spec;
 mod draft;

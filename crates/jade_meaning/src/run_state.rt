@@ -1,13 +1,14 @@
-//! What a run has done so far: the cells of the objects, the faults, and the steps of the parts.
+//! What a run has done so far: the cells of the objects, the faults, the turns, and the steps of
+//! the parts.
 
-ghost use Rattle.std.specs.Prelude.{◌≡◌, [], ◌∷◌, ◌++◌, IfOk, OnOk, List, map, replicate, pos};
+ghost use Rattle.std.specs.Prelude.{◌≡◌, [], ◌∷◌, ◌++◌, IfOk, OnOk, List, map, length, replicate, pos};
 ghost use Rattle.jade_syntax.specs.Objects.{sizes};
 ghost use Rattle.jade_meaning.specs.Serial.{cell, with_cell, zeros};
-ghost use Rattle.jade_meaning.specs.steps.Carry.{noted, report_of};
+ghost use Rattle.jade_meaning.specs.steps.Carry.{noted, nothing_yet, report_of, turn_added, turn_noted};
 
 use jade_base::{
-    Blame, CellLists, FaultNote, FaultNotes, Memory, Numbers, PartStep, PartSteps, Path, Report,
-    TurnLists,
+    Blame, CellLists, FaultNote, FaultNotes, Memory, Numbers, PartStep, PartSteps, Path, PathList,
+    Report, TurnLists,
 };
 use jade_list::sequence::Sequence;
 use jade_syntax::objects::objects_of;
@@ -53,6 +54,13 @@ impl Store {
         Ok(lists)
     }
 
+    /// The number of objects.
+    pub(crate) fn len(&self) -> usize
+        ensures { result ≡ length self.now }
+    {
+        self.objects.len()
+    }
+
     /// What a cell holds; zero where there is no such cell.
     pub(crate) fn read(&self, object: usize, place: usize) -> i64
         ensures { result ≡ cell self.now object place }
@@ -89,38 +97,104 @@ fn add_objects(
     Ok(())
 }
 
+/// The turns on each object, which contracts see as a list of paths for each.
+#[derive(Drop)]
+pub(crate) struct TurnNotes {
+    lists: Vec<PathList>,
+}
+
+impl Model for TurnNotes {
+    ghost use Rattle.std.specs.Prelude.{List, ℕ};
+
+    ghost Value = { List (List (List ℕ)) };
+
+    ghost view = { λ t. t.lists.items };
+}
+
+impl TurnNotes {
+    /// No turn on any of so many objects.
+    fn none(alloc: Global, objects: usize) -> Result<TurnNotes, Memory>
+        ensures { IfOk result (λ notes. notes ≡ replicate objects []) }
+    {
+        let mut lists = Vec::new(alloc);
+        for _ in 0..objects {
+            lists.push(Sequence::empty(alloc))?;
+        }
+        Ok(TurnNotes { lists })
+    }
+
+    /// One turn more on an object; where there is no such object nothing happens.
+    fn note(&mut self, object: usize, path: Path) -> Result<(), Memory>
+        ensures { OnOk result (self.new ≡ turn_added object path self.old) }
+    {
+        if object < self.lists.len() {
+            push(&mut self.lists[object], path)
+        } else {
+            Ok(())
+        }
+    }
+
+    /// The turns as lists. It takes no memory.
+    fn into_lists(self) -> TurnLists
+        ensures { result ≡ self }
+    {
+        Sequence::from_vec(self.lists)
+    }
+}
+
 /// What a run has done so far.
 #[derive(Drop)]
 pub(crate) struct RunState {
     pub(crate) objects: Store,
     pub(crate) faults: FaultNotes,
+    pub(crate) turns: TurnNotes,
     pub(crate) steps: PartSteps,
 }
 
 impl RunState {
     /// Nothing is done yet: each cell of these items' objects is zero.
     pub(crate) fn start(alloc: Global, items: &Items) -> Result<RunState, Memory>
-        ensures { IfOk result (λ state. state ≡ record { objects = zeros (sizes items.now); faults = []; steps = [] }) }
+        ensures { IfOk result (λ state. state ≡ nothing_yet (sizes items.now)) }
     {
+        let objects = Store::zeroed(alloc, items)?;
+        let count = objects.len();
         Ok(RunState {
-            objects: Store::zeroed(alloc, items)?,
+            objects,
             faults: Sequence::empty(alloc),
+            turns: TurnNotes::none(alloc, count)?,
             steps: Sequence::empty(alloc),
         })
     }
 
-    /// The report of it, with an empty list of turns for each of so many objects.
-    pub(crate) fn into_report(self, alloc: Global, objects: usize) -> Result<Report, Memory>
-        ensures { IfOk result (λ report. report ≡ report_of objects self) }
+    /// The report of it.
+    pub(crate) fn into_report(self, alloc: Global) -> Result<Report, Memory>
+        ensures { IfOk result (λ report. report ≡ report_of self) }
     {
-        let turns = no_turns(alloc, objects)?;
         let objects = self.objects.into_lists(alloc)?;
         Ok(Report {
             objects,
             faults: self.faults,
-            turns,
+            turns: self.turns.into_lists(),
             steps: self.steps,
         })
+    }
+
+    /// Notes the turn of the task at a path on an object, if it commutes on one.
+    pub(crate) fn note_turn(
+        &mut self,
+        alloc: Global,
+        object: Option<usize>,
+        path: &Path,
+    ) -> Result<(), Memory>
+        ensures { OnOk result (self.new ≡ turn_noted object path.now self.old) }
+    {
+        match object {
+            None => Ok(()),
+            Some(object) => {
+                let path = path.copy(alloc)?;
+                self.turns.note(object, path)
+            }
+        }
     }
 
     /// Notes a part of a task that has ended, and the fault that ended it, if one did.
@@ -155,17 +229,6 @@ impl RunState {
             },
         )
     }
-}
-
-// An empty list for each object.
-fn no_turns(alloc: Global, objects: usize) -> Result<TurnLists, Memory>
-    ensures { IfOk result (λ turns. turns ≡ replicate objects []) }
-{
-    let mut turns = Sequence::empty(alloc);
-    for _ in 0..objects {
-        push(&mut turns, Sequence::empty(alloc))?;
-    }
-    Ok(turns)
 }
 
 // One more item; without memory the list is as it was.

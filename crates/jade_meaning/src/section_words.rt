@@ -28,11 +28,16 @@ pub fn declared(word: DeclareWord) -> Rights
         DeclareWord::DfRd => rights(Right::Deferred, Right::Absent),
         DeclareWord::DfWr => rights(Right::Absent, Right::Deferred),
         DeclareWord::DfRdWr => rights(Right::Deferred, Right::Deferred),
+        DeclareWord::Cm => Rights {
+            commutes: Right::Immediate,
+            ..Rights::NONE
+        },
         DeclareWord::NoRd | DeclareWord::NoWr | DeclareWord::NoRdWr => Rights::NONE,
     }
 }
 
-/// The change that a word of a `with` asks for; a deferred declaration asks for none.
+/// The change that a word of a `with` asks for; a deferred or a commuting declaration asks for
+/// none.
 pub fn change_of(word: DeclareWord) -> Option<Change>
     ensures { result ≡ change_of word }
 {
@@ -43,6 +48,6 @@ pub fn change_of(word: DeclareWord) -> Option<Change>
         DeclareWord::NoRd => Some(Change::NoReads),
         DeclareWord::NoWr => Some(Change::NoWrites),
         DeclareWord::NoRdWr => Some(Change::Neither),
-        DeclareWord::DfRd | DeclareWord::DfWr | DeclareWord::DfRdWr => None,
+        DeclareWord::DfRd | DeclareWord::DfWr | DeclareWord::DfRdWr | DeclareWord::Cm => None,
     }
 }

@@ -6,6 +6,7 @@ ghost use Rattle.jade_syntax.specs.Image.{program as abstracted};
 ghost use Rattle.jade_syntax.specs.Objects.{input_names, sizes};
 ghost use Rattle.jade_meaning.specs.Course.{inputs};
 ghost use Rattle.jade_meaning.specs.Report.{report};
+ghost use Rattle.jade_meaning.specs.Turns.{in_order};
 
 use crate::dense_spec::DenseSpec;
 use crate::resolve::DeclaredItems;
@@ -18,8 +19,9 @@ use jade_syntax::Checked;
 use jade_syntax::tree::{Item, Items, Program};
 use std::alloc::Global;
 
-/// Runs a program serially, each child whole where it is created, and reports what it did. Each
-/// task may begin `limit` steps. The error is want of memory.
+/// Runs a program serially, each child whole where it is created, and reports what it did: a child
+/// that commutes too, so the turns are in the order of creation. Each task may begin `limit` steps.
+/// The error is want of memory.
 pub fn serial_run(
     alloc: Global,
     checked: &Checked,
@@ -28,7 +30,7 @@ pub fn serial_run(
 ) -> Result<Report, Memory>
     requires given { length numbers.now ≡ length (input_names checked.now.program.items) }
     requires limit { 1 ≤ limit }
-    ensures { IfOk result (λ done. done ≡ report (abstracted checked.now.program) numbers.now limit) }
+    ensures { IfOk result (λ done. done ≡ report (abstracted checked.now.program) numbers.now limit in_order) }
 {
     serial_program(alloc, checked.program(), numbers, limit)
 }
@@ -44,7 +46,7 @@ pub fn serial_program(
 ) -> Result<Report, Memory>
     requires given { length numbers.now ≡ length (input_names program.now.items) }
     requires objects { length (sizes program.now.items) ≤ OBJECT_LIMIT }
-    ensures { IfOk result (λ done. done ≡ report (abstracted program.now) numbers.now limit) }
+    ensures { IfOk result (λ done. done ≡ report (abstracted program.now) numbers.now limit in_order) }
 {
     let items = DeclaredItems::of(&program.items);
     let given = inputs(alloc, &program.items, numbers)?;
@@ -60,7 +62,7 @@ pub fn serial_program(
         limit,
     };
     setting.run(scope, spec, &program.main, &path, &mut state)?;
-    state.into_report(alloc, count)
+    state.into_report(alloc)
 }
 
 // The inputs as variables with these values.

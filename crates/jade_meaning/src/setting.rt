@@ -87,12 +87,12 @@ fn read(
 ) -> Result<Value, Pause>
     ensures { evaluated result used.new ≡ evaluate_read spec.now (source cells.now) object cell at used.old }
 {
-    match spec.on(object).reads {
-        Right::Immediate => match cells.next(object, cell, used) {
-            Some(number) => Ok(Value::IntOf(number)),
-            None => Err(Pause::Awaits(object, cell)),
-        },
-        Right::Absent | Right::Deferred => Err(Pause::Fault(blame_at(FaultKind::Right, at))),
+    if !spec.on(object).may_read() {
+        return Err(Pause::Fault(blame_at(FaultKind::Right, at)));
+    }
+    match cells.next(object, cell, used) {
+        Some(number) => Ok(Value::IntOf(number)),
+        None => Err(Pause::Awaits(object, cell)),
     }
 }
 

@@ -4,10 +4,10 @@ ghost use Rattle.std.specs.Prelude.{◌≡◌, [], ◌∷◌, ◌++◌, map, OnO
 ghost use Rattle.jade_syntax.specs.Abstract.{For};
 ghost use Rattle.jade_syntax.specs.Image.{expression, reference, object, action, block};
 ghost use Rattle.jade_meaning.specs.Course.{NoDraft, Building, Amending, copied, drafted, none_of};
-ghost use Rattle.jade_meaning.specs.steps.Carry.{noted};
-ghost use Rattle.jade_meaning.specs.Specification.{fitted};
+ghost use Rattle.jade_meaning.specs.steps.Carry.{noted, turn_noted};
+ghost use Rattle.jade_meaning.specs.Specification.{fitted, commuting_on};
 ghost use Rattle.jade_meaning.specs.Values.{turn_count};
-ghost use Rattle.jade_meaning.specs.steps.Perform.{Goes, Follows, shown, begun, within, localized, reassigned, stored, declared_on, turned, turned_once};
+ghost use Rattle.jade_meaning.specs.steps.Perform.{Goes, Follows, shown, begun, within, localized, reassigned, stored, declared_on, turned, turned_once, unless_commuting};
 ghost use Rattle.jade_meaning.specs.steps.Perform.{perform, perform_all, created, changed, child_task, ended, then_on};
 
 use crate::dense_spec::DenseSpec;
@@ -105,14 +105,11 @@ impl<'c> Setting<'c> {
             Ok(value) => value.whole(),
             Err(blame) => return Err(Stop::Fault(blame)),
         };
-        match task.spec.on(found.number).writes {
-            Right::Immediate => {
-                state.objects.write(found.number, cell, number);
-                Ok(())
-            }
-            Right::Absent | Right::Deferred => {
-                Err(Stop::Fault(blame_at(FaultKind::Right, target.pos)))
-            }
+        if task.spec.on(found.number).may_write() {
+            state.objects.write(found.number, cell, number);
+            Ok(())
+        } else {
+            Err(Stop::Fault(blame_at(FaultKind::Right, target.pos)))
         }
     }
 
@@ -134,6 +131,16 @@ impl<'c> Setting<'c> {
             },
             Err(blame) => Err(Stop::Fault(blame)),
         }
+    }
+
+    // A section begins, unless the task commutes.
+    fn unless_commuting(&self, at: Pos, task: &Task<'c>, state: &RunState) -> Result<(), Stop>
+        ensures { Follows result (unless_commuting at task.now state.now (Goes task.now state.now)) task.now state.now }
+    {
+        if task.spec.is_commuting() {
+            return Err(Stop::Fault(blame_at(FaultKind::Commute, at)));
+        }
+        Ok(())
     }
 
     // Begins the section of a `withonly`.
@@ -255,10 +262,14 @@ impl<'c> Setting<'c> {
                 names,
                 body,
             } => {
+                self.unless_commuting(*pos, task, state)?;
                 self.build(section, path, task, state)?;
                 self.create(*pos, names, body, path, task, state)
             }
-            Statement::With { section, .. } => self.amend(section, path, task, state),
+            Statement::With { pos, section } => {
+                self.unless_commuting(*pos, task, state)?;
+                self.amend(section, path, task, state)
+            }
             Statement::Declare { word, pos, object } => {
                 self.declare(*word, *pos, object, task, state)
             }
@@ -455,6 +466,9 @@ impl<'c> Setting<'c> {
             Ok(spec) => spec,
             Err(Memory) => return Err(Stop::Memory),
         };
+        if !spec.may_commute() {
+            return Err(Stop::Fault(blame_at(FaultKind::Commute, at)));
+        }
         if !task.spec.covers(&spec) {
             return Err(Stop::Fault(blame_at(FaultKind::Cover, at)));
         }
@@ -472,7 +486,8 @@ impl<'c> Setting<'c> {
         }
     }
 
-    // Notes the part that a creation ends, and runs the child to its end.
+    // Notes the part that a creation ends, and runs the child to its end; one that commutes has its
+    // turn at once.
     #[cycle(statement)]
     fn run_child(
         &self,
@@ -485,7 +500,7 @@ impl<'c> Setting<'c> {
     ) -> Result<(), Memory>
         ensures { OnOk result (let q = path.now ++ tally.now.children ∷ [] in state.new
             ≡ ended q (perform_all (shown self.now) q (block body.now) (child_task scope.entry spec)
-            (noted path.now tally.now.children tally.now.part None state.old))) }
+            (turn_noted (commuting_on spec) q (noted path.now tally.now.children tally.now.part None state.old)))) }
     {
         match state.note(self.alloc, path, tally.children(), tally.part(), None) {
             Ok(()) => {}
@@ -495,6 +510,10 @@ impl<'c> Setting<'c> {
             Ok(path) => path,
             Err(memory) => return Err(memory),
         };
+        match state.note_turn(self.alloc, spec.commuting_on(), &child_path) {
+            Ok(()) => {}
+            Err(memory) => return Err(memory),
+        }
         self.run(scope, spec, body, &child_path, state)
     }
 

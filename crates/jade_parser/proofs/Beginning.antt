@@ -11,7 +11,7 @@ use Rattle.jade_parser.specs.declared.Sign.TheVariants.{OverSign, PercentSign, N
 use Rattle.jade_parser.specs.declared.Sign.TheVariants.{LeftBrace, RightBrace, IfWord, ElseWord, ForWord}
 use Rattle.jade_parser.specs.declared.Sign.TheVariants.{InWord, DotDot, IntWord, BoolWord, WithonlyWord}
 use Rattle.jade_parser.specs.declared.Sign.TheVariants.{WithWord, DoWord, ContWord, Comma, RdWord, WrWord}
-use Rattle.jade_parser.specs.declared.Sign.TheVariants.{RdWrWord, DfRdWord, DfWrWord, DfRdWrWord, NoRdWord}
+use Rattle.jade_parser.specs.declared.Sign.TheVariants.{RdWrWord, DfRdWord, DfWrWord, DfRdWrWord, CmWord, NoRdWord}
 use Rattle.jade_parser.specs.declared.Sign.TheVariants.{NoWrWord, NoRdWrWord, InputWord, ObjectWord}
 use Rattle.jade_parser.specs.declared.Sign.TheVariants.{ObjectsWord, MainWord, Colon}
 use Rattle.jade_parser.specs.steps.Begins.{begin_of, Predicts}
@@ -59,6 +59,7 @@ predicted Main RdWrWord = λ st. refl
 predicted Main DfRdWord = λ st. refl
 predicted Main DfWrWord = λ st. refl
 predicted Main DfRdWrWord = λ st. refl
+predicted Main CmWord = λ st. refl
 predicted Main NoRdWord = λ st. refl
 predicted Main NoWrWord = λ st. refl
 predicted Main NoRdWrWord = λ st. refl
@@ -109,6 +110,7 @@ predicted Section RdWrWord = (refl, refl, λ st. refl)
 predicted Section DfRdWord = (refl, refl, λ st. refl)
 predicted Section DfWrWord = (refl, refl, λ st. refl)
 predicted Section DfRdWrWord = (refl, refl, λ st. refl)
+predicted Section CmWord = (refl, refl, λ st. refl)
 predicted Section NoRdWord = λ st. refl
 predicted Section NoWrWord = λ st. refl
 predicted Section NoRdWrWord = λ st. refl
@@ -159,6 +161,7 @@ predicted Amends RdWrWord = (refl, refl, λ st. refl)
 predicted Amends DfRdWord = λ st. refl
 predicted Amends DfWrWord = λ st. refl
 predicted Amends DfRdWrWord = λ st. refl
+predicted Amends CmWord = λ st. refl
 predicted Amends NoRdWord = (refl, refl, λ st. refl)
 predicted Amends NoWrWord = (refl, refl, λ st. refl)
 predicted Amends NoRdWrWord = (refl, refl, λ st. refl)

@@ -19,7 +19,7 @@ use Rattle.jade_parser.specs.declared.Sign.TheVariants.{InputWord, ObjectWord, O
 use Rattle.jade_parser.specs.declared.Sign.TheVariants.{BoolWord, TrueWord, FalseWord, IfWord, ElseWord}
 use Rattle.jade_parser.specs.declared.Sign.TheVariants.{ForWord, InWord, WithonlyWord, DoWord, WithWord}
 use Rattle.jade_parser.specs.declared.Sign.TheVariants.{ContWord, RdWord, WrWord, RdWrWord, DfRdWord}
-use Rattle.jade_parser.specs.declared.Sign.TheVariants.{DfWrWord, DfRdWrWord, NoRdWord, NoWrWord, NoRdWrWord}
+use Rattle.jade_parser.specs.declared.Sign.TheVariants.{DfWrWord, DfRdWrWord, CmWord, NoRdWord, NoWrWord, NoRdWrWord}
 use Rattle.jade_parser.specs.declared.Sign.TheVariants.{LeftParen, RightParen, LeftBracket, RightBracket}
 use Rattle.jade_parser.specs.declared.Sign.TheVariants.{LeftBrace, RightBrace, Semicolon, Colon, Comma}
 use Rattle.jade_parser.specs.declared.Sign.TheVariants.{DotDot, Becomes, EqualSign, UnequalSign, LessSign}
@@ -89,9 +89,7 @@ free_of false b c d h e = absurd (cc)
 name_free : (n : List ℕ) → is_name n ≡ true → is_free n ≡ true
 name_free n h =
     let p : same_name n (codes "proc") ≡ false = differs is_name n (codes "proc") h refl in
-    let q : same_name n (codes "cm") ≡ false = differs is_name n (codes "cm") h refl in
-    let k : is_kept n ≡ false = rw (p, q) refl in
-    free_of (nat_le (length n) 64) (is_word n) (not (is_reserved n)) (is_kept n) h k
+    free_of (nat_le (length n) 64) (is_word n) (not (is_reserved n)) (is_kept n) h p
 
 called_back : (n : List ℕ) → is_name n ≡ true → token_of_bytes n ≡ Called n
 called_back n h =
@@ -223,13 +221,8 @@ none_with f (x ∷ xs) ys p q =
     neither true b e = absurd (cc)
     neither false b e = (refl, e)
 
-kept_both : (a b : Bool) → (a || b) ≡ false → (a ≡ false) × (b ≡ false)
-kept_both true b e = absurd (cc)
-kept_both false b e = (refl, e)
-
 not_reserved : (x : List ℕ) → sign_in all_signs x ≡ None → is_kept x ≡ false → is_reserved x ≡ false
 not_reserved x e k =
-    let kept = kept_both (same_name x (codes "proc")) (same_name x (codes "cm")) k in
     let a = none_both (sign_among item_signs x)
     (sign_in (statement_signs ∷ access_signs ∷ change_signs ∷ bracket_signs ∷ mark_signs ∷ relation_signs ∷ operator_signs ∷ []) x) e in
     let b = none_both (sign_among statement_signs x)
@@ -239,10 +232,10 @@ not_reserved x e k =
     let items : list_any (same_name x) item_words ≡ false = none_listed item_signs x a.0 in
     let statements : list_any (same_name x) statement_words ≡ false =
     none_with (same_name x) (map sign_bytes statement_signs) (codes "proc" ∷ []) (none_listed statement_signs x b.0)
-    (or_false (same_name x (codes "proc")) false kept.0 refl) in
+    (or_false (same_name x (codes "proc")) false k refl) in
     let declares : list_any (same_name x) declare_words ≡ false =
-    none_with (same_name x) (map sign_bytes access_signs) (codes "cm" ∷ map sign_bytes change_signs) (none_listed access_signs x c.0)
-    (or_false (same_name x (codes "cm")) (list_any (same_name x) (map sign_bytes change_signs)) kept.1 (none_listed change_signs x d.0)) in
+    none_with (same_name x) (map sign_bytes access_signs) (map sign_bytes change_signs) (none_listed access_signs x c.0)
+    (none_listed change_signs x d.0) in
     rw (items, statements, declares) refl
 
 free_name : (x : List ℕ) → sign_in all_signs x ≡ None → is_free x ≡ true → is_name x ≡ true
@@ -299,6 +292,7 @@ sign_back RdWrWord = refl
 sign_back DfRdWord = refl
 sign_back DfWrWord = refl
 sign_back DfRdWrWord = refl
+sign_back CmWord = refl
 sign_back NoRdWord = refl
 sign_back NoWrWord = refl
 sign_back NoRdWrWord = refl

@@ -10,7 +10,7 @@ use Rattle.jade_syntax.specs.declared.tree.ObjectRef.{ObjectRef}
 use Rattle.jade_syntax.specs.declared.tree.ValueKind.{ValueKind}
 use Rattle.jade_syntax.specs.declared.tree.ValueKind.TheVariants.{Int, Bool as BoolKind}
 use Rattle.jade_syntax.specs.declared.tree.DeclareWord.{DeclareWord}
-use Rattle.jade_syntax.specs.declared.tree.DeclareWord.TheVariants.{Rd, Wr, RdWr, DfRd, DfWr, DfRdWr, NoRd, NoWr, NoRdWr}
+use Rattle.jade_syntax.specs.declared.tree.DeclareWord.TheVariants.{Rd, Wr, RdWr, DfRd, DfWr, DfRdWr, Cm, NoRd, NoWr, NoRdWr}
 use Rattle.jade_syntax.specs.declared.tree.Statement.{Statement, map-Statement, fold-Statement, fold-roll-Statement, ind-Statement}
 use Rattle.jade_syntax.specs.declared.tree.Statement.TheOpen.{Statement-F}
 use Rattle.jade_parser.specs.Spelled.{Tokens, Part, Parts, tokens_of, fixed, marked, numbered, outer, Fixed, Called, expr_parts, bracketed}
@@ -286,6 +286,7 @@ declared Main RdWr ts st e = absurd (cc)
 declared Main DfRd ts st e = absurd (cc)
 declared Main DfWr ts st e = absurd (cc)
 declared Main DfRdWr ts st e = absurd (cc)
+declared Main Cm ts st e = absurd (cc)
 declared Main NoRd ts st e = absurd (cc)
 declared Main NoWr ts st e = absurd (cc)
 declared Main NoRdWr ts st e = absurd (cc)
@@ -295,6 +296,7 @@ declared Section RdWr ts st e = refl
 declared Section DfRd ts st e = refl
 declared Section DfWr ts st e = refl
 declared Section DfRdWr ts st e = refl
+declared Section Cm ts st e = refl
 declared Section NoRd ts st e = absurd (cc)
 declared Section NoWr ts st e = absurd (cc)
 declared Section NoRdWr ts st e = absurd (cc)
@@ -304,6 +306,7 @@ declared Amends RdWr ts st e = refl
 declared Amends DfRd ts st e = absurd (cc)
 declared Amends DfWr ts st e = absurd (cc)
 declared Amends DfRdWr ts st e = absurd (cc)
+declared Amends Cm ts st e = absurd (cc)
 declared Amends NoRd ts st e = refl
 declared Amends NoWr ts st e = refl
 declared Amends NoRdWr ts st e = refl
@@ -315,6 +318,7 @@ not_else RdWr = refl
 not_else DfRd = refl
 not_else DfWr = refl
 not_else DfRdWr = refl
+not_else Cm = refl
 not_else NoRd = refl
 not_else NoWr = refl
 not_else NoRdWr = refl

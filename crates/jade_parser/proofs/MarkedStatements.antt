@@ -9,7 +9,7 @@ use Rattle.jade_syntax.specs.declared.tree.Named.{Named}
 use Rattle.jade_syntax.specs.declared.tree.ValueKind.{ValueKind}
 use Rattle.jade_syntax.specs.declared.tree.ValueKind.TheVariants.{Int, Bool as BoolKind}
 use Rattle.jade_syntax.specs.declared.tree.DeclareWord.{DeclareWord}
-use Rattle.jade_syntax.specs.declared.tree.DeclareWord.TheVariants.{Rd, Wr, RdWr, DfRd, DfWr, DfRdWr, NoRd, NoWr, NoRdWr}
+use Rattle.jade_syntax.specs.declared.tree.DeclareWord.TheVariants.{Rd, Wr, RdWr, DfRd, DfWr, DfRdWr, Cm, NoRd, NoWr, NoRdWr}
 use Rattle.jade_syntax.specs.declared.tree.Statement.{Statement, map-Statement, fold-roll-Statement, ind-Statement}
 use Rattle.jade_syntax.specs.declared.tree.Statement.TheOpen.{Statement-F}
 use Rattle.jade_parser.specs.declared.Sign.TheVariants.{LeftBracket, RightBracket, LeftParen, RightParen}
@@ -76,6 +76,7 @@ word_goes RdWr p = record { by = λ rest. refl }
 word_goes DfRd p = record { by = λ rest. refl }
 word_goes DfWr p = record { by = λ rest. refl }
 word_goes DfRdWr p = record { by = λ rest. refl }
+word_goes Cm p = record { by = λ rest. refl }
 word_goes NoRd p = record { by = λ rest. refl }
 word_goes NoWr p = record { by = λ rest. refl }
 word_goes NoRdWr p = record { by = λ rest. refl }

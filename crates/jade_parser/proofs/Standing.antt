@@ -28,7 +28,7 @@ use Rattle.jade_parser.specs.declared.Sign.TheVariants.{OverSign, PercentSign, N
 use Rattle.jade_parser.specs.declared.Sign.TheVariants.{LeftBrace, RightBrace, IfWord, ElseWord, ForWord}
 use Rattle.jade_parser.specs.declared.Sign.TheVariants.{InWord, DotDot, IntWord, BoolWord, WithonlyWord}
 use Rattle.jade_parser.specs.declared.Sign.TheVariants.{WithWord, DoWord, ContWord, Comma, RdWord, WrWord}
-use Rattle.jade_parser.specs.declared.Sign.TheVariants.{RdWrWord, DfRdWord, DfWrWord, DfRdWrWord, NoRdWord}
+use Rattle.jade_parser.specs.declared.Sign.TheVariants.{RdWrWord, DfRdWord, DfWrWord, DfRdWrWord, CmWord, NoRdWord}
 use Rattle.jade_parser.specs.declared.Sign.TheVariants.{NoWrWord, NoRdWrWord, InputWord, ObjectWord}
 use Rattle.jade_parser.specs.declared.Sign.TheVariants.{ObjectsWord, MainWord, Colon}
 
@@ -175,6 +175,7 @@ sum_leaf all at s r e k = rw k (sum_leaf_of s e)
     sum_leaf_of DfRdWord f = past_sign all at DfRdWord _ f (λ rest st. refl)
     sum_leaf_of DfWrWord f = past_sign all at DfWrWord _ f (λ rest st. refl)
     sum_leaf_of DfRdWrWord f = past_sign all at DfRdWrWord _ f (λ rest st. refl)
+    sum_leaf_of CmWord f = past_sign all at CmWord _ f (λ rest st. refl)
     sum_leaf_of NoRdWord f = past_sign all at NoRdWord _ f (λ rest st. refl)
     sum_leaf_of NoWrWord f = past_sign all at NoWrWord _ f (λ rest st. refl)
     sum_leaf_of NoRdWrWord f = past_sign all at NoRdWrWord _ f (λ rest st. refl)
@@ -234,6 +235,7 @@ product_leaf all at s r e k = rw k (product_leaf_of s e)
     product_leaf_of DfRdWord f = past_sign all at DfRdWord _ f (λ rest st. refl)
     product_leaf_of DfWrWord f = past_sign all at DfWrWord _ f (λ rest st. refl)
     product_leaf_of DfRdWrWord f = past_sign all at DfRdWrWord _ f (λ rest st. refl)
+    product_leaf_of CmWord f = past_sign all at CmWord _ f (λ rest st. refl)
     product_leaf_of NoRdWord f = past_sign all at NoRdWord _ f (λ rest st. refl)
     product_leaf_of NoWrWord f = past_sign all at NoWrWord _ f (λ rest st. refl)
     product_leaf_of NoRdWrWord f = past_sign all at NoRdWrWord _ f (λ rest st. refl)
@@ -293,6 +295,7 @@ relation_leaf all at s r e k = rw k (relation_leaf_of s e)
     relation_leaf_of DfRdWord f = past_sign all at DfRdWord _ f (λ rest st. refl)
     relation_leaf_of DfWrWord f = past_sign all at DfWrWord _ f (λ rest st. refl)
     relation_leaf_of DfRdWrWord f = past_sign all at DfRdWrWord _ f (λ rest st. refl)
+    relation_leaf_of CmWord f = past_sign all at CmWord _ f (λ rest st. refl)
     relation_leaf_of NoRdWord f = past_sign all at NoRdWord _ f (λ rest st. refl)
     relation_leaf_of NoWrWord f = past_sign all at NoWrWord _ f (λ rest st. refl)
     relation_leaf_of NoRdWrWord f = past_sign all at NoRdWrWord _ f (λ rest st. refl)
@@ -353,6 +356,7 @@ unary_leaf all at s r e k = rw k (of s e)
     of DfRdWord f = none_here DfRdWord f refl
     of DfWrWord f = none_here DfWrWord f refl
     of DfRdWrWord f = none_here DfRdWrWord f refl
+    of CmWord f = none_here CmWord f refl
     of NoRdWord f = none_here NoRdWord f refl
     of NoWrWord f = none_here NoWrWord f refl
     of NoRdWrWord f = none_here NoRdWrWord f refl
@@ -408,6 +412,7 @@ must_step RdWrWord rest st = refl
 must_step DfRdWord rest st = refl
 must_step DfWrWord rest st = refl
 must_step DfRdWrWord rest st = refl
+must_step CmWord rest st = refl
 must_step NoRdWord rest st = refl
 must_step NoWrWord rest st = refl
 must_step NoRdWrWord rest st = refl
@@ -501,6 +506,7 @@ no_atom RdWrWord a b c d rest st = refl
 no_atom DfRdWord a b c d rest st = refl
 no_atom DfWrWord a b c d rest st = refl
 no_atom DfRdWrWord a b c d rest st = refl
+no_atom CmWord a b c d rest st = refl
 no_atom NoRdWord a b c d rest st = refl
 no_atom NoWrWord a b c d rest st = refl
 no_atom NoRdWrWord a b c d rest st = refl

@@ -32,7 +32,7 @@ use Rattle.jade_parser.specs.declared.Sign.TheVariants.{InputWord, ObjectWord, O
 use Rattle.jade_parser.specs.declared.Sign.TheVariants.{BoolWord, TrueWord, FalseWord, IfWord, ElseWord}
 use Rattle.jade_parser.specs.declared.Sign.TheVariants.{ForWord, InWord, WithonlyWord, DoWord, WithWord}
 use Rattle.jade_parser.specs.declared.Sign.TheVariants.{ContWord, RdWord, WrWord, RdWrWord, DfRdWord}
-use Rattle.jade_parser.specs.declared.Sign.TheVariants.{DfWrWord, DfRdWrWord, NoRdWord, NoWrWord, NoRdWrWord}
+use Rattle.jade_parser.specs.declared.Sign.TheVariants.{DfWrWord, DfRdWrWord, CmWord, NoRdWord, NoWrWord, NoRdWrWord}
 use Rattle.jade_parser.specs.declared.Sign.TheVariants.{LeftParen, RightParen, LeftBracket, RightBracket}
 use Rattle.jade_parser.specs.declared.Sign.TheVariants.{LeftBrace, RightBrace, Semicolon, Colon, Comma}
 use Rattle.jade_parser.specs.declared.Sign.TheVariants.{DotDot, Becomes, EqualSign, UnequalSign, LessSign}
@@ -65,6 +65,7 @@ sign_bytes RdWrWord = codes "rd_wr"
 sign_bytes DfRdWord = codes "df_rd"
 sign_bytes DfWrWord = codes "df_wr"
 sign_bytes DfRdWrWord = codes "df_rd_wr"
+sign_bytes CmWord = codes "cm"
 sign_bytes NoRdWord = codes "no_rd"
 sign_bytes NoWrWord = codes "no_wr"
 sign_bytes NoRdWrWord = codes "no_rd_wr"
@@ -111,7 +112,7 @@ statement_signs = IfWord ∷ ElseWord ∷ ForWord ∷ InWord ∷ WithonlyWord �
 
 -- the words that declare accesses, now or later
 abbrev pub access_signs : List Sign
-access_signs = RdWord ∷ WrWord ∷ RdWrWord ∷ DfRdWord ∷ DfWrWord ∷ DfRdWrWord ∷ []
+access_signs = RdWord ∷ WrWord ∷ RdWrWord ∷ DfRdWord ∷ DfWrWord ∷ DfRdWrWord ∷ CmWord ∷ []
 
 -- the words that give accesses up
 abbrev pub change_signs : List Sign
@@ -154,7 +155,7 @@ all_signs = item_signs ∷ statement_signs ∷ access_signs ∷ change_signs ∷
 
 -- a reserved word that stands in no form
 abbrev pub is_kept : List ℕ → Bool
-is_kept bytes = same_name bytes (codes "proc") || same_name bytes (codes "cm")
+is_kept bytes = same_name bytes (codes "proc")
 
 -- letters and digits that are no reserved word of a form, nor any other
 abbrev pub is_free : List ℕ → Bool

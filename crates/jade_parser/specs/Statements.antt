@@ -4,7 +4,7 @@ use Rattle.std.specs.List.{flat_map}
 use Rattle.jade_syntax.specs.declared.tree.ValueKind.{ValueKind}
 use Rattle.jade_syntax.specs.declared.tree.ValueKind.TheVariants.{Int, Bool as BoolKind}
 use Rattle.jade_syntax.specs.declared.tree.DeclareWord.{DeclareWord}
-use Rattle.jade_syntax.specs.declared.tree.DeclareWord.TheVariants.{Rd, Wr, RdWr, DfRd, DfWr, DfRdWr, NoRd, NoWr, NoRdWr}
+use Rattle.jade_syntax.specs.declared.tree.DeclareWord.TheVariants.{Rd, Wr, RdWr, DfRd, DfWr, DfRdWr, Cm, NoRd, NoWr, NoRdWr}
 use Rattle.jade_syntax.specs.declared.tree.ObjectRef.{ObjectRef}
 use Rattle.jade_syntax.specs.declared.tree.Statement.{Statement, fold-Statement}
 use Rattle.jade_syntax.specs.declared.tree.Statement.TheOpen.{Statement-F}
@@ -12,7 +12,7 @@ use Rattle.jade_parser.specs.declared.Sign.TheVariants.{LeftParen, RightParen, L
 use Rattle.jade_parser.specs.declared.Sign.TheVariants.{Semicolon, Comma, DotDot, IfWord, ElseWord, ForWord}
 use Rattle.jade_parser.specs.declared.Sign.TheVariants.{InWord, IntWord, BoolWord, WithonlyWord, WithWord}
 use Rattle.jade_parser.specs.declared.Sign.TheVariants.{DoWord, ContWord, RdWord, WrWord, RdWrWord, DfRdWord}
-use Rattle.jade_parser.specs.declared.Sign.TheVariants.{DfWrWord, DfRdWrWord, NoRdWord, NoWrWord, NoRdWrWord}
+use Rattle.jade_parser.specs.declared.Sign.TheVariants.{DfWrWord, DfRdWrWord, CmWord, NoRdWord, NoWrWord, NoRdWrWord}
 use Rattle.jade_syntax.specs.declared.tree.CellRef.{CellRef, out-CellRef}
 use Rattle.jade_syntax.specs.declared.tree.Expr.{Expr}
 use Rattle.jade_syntax.specs.declared.tree.Named.{Named}
@@ -31,6 +31,7 @@ declare_word RdWr = Fixed RdWrWord
 declare_word DfRd = Fixed DfRdWord
 declare_word DfWr = Fixed DfWrWord
 declare_word DfRdWr = Fixed DfRdWrWord
+declare_word Cm = Fixed CmWord
 declare_word NoRd = Fixed NoRdWord
 declare_word NoWr = Fixed NoWrWord
 declare_word NoRdWr = Fixed NoRdWrWord

@@ -32,6 +32,7 @@ fn declare_of(sign: Sign) -> Option<DeclareWord>
         Sign::DfRdWord => Some(DeclareWord::DfRd),
         Sign::DfWrWord => Some(DeclareWord::DfWr),
         Sign::DfRdWrWord => Some(DeclareWord::DfRdWr),
+        Sign::CmWord => Some(DeclareWord::Cm),
         Sign::NoRdWord => Some(DeclareWord::NoRd),
         Sign::NoWrWord => Some(DeclareWord::NoWr),
         Sign::NoRdWrWord => Some(DeclareWord::NoRdWr),

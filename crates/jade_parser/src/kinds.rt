@@ -16,7 +16,7 @@ use std::alloc::{AllocError, Global};
 fn is_kept(text: &[u8]) -> bool
     ensures { result ≡ is_kept text.now }
 {
-    same_name(text, b"proc") || same_name(text, b"cm")
+    same_name(text, b"proc")
 }
 
 /// Whether some bytes that are no sign are a name.

@@ -73,6 +73,8 @@ fn access_sign(text: &[u8]) -> Option<Sign>
         Some(Sign::DfWrWord)
     } else if same_name(text, b"df_rd_wr") {
         Some(Sign::DfRdWrWord)
+    } else if same_name(text, b"cm") {
+        Some(Sign::CmWord)
     } else {
         None
     }

@@ -65,6 +65,7 @@ pub enum Sign {
     DfRdWord,
     DfWrWord,
     DfRdWrWord,
+    CmWord,
     NoRdWord,
     NoWrWord,
     NoRdWrWord,

@@ -7,7 +7,7 @@ use Rattle.jade_syntax.specs.declared.shapes.extent.Extent.{Extent}
 use Rattle.jade_syntax.specs.declared.tree.ValueKind.{ValueKind}
 use Rattle.jade_syntax.specs.declared.tree.ValueKind.TheVariants.{Int, Bool as BoolWord}
 use Rattle.jade_syntax.specs.declared.tree.DeclareWord.{DeclareWord}
-use Rattle.jade_syntax.specs.declared.tree.DeclareWord.TheVariants.{Rd, Wr, RdWr, DfRd, DfWr, DfRdWr, NoRd, NoWr, NoRdWr}
+use Rattle.jade_syntax.specs.declared.tree.DeclareWord.TheVariants.{Rd, Wr, RdWr, DfRd, DfWr, DfRdWr, Cm, NoRd, NoWr, NoRdWr}
 use Rattle.jade_syntax.specs.declared.tree.Expr.{Expr}
 use Rattle.jade_syntax.specs.declared.tree.CellRef.{CellRef, out-CellRef}
 use Rattle.jade_syntax.specs.declared.tree.ObjectRef.{ObjectRef}
@@ -92,6 +92,7 @@ word_is_sign RdWr = λ depth. refl
 word_is_sign DfRd = λ depth. refl
 word_is_sign DfWr = λ depth. refl
 word_is_sign DfRdWr = λ depth. refl
+word_is_sign Cm = λ depth. refl
 word_is_sign NoRd = λ depth. refl
 word_is_sign NoWr = λ depth. refl
 word_is_sign NoRdWr = λ depth. refl

@@ -9,7 +9,7 @@ use Rattle.jade_syntax.specs.declared.tree.ObjectRef.{ObjectRef}
 use Rattle.jade_syntax.specs.declared.tree.ValueKind.{ValueKind}
 use Rattle.jade_syntax.specs.declared.tree.ValueKind.TheVariants.{Int, Bool as BoolKind}
 use Rattle.jade_syntax.specs.declared.tree.DeclareWord.{DeclareWord}
-use Rattle.jade_syntax.specs.declared.tree.DeclareWord.TheVariants.{Rd, Wr, RdWr, DfRd, DfWr, DfRdWr, NoRd, NoWr, NoRdWr}
+use Rattle.jade_syntax.specs.declared.tree.DeclareWord.TheVariants.{Rd, Wr, RdWr, DfRd, DfWr, DfRdWr, Cm, NoRd, NoWr, NoRdWr}
 use Rattle.jade_syntax.specs.declared.tree.Statement.{Statement, out-Statement, fold_out-Statement, map-Statement, fold-roll-Statement, ind-Statement}
 use Rattle.jade_syntax.specs.declared.tree.Statement.TheOpen.{Statement-F}
 use Rattle.jade_syntax.specs.Placed as syntax
@@ -22,7 +22,7 @@ use Rattle.jade_parser.specs.declared.Sign.TheVariants.{LeftBracket, RightBracke
 use Rattle.jade_parser.specs.declared.Sign.TheVariants.{RightBrace, Becomes, Semicolon, Comma, DotDot, IfWord}
 use Rattle.jade_parser.specs.declared.Sign.TheVariants.{ElseWord, ForWord, IntWord, BoolWord, WithonlyWord}
 use Rattle.jade_parser.specs.declared.Sign.TheVariants.{WithWord, DoWord, ContWord, RdWord, WrWord, RdWrWord}
-use Rattle.jade_parser.specs.declared.Sign.TheVariants.{DfRdWord, DfWrWord, DfRdWrWord, NoRdWord, NoWrWord}
+use Rattle.jade_parser.specs.declared.Sign.TheVariants.{DfRdWord, DfWrWord, DfRdWrWord, CmWord, NoRdWord, NoWrWord}
 use Rattle.jade_parser.specs.declared.Sign.TheVariants.{NoRdWrWord}
 use Rattle.jade_parser.specs.Spelled.{Token, Fixed, Called, Counted, Unknown, Parts, fixed, bracketed, outer}
 use Rattle.jade_parser.specs.Statements.{kind_word, declare_word, outer_index, object_parts, target_parts}
@@ -47,6 +47,7 @@ begins (Fixed RdWrWord) = 5
 begins (Fixed DfRdWord) = 5
 begins (Fixed DfWrWord) = 5
 begins (Fixed DfRdWrWord) = 5
+begins (Fixed CmWord) = 5
 begins (Fixed NoRdWord) = 5
 begins (Fixed NoWrWord) = 5
 begins (Fixed NoRdWrWord) = 5
@@ -72,6 +73,7 @@ word_begins RdWr = refl
 word_begins DfRd = refl
 word_begins DfWr = refl
 word_begins DfRdWr = refl
+word_begins Cm = refl
 word_begins NoRd = refl
 word_begins NoWr = refl
 word_begins NoRdWr = refl
@@ -88,6 +90,7 @@ word_of (Fixed RdWrWord) = RdWr
 word_of (Fixed DfRdWord) = DfRd
 word_of (Fixed DfWrWord) = DfWr
 word_of (Fixed DfRdWrWord) = DfRdWr
+word_of (Fixed CmWord) = Cm
 word_of (Fixed NoRdWord) = NoRd
 word_of (Fixed NoWrWord) = NoWr
 word_of (Fixed NoRdWrWord) = NoRdWr
@@ -100,6 +103,7 @@ word_back RdWr = refl
 word_back DfRd = refl
 word_back DfWr = refl
 word_back DfRdWr = refl
+word_back Cm = refl
 word_back NoRd = refl
 word_back NoWr = refl
 word_back NoRdWr = refl

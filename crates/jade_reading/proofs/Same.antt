@@ -15,7 +15,7 @@ use Rattle.jade_syntax.specs.declared.tree.ObjectRef.{ObjectRef}
 use Rattle.jade_syntax.specs.declared.tree.ValueKind.{ValueKind}
 use Rattle.jade_syntax.specs.declared.tree.ValueKind.TheVariants.{Int, Bool as BoolKind}
 use Rattle.jade_syntax.specs.declared.tree.DeclareWord.{DeclareWord}
-use Rattle.jade_syntax.specs.declared.tree.DeclareWord.TheVariants.{Rd, Wr, RdWr, DfRd, DfWr, DfRdWr, NoRd, NoWr, NoRdWr}
+use Rattle.jade_syntax.specs.declared.tree.DeclareWord.TheVariants.{Rd, Wr, RdWr, DfRd, DfWr, DfRdWr, Cm, NoRd, NoWr, NoRdWr}
 use Rattle.jade_syntax.specs.declared.tree.Statement.{Statement, map-Statement, fold-roll-Statement, ind-Statement}
 use Rattle.jade_syntax.specs.declared.tree.Statement.TheOpen.{Statement-F}
 use Rattle.jade_syntax.specs.declared.tree.Item.{Item}
@@ -58,6 +58,7 @@ declare_is RdWr = refl
 declare_is DfRd = refl
 declare_is DfWr = refl
 declare_is DfRdWr = refl
+declare_is Cm = refl
 declare_is NoRd = refl
 declare_is NoWr = refl
 declare_is NoRdWr = refl

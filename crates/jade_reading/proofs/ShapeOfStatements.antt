@@ -11,7 +11,7 @@ use Rattle.jade_syntax.specs.declared.tree.Named.{Named}
 use Rattle.jade_syntax.specs.declared.tree.ValueKind.{ValueKind}
 use Rattle.jade_syntax.specs.declared.tree.ValueKind.TheVariants.{Int, Bool as BoolKind}
 use Rattle.jade_syntax.specs.declared.tree.DeclareWord.{DeclareWord}
-use Rattle.jade_syntax.specs.declared.tree.DeclareWord.TheVariants.{Rd, Wr, RdWr, DfRd, DfWr, DfRdWr, NoRd, NoWr, NoRdWr}
+use Rattle.jade_syntax.specs.declared.tree.DeclareWord.TheVariants.{Rd, Wr, RdWr, DfRd, DfWr, DfRdWr, Cm, NoRd, NoWr, NoRdWr}
 use Rattle.jade_syntax.specs.declared.tree.Statement.{Statement, map-Statement, fold-roll-Statement, ind-Statement}
 use Rattle.jade_syntax.specs.declared.tree.Statement.TheOpen.{Statement-F}
 use Rattle.jade_syntax.specs.Shapes as shapes
@@ -59,6 +59,7 @@ word_tells RdWr p = tells_sign (marked (declare_word RdWr) p) refl
 word_tells DfRd p = tells_sign (marked (declare_word DfRd) p) refl
 word_tells DfWr p = tells_sign (marked (declare_word DfWr) p) refl
 word_tells DfRdWr p = tells_sign (marked (declare_word DfRdWr) p) refl
+word_tells Cm p = tells_sign (marked (declare_word Cm) p) refl
 word_tells NoRd p = tells_sign (marked (declare_word NoRd) p) refl
 word_tells NoWr p = tells_sign (marked (declare_word NoWr) p) refl
 word_tells NoRdWr p = tells_sign (marked (declare_word NoRdWr) p) refl

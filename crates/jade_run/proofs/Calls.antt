@@ -19,7 +19,10 @@ use denote.Bor.{Bor}
 use Rattle.jade_run.specs.declared.answer.Answer.{Answer as AnswerOf}
 use Rattle.jade_run.specs.declared.answer.ReadError.{ReadError}
 use Rattle.jade_run.specs.declared.answer.ReadError.TheVariants.{Refused as NotRead, Memory as Unread}
+use Rattle.jade_meaning.specs.Turns.{in_order}
 use Rattle.jade_run.specs.Outcome.{
+  TurnLists,
+  BySomeTurns,
   IsOutcome,
   IsAnswered,
   IsGood,
@@ -74,7 +77,7 @@ told_bytes left b e = ap bytes_of e
 pub usage_answers : (words : List (List ℕ)) (left : Option (List ℕ)) (text : List ℕ) (status : Status) → RefusesWords words → text ≡ usage_text →
     status ≡ Words → Answers words left left text status
 usage_answers words left text status never t s = record {
-  comes = record { bytes = bytes_of left; told = told_bytes left; outcome = usage never t s };
+  comes = record { bytes = bytes_of left; told = told_bytes left; turns = in_order; outcome = usage never t s };
   read = λ needed b e. absurd (never (on_text needed));
   unread = λ h. refl;
 }
@@ -99,7 +102,7 @@ pub too_long_answers : (words : List (List ℕ)) (before after : Option (List �
 too_long_answers words before after text status named cut t s =
     let m = many before cut.too_long in
     record {
-      comes = record { bytes = m.bytes; told = m.told; outcome = too_long named m.more t s };
+      comes = record { bytes = m.bytes; told = m.told; turns = in_order; outcome = too_long named m.more t s };
       read = λ needed b e. cut.cut ∙ ap (left_after 1048577) e;
       unread = λ h. absurd (h named);
     }
@@ -121,22 +124,23 @@ asks_allowed words Check h = tt
 asks_allowed words Show h = tt
 asks_allowed words (Drill n w) h = ((h.drill.crew.some, h.drill.crew.within), (h.drill.amount.some, h.drill.amount.within))
 
-commanded : (words : List (List ℕ)) (c : Command) (bytes text : List ℕ) (status : Status) → Asks words c → length bytes ≤ 1048576 →
-    IsCommanded c bytes text status → IsOutcome words bytes text status
-commanded words (Run w e) bytes text status asked within h = run w e.limit e.numbers asked within h
-commanded words (Serial e) bytes text status asked within h = serial e.limit e.numbers asked within h
-commanded words Check bytes text status asked within h = check asked within h
-commanded words Show bytes text status asked within h = show asked within h
-commanded words (Drill n w) bytes text status asked within h = drill n w asked h
+commanded : (words : List (List ℕ)) (c : Command) (bytes : List ℕ) (turns : TurnLists) (text : List ℕ) (status : Status) → Asks words c
+    → length bytes ≤ 1048576 → IsCommanded c bytes turns text status → IsOutcome words bytes turns text status
+commanded words (Run w e) bytes turns text status asked within h = run w e.limit e.numbers asked within h
+commanded words (Serial e) bytes turns text status asked within h = serial e.limit e.numbers asked within h
+commanded words Check bytes turns text status asked within h = check asked within h
+commanded words Show bytes turns text status asked within h = show asked within h
+commanded words (Drill n w) bytes turns text status asked within h = drill n w asked h
 
 pub command_answers : (words : List (List ℕ)) (before after : Option (List ℕ)) (c : Command) (bytes read text : List ℕ) (status : Status) → Asks words c →
-    works_on_text c ≡ true → WholeText before after bytes → read ≡ bytes → IsCommanded c read text status → Answers words before after text status
+    works_on_text c ≡ true → WholeText before after bytes → read ≡ bytes → BySomeTurns (λ turns. IsCommanded c read turns text status) → Answers words before after text status
 command_answers words before after c bytes read text status asked on whole all h = record {
   comes = record {
     bytes = bytes;
     told = whole.whole;
+    turns = h.0;
     outcome =
-        commanded words c bytes text status asked whole.within (let P : List ℕ → Type 0 = λ z. IsCommanded c z text status in subst P all h);
+        commanded words c bytes h.0 text status asked whole.within (let P : List ℕ → Type 0 = λ z. IsCommanded c z h.0 text status in subst P all h.1);
   };
   read = λ needed b e.
       let same : bytes ≡ b = whole.whole b e in
@@ -146,20 +150,20 @@ command_answers words before after c bytes read text status asked on whole all h
 }
 
 drilled_answers : (words : List (List ℕ)) (left : Option (List ℕ)) (c : Command) (text : List ℕ) (status : Status) → Asks words c →
-    works_on_text c ≡ false → IsCommanded c [] text status → Answers words left left text status
+    works_on_text c ≡ false → BySomeTurns (λ turns. IsCommanded c [] turns text status) → Answers words left left text status
 drilled_answers words left (Run w e) text status asked off h = absurd (cc)
 drilled_answers words left (Serial e) text status asked off h = absurd (cc)
 drilled_answers words left Check text status asked off h = absurd (cc)
 drilled_answers words left Show text status asked off h = absurd (cc)
 drilled_answers words left (Drill n w) text status asked off h = record {
-  comes = record { bytes = bytes_of left; told = told_bytes left; outcome = drill n w asked h };
+  comes = record { bytes = bytes_of left; told = told_bytes left; turns = h.0; outcome = drill n w asked h.1 };
   read = λ needed b e. absurd (drill_only words n w asked needed);
   unread = λ never. refl;
 }
 
 -- what a command comes to that works on no text, and what stops the call where there is no memory
 pub textless : (words : List (List ℕ)) (left : Option (List ℕ)) (before after : ℕ) (c : Command) (r : Result AnswerOf Status) → Asks words c →
-    works_on_text c ≡ false → IfOk r (λ a. IsCommanded c [] a.text.items a.status) → IfErr r (λ s. s ≡ Memory) →
+    works_on_text c ≡ false → IfOk r (λ a. BySomeTurns (λ turns. IsCommanded c [] turns a.text.items a.status)) → IfErr r (λ s. s ≡ Memory) →
     MatchResult r (λ a. Answers words left left a.text.items a.status) (λ s. Stops s before after)
 textless words left before after c (Ok a) asked off h m = drilled_answers words left c a.text.items a.status asked off h
 textless words left before after c (Err s) asked off h m = subst (λ z. Stops z before after) (sym m) tt
@@ -180,12 +184,12 @@ unfolding Written
 answer_written (Faulted p b) = tt
 answer_written (Cells store) = tt
 
-answered_written : (bytes : List ℕ) (numbers : List ℤ) (limit : ℕ) (text : List ℕ) (status : Status) → IsAnswered bytes numbers limit text status →
-    Written status
+answered_written : (bytes : List ℕ) (numbers : List ℤ) (limit : ℕ) (turns : TurnLists) (text : List ℕ) (status : Status)
+    → IsAnswered bytes numbers limit turns text status → Written status
 unfolding Written
-answered_written bytes numbers limit text status (answered tree is_good n shows) = subst Written (sym shows.ended) (answer_written _)
-answered_written bytes numbers limit text status (miscounted tree is_good n t s) = subst Written (sym s) tt
-answered_written bytes numbers limit text status (refused place why for t s) = subst Written (sym s) tt
+answered_written bytes numbers limit turns text status (answered tree is_good n shows) = subst Written (sym shows.ended) (answer_written _)
+answered_written bytes numbers limit turns text status (miscounted tree is_good n t s) = subst Written (sym s) tt
+answered_written bytes numbers limit turns text status (refused place why for t s) = subst Written (sym s) tt
 
 tested_written : (bytes text : List ℕ) (status : Status) → IsTested bytes text status → Written status
 unfolding Written
@@ -200,17 +204,17 @@ shown_written bytes text status (not_shown place why as_one t s) = subst Written
 drilled_written : (tasks : ℕ) (text : List ℕ) (status : Status) → IsDrilled tasks text status → Written status
 unfolding Written
 drilled_written tasks text status (summed tree g n store e t s) = subst Written (sym s) tt
-drilled_written tasks text status (not_summed h bad) = answered_written _ _ _ _ _ h
+drilled_written tasks text status (not_summed h bad) = answered_written _ _ _ _ _ _ h
 
-pub outcome_written : (words : List (List ℕ)) (bytes text : List ℕ) (status : Status) → IsOutcome words bytes text status → Written status
+pub outcome_written : (words : List (List ℕ)) (bytes : List ℕ) (turns : TurnLists) (text : List ℕ) (status : Status) → IsOutcome words bytes turns text status → Written status
 unfolding Written
-outcome_written words bytes text status (usage never t s) = subst Written (sym s) tt
-outcome_written words bytes text status (too_long named more t s) = subst Written (sym s) tt
-outcome_written words bytes text status (run w l ns named within h) = answered_written _ _ _ _ _ h
-outcome_written words bytes text status (serial l ns named within h) = answered_written _ _ _ _ _ h
-outcome_written words bytes text status (check named within h) = tested_written _ _ _ h
-outcome_written words bytes text status (show named within h) = shown_written _ _ _ h
-outcome_written words bytes text status (drill n w named h) = drilled_written _ _ _ h
+outcome_written words bytes turns text status (usage never t s) = subst Written (sym s) tt
+outcome_written words bytes turns text status (too_long named more t s) = subst Written (sym s) tt
+outcome_written words bytes turns text status (run w l ns named within h) = answered_written _ _ _ _ _ _ h
+outcome_written words bytes turns text status (serial l ns named within h) = answered_written _ _ _ _ _ _ h
+outcome_written words bytes turns text status (check named within h) = tested_written _ _ _ h
+outcome_written words bytes turns text status (show named within h) = shown_written _ _ _ h
+outcome_written words bytes turns text status (drill n w named h) = drilled_written _ _ _ h
 
 written_headline : (words : List (List ℕ)) (status : Status) (before after : Moment) (text : List ℕ) → Written status →
     Answers words before.left after.left text status → after.taken ≡ taken_with before.taken text → Headline words status before after
@@ -228,7 +232,7 @@ written_headline words Memory before after text h a w = absurd h
 pub wrote_headline : (words : List (List ℕ)) (status : Status) (before after : Moment) (text : List ℕ) → Answers words before.left after.left text status →
     after.taken ≡ taken_with before.taken text → Headline words status before after
 wrote_headline words status before after text a w =
-    written_headline words status before after text (outcome_written _ _ _ _ a.comes.outcome) a w
+    written_headline words status before after text (outcome_written _ _ _ _ _ a.comes.outcome) a w
 
 no_reading : (status : Status) → Written status → status ≡ Reading → ⊥
 unfolding Written
@@ -237,7 +241,7 @@ no_reading status w e = subst Written e w
 -- an answer never says that the source failed
 pub not_reading : (words : List (List ℕ)) (before after : Option (List ℕ)) (text : List ℕ) (status : Status) → Answers words before after text status →
     status ≡ Reading → ⊥
-not_reading words before after text status a e = no_reading status (outcome_written _ _ _ _ a.comes.outcome) e
+not_reading words before after text status a e = no_reading status (outcome_written _ _ _ _ _ a.comes.outcome) e
 
 -- what a text that was not read comes to
 pub refused_shown : (bytes : List ℕ) (e : ReadError) (r : Result AnswerOf NoMemory) → IfOk r (λ a. IsNotRead e a.text.items a.status) →
@@ -259,11 +263,17 @@ unread_for bytes Unread h = tt
 pub good_tested : (bytes : List ℕ) (tree : Program) (text : List ℕ) → IsGood bytes tree → text ≡ ok_text → IsTested bytes text Good
 good_tested bytes tree text g t = good tree g t refl
 
-pub answered_in : (bytes : List ℕ) (numbers : List ℤ) (limit : ℕ) (tree : Program) (r : Result AnswerOf NoMemory) → IsGood bytes tree →
-    length numbers ≡ input_count tree → IfOk r (λ a. Shows (program tree) (answer (program tree) numbers limit) a.text.items a.status) →
-    IfOk r (λ a. IsAnswered bytes numbers limit a.text.items a.status)
-answered_in bytes numbers limit tree (Ok a) g n h = answered tree g n h
-answered_in bytes numbers limit tree (Err m) g n h = tt
+pub answered_in : (bytes : List ℕ) (numbers : List ℤ) (limit : ℕ) (turns : TurnLists) (tree : Program) (r : Result AnswerOf NoMemory) → IsGood bytes tree →
+    length numbers ≡ input_count tree → IfOk r (λ a. Shows (program tree) (answer (program tree) numbers limit turns) a.text.items a.status) →
+    IfOk r (λ a. IsAnswered bytes numbers limit turns a.text.items a.status)
+answered_in bytes numbers limit turns tree (Ok a) g n h = answered tree g n h
+answered_in bytes numbers limit turns tree (Err m) g n h = tt
+
+pub answered_by : (bytes : List ℕ) (numbers : List ℤ) (limit : ℕ) (tree : Program) (r : Result AnswerOf NoMemory) → IsGood bytes tree →
+    length numbers ≡ input_count tree → IfOk r (λ a. BySomeTurns (λ turns. Shows (program tree) (answer (program tree) numbers limit turns) a.text.items a.status))
+    → IfOk r (λ a. BySomeTurns (λ turns. IsAnswered bytes numbers limit turns a.text.items a.status))
+answered_by bytes numbers limit tree (Ok a) g n h = (h.0, answered tree g n h.1)
+answered_by bytes numbers limit tree (Err m) g n h = tt
 
 -- what words are answered with that are no command's, and what stops the call where there is no memory
 pub no_command : (words : List (List ℕ)) (left : Option (List ℕ)) (before after : ℕ) (e : WordsError) (r : Result AnswerOf Status) → IsUsage words e →

@@ -9,7 +9,8 @@ use Rattle.jade_meaning.specs.Answer.{Answer, Faulted, Cells, answer}
 use Rattle.jade_run.specs.declared.answer.Answer.{Answer as AnswerOf}
 use Rattle.jade_run.specs.declared.status.Status.{Status}
 use Rattle.jade_run.specs.declared.status.Status.TheVariants.{Good, Fault, Refused, Numbers}
-use Rattle.jade_run.specs.Outcome.{IsAnswered, IsDrilled, IsGood, Shows}
+use Rattle.jade_run.specs.Outcome.{TurnLists, BySomeTurns, IsAnswered, IsDrilled, IsGood, Shows}
+use Rattle.jade_meaning.specs.Turns.{in_order}
 use Rattle.jade_run.specs.Outcome.{summed, not_summed, answered, input_count}
 use Rattle.jade_run.specs.steps.Drilling.{ShowsSum}
 use Rattle.jade_run.specs.steps.Preparing.{IsSettled}
@@ -31,18 +32,24 @@ fault_is_bad e = absurd (cc)
 pub settled_drilled : (tasks : ℕ) (bytes text : List ℕ) (status : Status) → bytes ≡ drill_text tasks → IsSettled bytes [] text status →
     IsDrilled tasks text status
 settled_drilled tasks bytes text status e h =
-    let P : List ℕ → Type 0 = λ b. IsAnswered b [] 4294967295 text status in not_summed (subst P e (h.answered 4294967295)) (unrun_is_bad status h.unrun)
+    let P : List ℕ → Type 0 = λ b. IsAnswered b [] 4294967295 in_order text status in
+    not_summed (subst P e (h.answered 4294967295 in_order)) (unrun_is_bad status h.unrun)
 
 told : (tasks : ℕ) (tree : Program) (text : List ℕ) (status : Status) → IsGood (drill_text tasks) tree → input_count tree ≡ 0 → (x : Answer) →
-    answer (program tree) [] 4294967295 ≡ x → ShowsSum (program tree) tasks x text status → IsDrilled tasks text status
+    answer (program tree) [] 4294967295 in_order ≡ x → ShowsSum (program tree) tasks x text status → IsDrilled tasks text status
 told tasks tree text status g n (Cells store) e h = summed tree g n store e h.0 h.1
 told tasks tree text status g n (Faulted path blame) e h =
     let P : Answer → Type 0 = λ x. Shows (program tree) x text status in
     not_summed (answered tree g (sym n) (subst P (sym e) h)) (λ good. fault_is_bad (sym h.ended ∙ good))
 
 pub sum_drilled : (tasks : ℕ) (bytes : List ℕ) (tree : Program) (r : Result AnswerOf NoMemory) → bytes ≡ drill_text tasks → IsGood bytes tree →
-    input_count tree ≡ 0 → IfOk r (λ a. ShowsSum (program tree) tasks (answer (program tree) [] 4294967295) a.text.items a.status) →
+    input_count tree ≡ 0 → (IsGood (drill_text tasks) tree → (turns : TurnLists) →
+    answer (program tree) [] 4294967295 turns ≡ answer (program tree) [] 4294967295 in_order) →
+    IfOk r (λ a. BySomeTurns (λ turns. ShowsSum (program tree) tasks (answer (program tree) [] 4294967295 turns) a.text.items a.status)) →
     IfOk r (λ a. IsDrilled tasks a.text.items a.status)
-sum_drilled tasks bytes tree (Ok a) made g n h =
-    let P : List ℕ → Type 0 = λ b. IsGood b tree in told tasks tree a.text.items a.status (subst P made g) n (answer (program tree) [] 4294967295) refl h
-sum_drilled tasks bytes tree (Err m) made g n h = tt
+sum_drilled tasks bytes tree (Ok a) made g n same h =
+    let P : List ℕ → Type 0 = λ b. IsGood b tree in
+    let Q : Answer → Type 0 = λ x. ShowsSum (program tree) tasks x a.text.items a.status in
+    let good : IsGood (drill_text tasks) tree = subst P made g in
+    told tasks tree a.text.items a.status good n (answer (program tree) [] 4294967295 in_order) refl (subst Q (same good h.0) h.1)
+sum_drilled tasks bytes tree (Err m) made g n same h = tt

@@ -10,3 +10,6 @@ pub mod Totals
 pub mod Preparing
 pub mod Running
 pub mod Witnessing
+pub mod Plain
+pub mod Commanding
+pub mod Wordless

@@ -32,7 +32,9 @@ use Rattle.jade_parser.specs.Grammar.{IsReading, IsRefusal, bytes_of}
 use Rattle.jade_parser.specs.Programs.{program_parts}
 use Rattle.jade_parser.specs.OneReading.{SameRefusal, IsMemory}
 use Rattle.jade_reading.specs.Reading.{ReadsAs}
+use Rattle.jade_meaning.specs.Turns.{in_order}
 use Rattle.jade_run.specs.Outcome.{
+  TurnLists,
   IsOutcome,
   IsAnswered,
   IsGood,
@@ -103,23 +105,24 @@ numbers_are (x ∷ xs) (y ∷ ys) f g e =
     let rest = numbers_are xs ys (and_second _ _ f) (and_second _ _ g) (rests _ _ _ _ e) in
     ap (λ z. z ∷ xs) first ∙ ap (λ zs. y ∷ zs) rest
 
--- what words ask for: that a text be executed with a limit and numbers, checked, or shown
+-- what words ask for: that a text be executed by workers or serially, with a limit and numbers, checked, or shown
 data Order : Type 0 where
   Executes : ℕ → List ℤ → Order
+  Follows : ℕ → List ℤ → Order
   Tests : Order
   Displays : Order
 
-one_execution : (words : List (List ℕ)) (l m : ℕ) (xs ys : List ℤ) → SpellsExecution words l xs → SpellsExecution words m ys → Executes l xs ≡ Executes m ys
-one_execution words l m xs ys h k =
+one_execution : (How : ℕ → List ℤ → Order) (words : List (List ℕ)) (l m : ℕ) (xs ys : List ℤ) → SpellsExecution words l xs → SpellsExecution words m ys → How l xs ≡ How m ys
+one_execution How words l m xs ys h k =
     let two : h.first ∷ h.more ≡ k.first ∷ k.more = sym h.two ∙ k.two in
     let limit : l ≡ m = decimal_injective l m (omega (arith, h.steps.within)) (omega (arith, k.steps.within))
     (sym h.steps.spelled ∙ firsts _ _ _ _ two ∙ k.steps.spelled) in
     let numbers : xs ≡ ys = numbers_are xs ys h.given.fit k.given.fit (sym h.given.spelled ∙ rests _ _ _ _ two ∙ k.given.spelled) in
-    ap (λ n. Executes n xs) limit ∙ ap (Executes m) numbers
+    ap (λ n. How n xs) limit ∙ ap (How m) numbers
 
 data Ordered (words : List (List ℕ)) (o : Order) : Type 0 where
   runs : (workers limit : ℕ) (numbers : List ℤ) → RunWords words workers limit numbers → o ≡ Executes limit numbers → Ordered words o
-  serials : (limit : ℕ) (numbers : List ℤ) → SerialWords words limit numbers → o ≡ Executes limit numbers → Ordered words o
+  serials : (limit : ℕ) (numbers : List ℤ) → SerialWords words limit numbers → o ≡ Follows limit numbers → Ordered words o
   checks : CheckWords words → o ≡ Tests → Ordered words o
   shows : ShowWords words → o ≡ Displays → Ordered words o
 
@@ -128,10 +131,10 @@ one_order words a b (runs w l xs h d) (runs v m ys k e) =
     let two : h.more ≡ k.more = rests _ _ _ _ (sym h.two ∙ k.two) in
     let three : h.run.first ∷ h.run.more ≡ k.run.first ∷ k.run.more = sym h.run.two ∙ two ∙ k.run.two in
     let P : List (List ℕ) → Type 0 = λ ws. SpellsExecution ws l xs in
-    d ∙ one_execution k.run.more l m xs ys (subst P (rests _ _ _ _ three) h.run.execution) k.run.execution ∙ sym e
+    d ∙ one_execution Executes k.run.more l m xs ys (subst P (rests _ _ _ _ three) h.run.execution) k.run.execution ∙ sym e
 one_order words a b (serials l xs h d) (serials m ys k e) =
     let P : List (List ℕ) → Type 0 = λ ws. SpellsExecution ws l xs in
-    d ∙ one_execution k.more l m xs ys (subst P (rests _ _ _ _ (sym h.two ∙ k.two)) h.execution) k.execution ∙ sym e
+    d ∙ one_execution Follows k.more l m xs ys (subst P (rests _ _ _ _ (sym h.two ∙ k.two)) h.execution) k.execution ∙ sym e
 one_order words a b (checks h d) (checks k e) = d ∙ sym e
 one_order words a b (shows h d) (shows k e) = d ∙ sym e
 one_order words a b (runs w l xs h d) (serials m ys k e) = absurd (two_names words h.more k.more _ _ run_serial h.two k.two)
@@ -288,23 +291,23 @@ same_refusal law bytes p q v w (wrong h) (wrong k) =
     let same = some_is _ _ (sym h.first ∙ ap (λ x. first_fault (static_faults x)) (same_placed law bytes h.tree k.tree h.reads k.reads) ∙ k.first) in
     ap (refused_text p) h.named ∙ ap (λ (f : StaticFault). refused_text f.pos (static_word f.kind)) same ∙ ap (refused_text q) (sym k.named)
 
-same_answers : Parses → (bytes : List ℕ) (numbers : List ℤ) (limit : ℕ) (t u : List ℕ) (s r : Status) → IsAnswered bytes numbers limit t s →
-    IsAnswered bytes numbers limit u r → SameOutcome t s u r
-same_answers law bytes numbers limit t u s r (answered x g n a) (answered y h m b) =
+same_answers : Parses → (bytes : List ℕ) (numbers : List ℤ) (limit : ℕ) (turns : TurnLists) (t u : List ℕ) (s r : Status) → IsAnswered bytes numbers limit turns t s →
+    IsAnswered bytes numbers limit turns u r → SameOutcome t s u r
+same_answers law bytes numbers limit turns t u s r (answered x g n a) (answered y h m b) =
     let same = same_program law bytes x y g.reads h.reads in
     record {
-      text = a.shown ∙ ap (λ p. answer_text p (answer p numbers limit)) same ∙ sym b.shown;
-      status = a.ended ∙ ap (λ p. answer_status (answer p numbers limit)) same ∙ sym b.ended;
+      text = a.shown ∙ ap (λ p. answer_text p (answer p numbers limit turns)) same ∙ sym b.shown;
+      status = a.ended ∙ ap (λ p. answer_status (answer p numbers limit turns)) same ∙ sym b.ended;
     }
-same_answers law bytes numbers limit t u s r (answered x g n a) (miscounted y h m c d) = absurd (m (n ∙ same_count law bytes x y g.reads h.reads))
-same_answers law bytes numbers limit t u s r (answered x g n a) (refused q w k c d) = absurd (good_or_refused law bytes x q w g k)
-same_answers law bytes numbers limit t u s r (miscounted x g n a b) (answered y h m c) = absurd (n (m ∙ same_count law bytes y x h.reads g.reads))
-same_answers law bytes numbers limit t u s r (miscounted x g n a b) (miscounted y h m c d) =
+same_answers law bytes numbers limit turns t u s r (answered x g n a) (miscounted y h m c d) = absurd (m (n ∙ same_count law bytes x y g.reads h.reads))
+same_answers law bytes numbers limit turns t u s r (answered x g n a) (refused q w k c d) = absurd (good_or_refused law bytes x q w g k)
+same_answers law bytes numbers limit turns t u s r (miscounted x g n a b) (answered y h m c) = absurd (n (m ∙ same_count law bytes y x h.reads g.reads))
+same_answers law bytes numbers limit turns t u s r (miscounted x g n a b) (miscounted y h m c d) =
     record { text = a ∙ ap (λ k. numbers_text k (length numbers)) (same_count law bytes x y g.reads h.reads) ∙ sym c; status = b ∙ sym d }
-same_answers law bytes numbers limit t u s r (miscounted x g n a b) (refused q w k c d) = absurd (good_or_refused law bytes x q w g k)
-same_answers law bytes numbers limit t u s r (refused p v h a b) (answered y k m c) = absurd (good_or_refused law bytes y p v k h)
-same_answers law bytes numbers limit t u s r (refused p v h a b) (miscounted y k m c d) = absurd (good_or_refused law bytes y p v k h)
-same_answers law bytes numbers limit t u s r (refused p v h a b) (refused q w k c d) =
+same_answers law bytes numbers limit turns t u s r (miscounted x g n a b) (refused q w k c d) = absurd (good_or_refused law bytes x q w g k)
+same_answers law bytes numbers limit turns t u s r (refused p v h a b) (answered y k m c) = absurd (good_or_refused law bytes y p v k h)
+same_answers law bytes numbers limit turns t u s r (refused p v h a b) (miscounted y k m c d) = absurd (good_or_refused law bytes y p v k h)
+same_answers law bytes numbers limit turns t u s r (refused p v h a b) (refused q w k c d) =
     record { text = a ∙ same_refusal law bytes p q v w h k ∙ sym c; status = b ∙ sym d }
 
 same_tested : Parses → (bytes t u : List ℕ) (s r : Status) → IsTested bytes t s → IsTested bytes u r → SameOutcome t s u r
@@ -320,12 +323,12 @@ same_shown law bytes t u s r (not_shown p v h a b) (shown y k c d) = absurd (rea
 same_shown law bytes t u s r (not_shown p v h a b) (not_shown q w k c d) = record { text = a ∙ same_refused law bytes p q v w h k ∙ sym c; status = b ∙ sym d }
 
 -- a text whose answer is the cells of a store is answered well
-well : Parses → (bytes : List ℕ) (x : Program) (limit : ℕ) (store : Store) (t : List ℕ) (s : Status) → IsGood bytes x → input_count x ≡ 0 →
-    answer (program x) [] limit ≡ Cells store → IsAnswered bytes [] limit t s → s ≡ Good
-well law bytes x limit store t s g n e (answered y h m a) =
-    a.ended ∙ ap (λ p. answer_status (answer p [] limit)) (same_program law bytes y x h.reads g.reads) ∙ ap answer_status e
-well law bytes x limit store t s g n e (miscounted y h m a b) = absurd (m (sym n ∙ same_count law bytes x y g.reads h.reads))
-well law bytes x limit store t s g n e (refused q w k a b) = absurd (good_or_refused law bytes x q w g k)
+well : Parses → (bytes : List ℕ) (x : Program) (limit : ℕ) (turns : TurnLists) (store : Store) (t : List ℕ) (s : Status) → IsGood bytes x → input_count x ≡ 0 →
+    answer (program x) [] limit turns ≡ Cells store → IsAnswered bytes [] limit turns t s → s ≡ Good
+well law bytes x limit turns store t s g n e (answered y h m a) =
+    a.ended ∙ ap (λ p. answer_status (answer p [] limit turns)) (same_program law bytes y x h.reads g.reads) ∙ ap answer_status e
+well law bytes x limit turns store t s g n e (miscounted y h m a b) = absurd (m (sym n ∙ same_count law bytes x y g.reads h.reads))
+well law bytes x limit turns store t s g n e (refused q w k a b) = absurd (good_or_refused law bytes x q w g k)
 
 cells_are : (a b : Store) → Cells a ≡ Cells b → a ≡ b
 cells_are a b e = cc
@@ -333,111 +336,115 @@ cells_are a b e = cc
 same_drilled : Parses → (n : ℕ) (t u : List ℕ) (s r : Status) → IsDrilled n t s → IsDrilled n u r → SameOutcome t s u r
 same_drilled law n t u s r (summed x g z a e v w) (summed y h k b f c d) =
     let same = same_program law (drill_text n) y x h.reads g.reads in
-    let store : a ≡ b = cells_are a b (sym e ∙ sym (ap (λ p. answer p [] 4294967295) same) ∙ f) in
+    let store : a ≡ b = cells_are a b (sym e ∙ sym (ap (λ p. answer p [] 4294967295 in_order) same) ∙ f) in
     record { text = v ∙ ap (λ l. drilled_text n (sum_of_cells l)) store ∙ sym c; status = w ∙ sym d }
-same_drilled law n t u s r (summed x g z a e v w) (not_summed k bad) = absurd (bad (well law (drill_text n) x 4294967295 a u r g z e k))
-same_drilled law n t u s r (not_summed k bad) (summed x g z a e v w) = absurd (bad (well law (drill_text n) x 4294967295 a t s g z e k))
-same_drilled law n t u s r (not_summed h bad) (not_summed k worse) = same_answers law (drill_text n) [] 4294967295 t u s r h k
+same_drilled law n t u s r (summed x g z a e v w) (not_summed k bad) = absurd (bad (well law (drill_text n) x 4294967295 in_order a u r g z e k))
+same_drilled law n t u s r (not_summed k bad) (summed x g z a e v w) = absurd (bad (well law (drill_text n) x 4294967295 in_order a t s g z e k))
+same_drilled law n t u s r (not_summed h bad) (not_summed k worse) = same_answers law (drill_text n) [] 4294967295 in_order t u s r h k
 
 -- ---- the outcome
 
 -- what an order comes to on a text
-abbrev Fulfils : Order → (bytes text : List ℕ) → Status → Type 0
-Fulfils (Executes limit numbers) bytes text status = IsAnswered bytes numbers limit text status
-Fulfils Tests bytes text status = IsTested bytes text status
-Fulfils Displays bytes text status = IsShown bytes text status
+abbrev Fulfils : Order → (bytes : List ℕ) (turns : TurnLists) (text : List ℕ) → Status → Type 0
+Fulfils (Executes limit numbers) bytes turns text status = IsAnswered bytes numbers limit turns text status
+Fulfils (Follows limit numbers) bytes turns text status = IsAnswered bytes numbers limit in_order text status
+Fulfils Tests bytes turns text status = IsTested bytes text status
+Fulfils Displays bytes turns text status = IsShown bytes text status
 
 -- an outcome: refused words, a text that is too long, an order that was carried out, or a drill
-data Found (words : List (List ℕ)) (bytes text : List ℕ) (status : Status) : Type 0 where
-  unknown : RefusesWords words → text ≡ usage_text → status ≡ Words → Found words bytes text status
-  cut : NeedsText words → 1048576 < length bytes → text ≡ refused_text first_place (codes "text") → status ≡ Refused → Found words bytes text status
-  done : (o : Order) → Ordered words o → length bytes ≤ 1048576 → Fulfils o bytes text status → Found words bytes text status
-  drilled : (tasks workers : ℕ) → DrillWords words tasks workers → IsDrilled tasks text status → Found words bytes text status
+data Found (words : List (List ℕ)) (bytes : List ℕ) (turns : TurnLists) (text : List ℕ) (status : Status) : Type 0 where
+  unknown : RefusesWords words → text ≡ usage_text → status ≡ Words → Found words bytes turns text status
+  cut : NeedsText words → 1048576 < length bytes → text ≡ refused_text first_place (codes "text") → status ≡ Refused → Found words bytes turns text status
+  done : (o : Order) → Ordered words o → length bytes ≤ 1048576 → Fulfils o bytes turns text status → Found words bytes turns text status
+  drilled : (tasks workers : ℕ) → DrillWords words tasks workers → IsDrilled tasks text status → Found words bytes turns text status
 
-found : (words : List (List ℕ)) (bytes text : List ℕ) (status : Status) → IsOutcome words bytes text status → Found words bytes text status
-found words bytes text status (usage never a b) = unknown never a b
-found words bytes text status (too_long named more a b) = cut named more a b
-found words bytes text status (run w l xs named within h) = done (Executes l xs) (runs w l xs named refl) within h
-found words bytes text status (serial l xs named within h) = done (Executes l xs) (serials l xs named refl) within h
-found words bytes text status (check named within h) = done Tests (checks named refl) within h
-found words bytes text status (show named within h) = done Displays (shows named refl) within h
-found words bytes text status (drill n w named h) = drilled n w named h
+found : (words : List (List ℕ)) (bytes : List ℕ) (turns : TurnLists) (text : List ℕ) (status : Status) → IsOutcome words bytes turns text status → Found words bytes turns text status
+found words bytes turns text status (usage never a b) = unknown never a b
+found words bytes turns text status (too_long named more a b) = cut named more a b
+found words bytes turns text status (run w l xs named within h) = done (Executes l xs) (runs w l xs named refl) within h
+found words bytes turns text status (serial l xs named within h) = done (Follows l xs) (serials l xs named refl) within h
+found words bytes turns text status (check named within h) = done Tests (checks named refl) within h
+found words bytes turns text status (show named within h) = done Displays (shows named refl) within h
+found words bytes turns text status (drill n w named h) = drilled n w named h
 
-same_fulfilled : Parses → (o : Order) (bytes t u : List ℕ) (s r : Status) → Fulfils o bytes t s → Fulfils o bytes u r → SameOutcome t s u r
-same_fulfilled law (Executes limit numbers) bytes t u s r h k = same_answers law bytes numbers limit t u s r h k
-same_fulfilled law Tests bytes t u s r h k = same_tested law bytes t u s r h k
-same_fulfilled law Displays bytes t u s r h k = same_shown law bytes t u s r h k
+same_fulfilled : Parses → (o : Order) (bytes : List ℕ) (turns : TurnLists) (t u : List ℕ) (s r : Status) → Fulfils o bytes turns t s → Fulfils o bytes turns u r → SameOutcome t s u r
+same_fulfilled law (Executes limit numbers) bytes turns t u s r h k = same_answers law bytes numbers limit turns t u s r h k
+same_fulfilled law (Follows limit numbers) bytes turns t u s r h k = same_answers law bytes numbers limit in_order t u s r h k
+same_fulfilled law Tests bytes turns t u s r h k = same_tested law bytes t u s r h k
+same_fulfilled law Displays bytes turns t u s r h k = same_shown law bytes t u s r h k
 
-same_found : Parses → (words : List (List ℕ)) (bytes t u : List ℕ) (s r : Status) → Found words bytes t s → Found words bytes u r → SameOutcome t s u r
-same_found law words bytes t u s r (unknown never a b) (unknown never' c d) = record { text = a ∙ sym c; status = b ∙ sym d }
-same_found law words bytes t u s r (unknown never a b) (cut named more c d) = absurd (never (on_text named))
-same_found law words bytes t u s r (unknown never a b) (done o h within k) = absurd (never (on_text (needs words o h)))
-same_found law words bytes t u s r (cut named more a b) (unknown never c d) = absurd (never (on_text named))
-same_found law words bytes t u s r (cut named more a b) (cut named' more' c d) = record { text = a ∙ sym c; status = b ∙ sym d }
-same_found law words bytes t u s r (cut named more a b) (done o h within k) = absurd (omega arith)
-same_found law words bytes t u s r (done o h within k) (unknown never c d) = absurd (never (on_text (needs words o h)))
-same_found law words bytes t u s r (done o h within k) (cut named more c d) = absurd (omega arith)
-same_found law words bytes t u s r (done o h within k) (done o' h' within' k') =
-    let P : Order → Type 0 = λ x. Fulfils x bytes t s in
-    same_fulfilled law o' bytes t u s r (subst P (one_order words o o' h h') k) k'
-same_found law words bytes t u s r (unknown never a b) (drilled n w h k) = absurd (never (to_drill n w h))
-same_found law words bytes t u s r (cut named more a b) (drilled n w h k) = absurd (drill_only words n w h named)
-same_found law words bytes t u s r (done o h within k) (drilled n w h' k') = absurd (drill_only words n w h' (needs words o h))
-same_found law words bytes t u s r (drilled n w h k) (unknown never a b) = absurd (never (to_drill n w h))
-same_found law words bytes t u s r (drilled n w h k) (cut named more a b) = absurd (drill_only words n w h named)
-same_found law words bytes t u s r (drilled n w h k) (done o h' within k') = absurd (drill_only words n w h (needs words o h'))
-same_found law words bytes t u s r (drilled n w h k) (drilled m v h' k') =
+same_found : Parses → (words : List (List ℕ)) (bytes : List ℕ) (turns : TurnLists) (t u : List ℕ) (s r : Status) → Found words bytes turns t s → Found words bytes turns u r → SameOutcome t s u r
+same_found law words bytes turns t u s r (unknown never a b) (unknown never' c d) = record { text = a ∙ sym c; status = b ∙ sym d }
+same_found law words bytes turns t u s r (unknown never a b) (cut named more c d) = absurd (never (on_text named))
+same_found law words bytes turns t u s r (unknown never a b) (done o h within k) = absurd (never (on_text (needs words o h)))
+same_found law words bytes turns t u s r (cut named more a b) (unknown never c d) = absurd (never (on_text named))
+same_found law words bytes turns t u s r (cut named more a b) (cut named' more' c d) = record { text = a ∙ sym c; status = b ∙ sym d }
+same_found law words bytes turns t u s r (cut named more a b) (done o h within k) = absurd (omega arith)
+same_found law words bytes turns t u s r (done o h within k) (unknown never c d) = absurd (never (on_text (needs words o h)))
+same_found law words bytes turns t u s r (done o h within k) (cut named more c d) = absurd (omega arith)
+same_found law words bytes turns t u s r (done o h within k) (done o' h' within' k') =
+    let P : Order → Type 0 = λ x. Fulfils x bytes turns t s in
+    same_fulfilled law o' bytes turns t u s r (subst P (one_order words o o' h h') k) k'
+same_found law words bytes turns t u s r (unknown never a b) (drilled n w h k) = absurd (never (to_drill n w h))
+same_found law words bytes turns t u s r (cut named more a b) (drilled n w h k) = absurd (drill_only words n w h named)
+same_found law words bytes turns t u s r (done o h within k) (drilled n w h' k') = absurd (drill_only words n w h' (needs words o h))
+same_found law words bytes turns t u s r (drilled n w h k) (unknown never a b) = absurd (never (to_drill n w h))
+same_found law words bytes turns t u s r (drilled n w h k) (cut named more a b) = absurd (drill_only words n w h named)
+same_found law words bytes turns t u s r (drilled n w h k) (done o h' within k') = absurd (drill_only words n w h (needs words o h'))
+same_found law words bytes turns t u s r (drilled n w h k) (drilled m v h' k') =
     let P : ℕ → Type 0 = λ z. IsDrilled z t s in same_drilled law m t u s r (subst P (one_drill words n m w v h h') k) k'
 
-pub same_outcomes : Parses → (words : List (List ℕ)) (bytes : List ℕ) (t u : List ℕ) (s r : Status) → IsOutcome words bytes t s → IsOutcome words bytes u r →
+pub same_outcomes : Parses → (words : List (List ℕ)) (bytes : List ℕ) (turns : TurnLists) (t u : List ℕ) (s r : Status) → IsOutcome words bytes turns t s → IsOutcome words bytes turns u r →
     SameOutcome t s u r
-same_outcomes law words bytes t u s r h k = same_found law words bytes t u s r (found words bytes t s h) (found words bytes u r k)
+same_outcomes law words bytes turns t u s r h k = same_found law words bytes turns t u s r (found words bytes turns t s h) (found words bytes turns u r k)
 
 -- a call that ended with an outcome, over a source that told its bytes, ended with the one outcome
 wrote_all : (words : List (List ℕ)) (bytes : List ℕ) (status : Status) (before after : Moment) → before.left ≡ Some bytes →
-    WroteAll words status before after → (text : List ℕ) × IsOutcome words bytes text status
+    (h : WroteAll words status before after) → IsOutcome words bytes h.answers.comes.turns h.text status
 wrote_all words bytes status before after told h =
-    let P : List ℕ → Type 0 = λ b. IsOutcome words b h.text status in
-    (h.text, subst P (h.answers.comes.told bytes told) h.answers.comes.outcome)
+    let P : List ℕ → Type 0 = λ b. IsOutcome words b h.answers.comes.turns h.text status in
+    subst P (h.answers.comes.told bytes told) h.answers.comes.outcome
 
-ended : (one : (bytes : List ℕ) (words : List (List ℕ)) (t u : List ℕ) (s r : Status) → IsOutcome words bytes t s → IsOutcome words bytes u r →
+ended : (one : (words : List (List ℕ)) (bytes : List ℕ) (turns : TurnLists) (t u : List ℕ) (s r : Status) → IsOutcome words bytes turns t s → IsOutcome words bytes turns u r →
     SameOutcome t s u r) (words : List (List ℕ)) (bytes : List ℕ) (room : ℕ) (status : Status) (before after : Moment) → before.left ≡ Some bytes →
-    WroteAll words status before after → (text : List ℕ) (wanted : Status) → IsOutcome words bytes text wanted → length text ≤ room →
+    (h : WroteAll words status before after) → (text : List ℕ) (wanted : Status) → IsOutcome words bytes h.answers.comes.turns text wanted → length text ≤ room →
     (status ≡ wanted) ⊎ (status ≡ Memory)
 ended one words bytes room status before after told h text wanted outcome fits =
     let here = wrote_all words bytes status before after told h in
-    inl (one bytes words here.0 text status wanted here.1 outcome).status
+    inl (one words bytes h.answers.comes.turns h.text text status wanted here outcome).status
 
-part : (one : (bytes : List ℕ) (words : List (List ℕ)) (t u : List ℕ) (s r : Status) → IsOutcome words bytes t s → IsOutcome words bytes u r →
+part : (one : (words : List (List ℕ)) (bytes : List ℕ) (turns : TurnLists) (t u : List ℕ) (s r : Status) → IsOutcome words bytes turns t s → IsOutcome words bytes turns u r →
     SameOutcome t s u r) (words : List (List ℕ)) (bytes : List ℕ) (room : ℕ) (before after : Moment) → before.left ≡ Some bytes → before.room ≡ Some room →
-    WrotePart words before after → (text : List ℕ) (wanted : Status) → IsOutcome words bytes text wanted → length text ≤ room → ⊥
+    (h : WrotePart words before after) → (text : List ℕ) (wanted : Status) → IsOutcome words bytes h.comes.turns text wanted → length text ≤ room → ⊥
 part one words bytes room before after told roomy h text wanted outcome fits =
-    let P : List ℕ → Type 0 = λ b. IsOutcome words b h.text h.status in
+    let P : List ℕ → Type 0 = λ b. IsOutcome words b h.comes.turns h.text h.status in
     let here = subst P (h.comes.told bytes told) h.comes.outcome in
-    let same = (one bytes words h.text text h.status wanted here outcome).text in
+    let same = (one words bytes h.comes.turns h.text text h.status wanted here outcome).text in
     let short = h.short room roomy in
     let less : room < length text = subst (λ z. room < length z) same short in
     omega arith
 
-pub completes : ((words : List (List ℕ)) (bytes t u : List ℕ) (s r : Status) → IsOutcome words bytes t s → IsOutcome words bytes u r → SameOutcome t s u r) →
+pub completes : ((words : List (List ℕ)) (bytes : List ℕ) (turns : TurnLists) (t u : List ℕ) (s r : Status) → IsOutcome words bytes turns t s
+    → IsOutcome words bytes turns u r → SameOutcome t s u r) →
     (words : List (List ℕ)) (bytes : List ℕ) (room : ℕ) (status : Status) (before after : Moment) → before.left ≡ Some bytes → before.room ≡ Some room →
     before.source_faults ≡ 0 → after.source_faults ≡ 0 → Headline words status before after → Completes words bytes room status
 completes one words bytes room Good before after told roomy f g h =
-    record { reads = λ e. cc; ends = ended (λ b w. one w b) words bytes room Good before after told h }
+    record { reads = λ e. cc; turns = h.answers.comes.turns; ends = ended one words bytes room Good before after told h }
 completes one words bytes room Fault before after told roomy f g h =
-    record { reads = λ e. cc; ends = ended (λ b w. one w b) words bytes room Fault before after told h }
+    record { reads = λ e. cc; turns = h.answers.comes.turns; ends = ended one words bytes room Fault before after told h }
 completes one words bytes room Refused before after told roomy f g h =
-    record { reads = λ e. cc; ends = ended (λ b w. one w b) words bytes room Refused before after told h }
+    record { reads = λ e. cc; turns = h.answers.comes.turns; ends = ended one words bytes room Refused before after told h }
 completes one words bytes room Words before after told roomy f g h =
-    record { reads = λ e. cc; ends = ended (λ b w. one w b) words bytes room Words before after told h }
+    record { reads = λ e. cc; turns = h.answers.comes.turns; ends = ended one words bytes room Words before after told h }
 completes one words bytes room Numbers before after told roomy f g h =
-    record { reads = λ e. cc; ends = ended (λ b w. one w b) words bytes room Numbers before after told h }
-completes one words bytes room Memory before after told roomy f g h = record { reads = λ e. cc; ends = λ text wanted outcome fits. inr refl }
+    record { reads = λ e. cc; turns = h.answers.comes.turns; ends = ended one words bytes room Numbers before after told h }
+completes one words bytes room Memory before after told roomy f g h = record { reads = λ e. cc; turns = in_order; ends = λ text wanted outcome fits. inr refl }
 completes one words bytes room Writing before after told roomy f g h =
     record {
       reads = λ e. cc;
+      turns = h.comes.turns;
       ends =
-          λ text wanted outcome fits. absurd (part (λ b w. one w b) words bytes room before after told roomy h text wanted outcome fits);
+          λ text wanted outcome fits. absurd (part one words bytes room before after told roomy h text wanted outcome fits);
     }
 completes one words bytes room Reading before after told roomy f g h =
     absurd (elim h.rose [ inl p ↦ omega arith | inr q ↦ omega arith ])

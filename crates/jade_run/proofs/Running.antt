@@ -13,24 +13,26 @@ use Rattle.jade_run.specs.declared.answer.Ready.{Ready}
 use Rattle.jade_run.specs.declared.answer.Ready.TheVariants.{Program, Answered}
 use Rattle.jade_run.specs.declared.answer.Answer.{Answer as AnswerOf}
 use Rattle.jade_run.specs.declared.status.Status.{Status}
-use Rattle.jade_run.specs.Outcome.{fault_key, Shows}
+use Rattle.jade_run.specs.Outcome.{fault_key, Shows, TurnLists}
 use Rattle.jade_run.specs.steps.Preparing.{IsReady, IsSettled}
 
 -- the report of a run of the program that was compiled is that of the program
-pub reported : (r : Report) (plan : RunPlan) (p q : CheckedProgram) (ns : List ℤ) (limit : ℕ) → r ≡ report (program plan.program) plan.numbers plan.limit →
-    plan ≡ record { program = q.program; numbers = ns; limit = limit } → q ≡ p → r ≡ report (program p.program) ns limit
-reported r plan p q ns limit e f g =
-    e ∙ ap (λ (x : RunPlan). report (program x.program) x.numbers x.limit) f ∙ ap (λ (x : CheckedProgram). report (program x.program) ns limit) g
+pub reported : (r : Report) (plan : RunPlan) (p q : CheckedProgram) (ns : List ℤ) (limit : ℕ) (turns : TurnLists)
+    → r ≡ report (program plan.program) plan.numbers plan.limit turns →
+    plan ≡ record { program = q.program; numbers = ns; limit = limit } → q ≡ p → r ≡ report (program p.program) ns limit turns
+reported r plan p q ns limit turns e f g =
+    e ∙ ap (λ (x : RunPlan). report (program x.program) x.numbers x.limit turns) f ∙ ap (λ (x : CheckedProgram). report (program x.program) ns limit turns) g
 
-pub faults_ascend : (r : Report) (p : AbstractProgram) (ns : List ℤ) (limit : ℕ) → r ≡ report p ns limit →
-    Ascends (map fault_key (report p ns limit).faults) → Ascends (map fault_key r.faults)
-faults_ascend r p ns limit e h = let P : Report → Type 0 = λ x. Ascends (map fault_key x.faults) in subst P (sym e) h
+pub faults_ascend : (r : Report) (p : AbstractProgram) (ns : List ℤ) (limit : ℕ) (turns : TurnLists) → r ≡ report p ns limit turns →
+    Ascends (map fault_key (report p ns limit turns).faults) → Ascends (map fault_key r.faults)
+faults_ascend r p ns limit turns e h = let P : Report → Type 0 = λ x. Ascends (map fault_key x.faults) in subst P (sym e) h
 
 -- what shows the answer that the report tells shows the program's
-pub shows_answer : (r : Report) (p q s : CheckedProgram) (ns : List ℤ) (limit : ℕ) (text : List ℕ) (status : Status) → r ≡ report (program p.program) ns limit →
-    q ≡ p → s ≡ q → ReportTells (program p.program) ns limit → Shows (program s.program) (report_answer limit r) text status →
-    Shows (program p.program) (answer (program p.program) ns limit) text status
-shows_answer r p q s ns limit text status e f g t h =
+pub shows_answer : (r : Report) (p q s : CheckedProgram) (ns : List ℤ) (limit : ℕ) (turns : TurnLists) (text : List ℕ) (status : Status)
+    → r ≡ report (program p.program) ns limit turns →
+    q ≡ p → s ≡ q → ReportTells (program p.program) ns limit turns → Shows (program s.program) (report_answer limit r) text status →
+    Shows (program p.program) (answer (program p.program) ns limit turns) text status
+shows_answer r p q s ns limit turns text status e f g t h =
     let P : Answer → Type 0 = λ a. Shows (program p.program) a text status in
     let Q : CheckedProgram → Type 0 = λ x. Shows (program x.program) (report_answer limit r) text status in
     subst P (ap (report_answer limit) e ∙ t.same) (subst Q (g ∙ f) h)

@@ -10,7 +10,7 @@ use Rattle.std.proofs.lemmas.Option.{slice_get_within, get_or_from_slice_get}
 use Rattle.jade_syntax.specs.declared.tree.Item.{Item}
 use Rattle.jade_syntax.specs.Limits.{within_limits, few_cells}
 use Rattle.jade_syntax.specs.Objects.{sizes}
-use Rattle.jade_meaning.specs.Serial.{Store, Deed, DidRead, DidWrite, DidCreate, DidEnd, Mark, with_cell, done_to, after, zeros}
+use Rattle.jade_meaning.specs.Serial.{Store, Deed, DidTurn, DidRead, DidWrite, DidCreate, DidEnd, Mark, with_cell, done_to, after, zeros}
 use Rattle.jade_run.specs.Sums.{sum_of, sum_of_cells}
 use Rattle.jade_run.proofs.Signed.{and_second}
 
@@ -21,6 +21,7 @@ kept (x ∷ xs) zero c v = ap (λ n. n ∷ map length xs) (length-set x c v)
 kept (x ∷ xs) (suc o) c v = ap (λ ns. length x ∷ ns) (kept xs o c v)
 
 deed_keeps : (d : Deed) (store : Store) → map length (done_to d store) ≡ map length store
+deed_keeps (DidTurn o) store = refl
 deed_keeps (DidRead o c v) store = refl
 deed_keeps (DidWrite o c v) store = kept store o c v
 deed_keeps (DidCreate t n) store = refl

@@ -17,7 +17,7 @@ use Rattle.jade_run.specs.declared.words.Command.TheVariants.{Run, Serial, Check
 use Rattle.jade_run.specs.declared.words.WordsError.{WordsError}
 use Rattle.jade_run.specs.declared.words.WordsError.TheVariants.{Usage}
 use Rattle.jade_run.specs.Headline.{Answers, Stops}
-use Rattle.jade_run.specs.Outcome.{IsGood, Shows, answer_status}
+use Rattle.jade_run.specs.Outcome.{BySomeTurns, IsGood, Shows, answer_status}
 use Rattle.jade_run.specs.steps.Drilling.{ShowsSum}
 use Rattle.jade_run.specs.steps.Preparing.{IsSettled}
 use Rattle.jade_run.specs.Witnessed.{seen_with, SawOne, SawRun, SawCommand, SawWords, SawOf, Saw}
@@ -43,12 +43,12 @@ one bytes ns limit tree before after g e = record {
 
 -- the run of a program that shows its answer
 pub program_saw : (bytes : List ℕ) (ns : List ℤ) (limit : ℕ) (tree : Program) (r : Result AnswerOf NoMemory) (before after : Option (List RunPlan))
-    → IsGood bytes tree → IfOk r (λ a. Shows (program tree) (answer (program tree) ns limit) a.text.items a.status)
+    → IsGood bytes tree → IfOk r (λ a. BySomeTurns (λ turns. Shows (program tree) (answer (program tree) ns limit turns) a.text.items a.status))
     → IfOk r (λ a. after ≡ seen_with before (record { program = tree; numbers = ns; limit = limit }))
     → IfOk r (λ a. SawRun bytes ns limit a.status before after)
 program_saw bytes ns limit tree (Ok a) before after g h e =
-    subst (λ s. SawRun bytes ns limit s before after) (sym h.ended)
-    (answer_saw bytes ns limit (answer (program tree) ns limit) before after (one bytes ns limit tree before after g e))
+    subst (λ s. SawRun bytes ns limit s before after) (sym h.1.ended)
+    (answer_saw bytes ns limit (answer (program tree) ns limit h.0) before after (one bytes ns limit tree before after g e))
 program_saw bytes ns limit tree (Err m) before after g h e = tt
 
 -- the run of a drill's program that shows the sum of its cells
@@ -60,12 +60,12 @@ sum_saw p tasks (Faulted path blame) bytes text status ns limit before after h o
 
 pub drill_saw : (tasks : ℕ) (bytes : List ℕ) (tree : Program) (r : Result AnswerOf NoMemory) (before after : Option (List RunPlan))
     → bytes ≡ drill_text tasks → IsGood bytes tree
-    → IfOk r (λ a. ShowsSum (program tree) tasks (answer (program tree) [] 4294967295) a.text.items a.status)
+    → IfOk r (λ a. BySomeTurns (λ turns. ShowsSum (program tree) tasks (answer (program tree) [] 4294967295 turns) a.text.items a.status))
     → IfOk r (λ a. after ≡ seen_with before (record { program = tree; numbers = []; limit = 4294967295 }))
     → IfOk r (λ a. SawRun (drill_text tasks) [] 4294967295 a.status before after)
 drill_saw tasks bytes tree (Ok a) before after made g h e =
     let P : List ℕ → Type 0 = λ b. IsGood b tree in
-    sum_saw (program tree) tasks (answer (program tree) [] 4294967295) (drill_text tasks) a.text.items a.status [] 4294967295 before after h
+    sum_saw (program tree) tasks (answer (program tree) [] 4294967295 h.0) (drill_text tasks) a.text.items a.status [] 4294967295 before after h.1
     (one (drill_text tasks) [] 4294967295 tree before after (subst P made g) e)
 drill_saw tasks bytes tree (Err m) before after made g h e = tt
 
@@ -163,7 +163,7 @@ written words left Memory before after w h = absurd w
 pub wrote_saw : (words : List (List ℕ)) (left rest : Option (List ℕ)) (text : List ℕ) (status : Status) (before after : Option (List RunPlan))
     → Answers words left rest text status → SawOf words left status before after → Saw words left status before after
 wrote_saw words left rest text status before after a h =
-    written words left status before after (outcome_written _ _ _ _ a.comes.outcome) h
+    written words left status before after (outcome_written _ _ _ _ _ a.comes.outcome) h
 
 -- a call that was stopped before there was an outcome
 pub stopped_saw : (words : List (List ℕ)) (left : Option (List ℕ)) (status : Status) (old new : ℕ) (before after : Option (List RunPlan))

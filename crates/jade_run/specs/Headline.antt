@@ -3,7 +3,7 @@ use Rattle.std.specs.Prelude.{◌≡◌, ℕ, ◌<◌, List, length, take, drop,
 use Rattle.jade_base.specs.Bytes.{Rose, taken_with}
 use Rattle.jade_run.specs.declared.status.Status.{Status}
 use Rattle.jade_run.specs.declared.status.Status.TheVariants.{Good, Fault, Refused, Words, Numbers, Reading, Writing, Memory}
-use Rattle.jade_run.specs.Outcome.{IsOutcome}
+use Rattle.jade_run.specs.Outcome.{IsOutcome, TurnLists}
 use Rattle.jade_run.specs.Words.{NeedsText, NeedsNoText}
 
 -- what a source and a sink tell at one moment: the bytes left, the bytes taken and the room where they tell them, and their counts of faults
@@ -18,11 +18,12 @@ pub record Moment : Type 0 where
 abbrev pub most_read : ℕ
 most_read = 1048577
 
--- a text that is the outcome of the words and of the bytes that the source had; where it tells no bytes, of some bytes
+-- a text that is the outcome of the words and of the bytes that the source had, for some turn lists; where it tells no bytes, of some bytes
 pub record Comes (words : List (List ℕ)) (left : Option (List ℕ)) (text : List ℕ) (status : Status) : Type 0 where
   pub bytes : List ℕ
   pub told : (b : List ℕ) → left ≡ Some b → bytes ≡ b
-  pub outcome : IsOutcome words bytes text status
+  pub turns : TurnLists
+  pub outcome : IsOutcome words bytes turns text status
 
 -- the outcome of the words and of what a source had left, and what it has left then: nothing, unless the text was too long, where the words need a text;
 -- and else what it had

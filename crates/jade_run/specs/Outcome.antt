@@ -1,5 +1,5 @@
 -- What a list of words and a text come to: a text to write, and a status.
-use Rattle.std.specs.Prelude.{◌≡◌, ℕ, ◌<◌, ◌≤◌, List, [], length, codes, Some, ℤ}
+use Rattle.std.specs.Prelude.{◌≡◌, ℕ, ◌<◌, ◌≤◌, List, [], length, codes, Some, ℤ, false}
 use Rattle.jade_base.specs.Places.{key}
 use Rattle.jade_base.specs.declared.place.Pos.{Pos}
 use Rattle.jade_base.specs.declared.report.FaultNote.{FaultNote}
@@ -19,7 +19,9 @@ use Rattle.jade_syntax.specs.PlacedImage.{placed_program}
 use Rattle.jade_syntax.specs.StaticFaults.{static_faults, first_fault}
 use Rattle.jade_syntax.specs.declared.static_fault.StaticKind.{StaticKind}
 use Rattle.jade_meaning.specs.Answer.{Answer, Faulted, Cells, answer}
-use Rattle.jade_meaning.specs.Serial.{Store}
+use Rattle.jade_meaning.specs.Serial.{Store, Path}
+use Rattle.jade_meaning.specs.Turns.{in_order}
+use Rattle.jade_meaning.specs.Uncommuting.{uses_cm}
 use Rattle.jade_run.specs.declared.status.Status.{Status}
 use Rattle.jade_run.specs.declared.status.Status.TheVariants.{Good, Fault, Refused, Words, Numbers}
 use Rattle.jade_run.specs.declared.words.Command.{Command}
@@ -94,14 +96,27 @@ pub data RefusedFor (bytes : List ℕ) (place : Pos) (why : List ℕ) : Type 0 w
 abbrev pub input_count : Program → ℕ
 input_count tree = length (input_names tree.items)
 
--- what a text of at most 1,048,576 bytes comes to, run with these numbers and a limit: the answer of its program, a word on the count of numbers, or a refusal
-pub data IsAnswered (bytes : List ℕ) (numbers : List ℤ) (limit : ℕ) (text : List ℕ) (status : Status) : Type 0 where
+-- the order in which the tasks that commute on each object take their turns
+abbrev pub TurnLists : Type 0
+TurnLists = ℕ → List Path
+
+-- so it is for some turn lists
+abbrev pub BySomeTurns : (TurnLists → Type 0) → Type 0
+BySomeTurns P = (turns : TurnLists) × P turns
+
+-- what a text of at most 1,048,576 bytes comes to, run with these numbers, a limit and turn lists: the answer of its program, a word on the count of numbers,
+-- or a refusal
+pub data IsAnswered (bytes : List ℕ) (numbers : List ℤ) (limit : ℕ) (turns : TurnLists) (text : List ℕ) (status : Status) : Type 0 where
   answered : (tree : Program) → IsGood bytes tree → length numbers ≡ input_count tree →
-      Shows (program tree) (answer (program tree) numbers limit) text status → IsAnswered bytes numbers limit text status
+      Shows (program tree) (answer (program tree) numbers limit turns) text status → IsAnswered bytes numbers limit turns text status
   miscounted : (tree : Program) → IsGood bytes tree → (length numbers ≡ input_count tree → ⊥) → text ≡ numbers_text (input_count tree) (length numbers) →
-      status ≡ Numbers → IsAnswered bytes numbers limit text status
+      status ≡ Numbers → IsAnswered bytes numbers limit turns text status
   refused : (place : Pos) (why : List ℕ) → RefusedFor bytes place why → text ≡ refused_text place why → status ≡ Refused →
-      IsAnswered bytes numbers limit text status
+      IsAnswered bytes numbers limit turns text status
+
+-- in the program of a text the word `cm` does not stand
+abbrev pub IsPlain : (bytes : List ℕ) → Type 0
+IsPlain bytes = (tree : Program) → IsGood bytes tree → uses_cm (program tree) ≡ false
 
 -- what a text of at most 1,048,576 bytes comes to where it is checked: `ok`, or a refusal
 pub data IsTested (bytes : List ℕ) (text : List ℕ) (status : Status) : Type 0 where
@@ -116,9 +131,9 @@ pub data IsShown (bytes : List ℕ) (text : List ℕ) (status : Status) : Type 0
 -- what a drill of so many tasks comes to: its text, run with no numbers and the greatest limit, told by the sum of all cells; where that run does not come to
 -- cells, what it comes to itself
 pub data IsDrilled (tasks : ℕ) (text : List ℕ) (status : Status) : Type 0 where
-  summed : (tree : Program) → IsGood (drill_text tasks) tree → input_count tree ≡ 0 → (store : Store) → answer (program tree) [] 4294967295 ≡ Cells store →
+  summed : (tree : Program) → IsGood (drill_text tasks) tree → input_count tree ≡ 0 → (store : Store) → answer (program tree) [] 4294967295 in_order ≡ Cells store →
       text ≡ drilled_text tasks (sum_of_cells store) → status ≡ Good → IsDrilled tasks text status
-  not_summed : IsAnswered (drill_text tasks) [] 4294967295 text status → (status ≡ Good → ⊥) → IsDrilled tasks text status
+  not_summed : IsAnswered (drill_text tasks) [] 4294967295 in_order text status → (status ≡ Good → ⊥) → IsDrilled tasks text status
 
 -- an execution has a limit of one step or more, and at most 64 numbers
 abbrev pub IsLimited : Execution → Type 0
@@ -136,26 +151,26 @@ IsAllowed Check = Unit {0}
 IsAllowed Show = Unit {0}
 IsAllowed (Drill tasks workers) = IsCrew workers × ((1 ≤ tasks) × (tasks ≤ 10000))
 
--- what a command comes to on a text of at most 1,048,576 bytes; a drill has its own text
-abbrev pub IsCommanded : Command → (bytes : List ℕ) → (text : List ℕ) → Status → Type 0
-IsCommanded (Run workers e) bytes text status = IsAnswered bytes e.numbers e.limit text status
-IsCommanded (Serial e) bytes text status = IsAnswered bytes e.numbers e.limit text status
-IsCommanded Check bytes text status = IsTested bytes text status
-IsCommanded Show bytes text status = IsShown bytes text status
-IsCommanded (Drill tasks workers) bytes text status = IsDrilled tasks text status
+-- what a command comes to on a text of at most 1,048,576 bytes by turn lists; a drill has its own text, and a serial run the order of creation
+abbrev pub IsCommanded : Command → (bytes : List ℕ) → (turns : TurnLists) → (text : List ℕ) → Status → Type 0
+IsCommanded (Run workers e) bytes turns text status = IsAnswered bytes e.numbers e.limit turns text status
+IsCommanded (Serial e) bytes turns text status = IsAnswered bytes e.numbers e.limit in_order text status
+IsCommanded Check bytes turns text status = IsTested bytes text status
+IsCommanded Show bytes turns text status = IsShown bytes text status
+IsCommanded (Drill tasks workers) bytes turns text status = IsDrilled tasks text status
 
--- what words and a text come to; the words are tested first, then, where they need a text, its length, then the text. A drill comes to the same whatever
+-- what words and a text come to by turn lists, which a serial run does not look at; the words are tested first, then, where they need a text, its length, then the text. A drill comes to the same whatever
 -- the text is
-pub data IsOutcome (words : List (List ℕ)) (bytes : List ℕ) (text : List ℕ) (status : Status) : Type 0 where
-  usage : RefusesWords words → text ≡ usage_text → status ≡ Words → IsOutcome words bytes text status
-  too_long : NeedsText words → 1048576 < length bytes → text ≡ refused_text first_place (codes "text") → status ≡ Refused → IsOutcome words bytes text status
-  run : (workers limit : ℕ) (numbers : List ℤ) → RunWords words workers limit numbers → length bytes ≤ 1048576 → IsAnswered bytes numbers limit text status →
-      IsOutcome words bytes text status
-  serial : (limit : ℕ) (numbers : List ℤ) → SerialWords words limit numbers → length bytes ≤ 1048576 → IsAnswered bytes numbers limit text status →
-      IsOutcome words bytes text status
-  check : CheckWords words → length bytes ≤ 1048576 → IsTested bytes text status → IsOutcome words bytes text status
-  show : ShowWords words → length bytes ≤ 1048576 → IsShown bytes text status → IsOutcome words bytes text status
-  drill : (tasks workers : ℕ) → DrillWords words tasks workers → IsDrilled tasks text status → IsOutcome words bytes text status
+pub data IsOutcome (words : List (List ℕ)) (bytes : List ℕ) (turns : TurnLists) (text : List ℕ) (status : Status) : Type 0 where
+  usage : RefusesWords words → text ≡ usage_text → status ≡ Words → IsOutcome words bytes turns text status
+  too_long : NeedsText words → 1048576 < length bytes → text ≡ refused_text first_place (codes "text") → status ≡ Refused → IsOutcome words bytes turns text status
+  run : (workers limit : ℕ) (numbers : List ℤ) → RunWords words workers limit numbers → length bytes ≤ 1048576 → IsAnswered bytes numbers limit turns text status →
+      IsOutcome words bytes turns text status
+  serial : (limit : ℕ) (numbers : List ℤ) → SerialWords words limit numbers → length bytes ≤ 1048576 → IsAnswered bytes numbers limit in_order text status →
+      IsOutcome words bytes turns text status
+  check : CheckWords words → length bytes ≤ 1048576 → IsTested bytes text status → IsOutcome words bytes turns text status
+  show : ShowWords words → length bytes ≤ 1048576 → IsShown bytes text status → IsOutcome words bytes turns text status
+  drill : (tasks workers : ℕ) → DrillWords words tasks workers → IsDrilled tasks text status → IsOutcome words bytes turns text status
 
 -- two outcomes are the same
 pub record SameOutcome (one : List ℕ) (first : Status) (other : List ℕ) (second : Status) : Type 0 where

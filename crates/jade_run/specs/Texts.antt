@@ -5,7 +5,7 @@ use Rattle.std.specs.List.{join_with_byte}
 use Rattle.jade_base.specs.declared.place.Pos.{Pos}
 use Rattle.jade_base.specs.declared.report.Blame.{Blame}
 use Rattle.jade_base.specs.declared.report.FaultKind.{FaultKind}
-use Rattle.jade_base.specs.declared.report.FaultKind.TheVariants.{Overflow, Zero, Index, Object, Right, Cover, Change, Limit}
+use Rattle.jade_base.specs.declared.report.FaultKind.TheVariants.{Overflow, Zero, Index, Object, Right, Cover, Change, Limit, Commute}
 use Rattle.jade_syntax.specs.Objects.{Label}
 use Rattle.jade_syntax.specs.declared.static_fault.StaticKind.{StaticKind}
 use Rattle.jade_syntax.specs.declared.static_fault.StaticKind.TheVariants as static
@@ -28,6 +28,7 @@ fault_word Right = codes "right"
 fault_word Cover = codes "cover"
 fault_word Change = codes "change"
 fault_word Limit = codes "limit"
+fault_word Commute = codes "commute"
 
 -- what stands before an item of a number in a list whose items a byte joins
 abbrev pub between : (byte number : ℕ) → List ℕ

@@ -2,7 +2,7 @@
 
 ghost use Rattle.std.specs.Prelude.{◌≡◌, ◌≤◌, [], length, IfOk, IfErr, MatchResult, codes};
 ghost use Rattle.jade_run.specs.Headline.{Answers, Headline, Stops};
-ghost use Rattle.jade_run.specs.Outcome.{first_place, IsAllowed, IsCommanded};
+ghost use Rattle.jade_run.specs.Outcome.{first_place, BySomeTurns, IsAllowed, IsCommanded};
 ghost use Rattle.jade_run.specs.Witnessed.{Saw, SawCommand, SawOf};
 ghost use Rattle.jade_run.specs.Words.{NeedsNoText};
 ghost use Rattle.jade_run.specs.Texts.{refused_text, usage_text};
@@ -116,7 +116,7 @@ fn without_text<R: Threads + Wait + Sync, G: Gate, W: Witness>(
 ) -> Result<Answer, Status>
     requires { IsAllowed command.now }
     ensures saw { IfOk result (λ a. SawCommand command.now [] a.status (W.seen witness.old) (W.seen witness.new)) }
-    ensures answer { IfOk result (λ a. IsCommanded command.now [] a.text.items a.status) }
+    ensures answer { IfOk result (λ a. BySomeTurns (λ turns. IsCommanded command.now [] turns a.text.items a.status)) }
     ensures memory { IfErr result (λ s. s ≡ Status.Memory) }
 {
     match of_text(rt, alloc, command, &[], gate, witness) {
@@ -137,7 +137,7 @@ fn of_text<R: Threads + Wait + Sync, G: Gate, W: Witness>(
     requires within { length text.now ≤ 1048576 }
     requires allowed { IsAllowed command.now }
     ensures saw { IfOk result (λ a. SawCommand command.now text.now a.status (W.seen witness.old) (W.seen witness.new)) }
-    ensures answer { IfOk result (λ a. IsCommanded command.now text.now a.text.items a.status) }
+    ensures answer { IfOk result (λ a. BySomeTurns (λ turns. IsCommanded command.now text.now turns a.text.items a.status)) }
 {
     match command {
         Command::Run(workers, execution) => {

@@ -7,19 +7,21 @@ ghost use Rattle.jade_syntax.specs.Objects.{input_names};
 ghost use Rattle.jade_meaning.specs.Answer.{answer};
 ghost use Rattle.jade_meaning.specs.Report.{report};
 ghost use Rattle.jade_meaning.specs.ReportAnswer.{report_answer};
-ghost use Rattle.jade_run.specs.Outcome.{IsCrew, IsDrilled};
+ghost use Rattle.jade_meaning.specs.Turns.{turns_in};
+ghost use Rattle.jade_run.specs.Outcome.{BySomeTurns, IsCrew, IsDrilled};
 ghost use Rattle.jade_run.specs.Witnessed.{seen_with, SawRun};
 ghost use Rattle.jade_run.specs.steps.Drilling.{ShowsSum};
 ghost use Rattle.jade_gen.specs.Drill.{drill_text};
 
 use crate::answer::{Answer, Ready, prepare};
+use crate::laws::drills_are_plain;
 use crate::run::answer_of;
 use crate::sums::total;
 use crate::witness::Witness;
 use crate::{Status, texts};
 use jade_base::Memory;
 use jade_gen::drill_text;
-use jade_meaning::laws::{report_ascends, report_tells};
+use jade_meaning::laws::{report_ascends, report_tells, runs_plainly, without_cm};
 use jade_syntax::Checked;
 use object_table::Ran;
 use std::alloc::Global;
@@ -33,9 +35,10 @@ const MOST_STEPS: u32 = u32::MAX;
 
 /// What the run of a drill is answered with: a fault as that of any run, or else the sum of all cells.
 fn sum_of_run(alloc: Global, checked: &Checked, tasks: u32, ran: Ran<'_>) -> Result<Answer, Memory>
-    requires few { sum_by length (report (program ran.plan.program) ran.plan.numbers ran.plan.limit).objects ≤ 1048576 }
+    requires few { sum_by length (report (program ran.plan.program) ran.plan.numbers ran.plan.limit (turns_in ran.report.turns)).objects ≤ 1048576 }
     ensures { IfOk result (λ a. ShowsSum (program checked.now.program) tasks
-        (report_answer 4294967295 (report (program ran.entry.plan.program) ran.entry.plan.numbers ran.entry.plan.limit)) a.text.items a.status) }
+        (report_answer 4294967295 (report (program ran.entry.plan.program) ran.entry.plan.numbers ran.entry.plan.limit (turns_in ran.entry.report.turns)))
+        a.text.items a.status) }
 {
     match ran.cells(MOST_STEPS) {
         Some(cells) => {
@@ -67,7 +70,7 @@ fn drill_checked<R: Threads + Wait + Sync, G: Gate, W: Witness>(
     ensures saw { IfOk result (λ a. W.seen witness.new
         ≡ seen_with (W.seen witness.old) (record { program = checked.program; numbers = []; limit = 4294967295 })) }
     ensures answer { IfOk result
-        (λ a. ShowsSum (program checked.program) tasks (answer (program checked.program) [] 4294967295) a.text.items a.status) }
+        (λ a. BySomeTurns (λ turns. ShowsSum (program checked.program) tasks (answer (program checked.program) [] 4294967295 turns) a.text.items a.status)) }
 {
     report_tells();
     let compiled = compile(alloc, checked)?;
@@ -94,6 +97,9 @@ pub fn run_drill<R: Threads + Wait + Sync, G: Gate, W: Witness>(
     ensures saw { IfOk result (λ a. SawRun (drill_text tasks) [] 4294967295 a.status (W.seen witness.old) (W.seen witness.new)) }
     ensures answer { IfOk result (λ a. IsDrilled tasks a.text.items a.status) }
 {
+    drills_are_plain();
+    without_cm();
+    runs_plainly();
     let text = drill_text(alloc, tasks)?;
     let ready = prepare(alloc, &text, &[])?;
     match ready {

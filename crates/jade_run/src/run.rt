@@ -7,8 +7,9 @@ ghost use Rattle.jade_syntax.specs.Objects.{input_names};
 ghost use Rattle.jade_meaning.specs.Answer.{answer, Faulted, Cells};
 ghost use Rattle.jade_meaning.specs.Report.{Ascends, report};
 ghost use Rattle.jade_meaning.specs.ReportAnswer.{report_answer, first_note, step_over};
+ghost use Rattle.jade_meaning.specs.Turns.{in_order, turns_in};
 ghost use Rattle.serial_machine.specs.Answers.{told};
-ghost use Rattle.jade_run.specs.Outcome.{fault_key, IsAnswered, IsCrew, Shows};
+ghost use Rattle.jade_run.specs.Outcome.{fault_key, BySomeTurns, IsAnswered, IsCrew, Shows};
 ghost use Rattle.jade_run.specs.Witnessed.{seen_with, SawRun};
 
 use crate::answer::{Answer, Ready, prepare};
@@ -103,7 +104,8 @@ fn answer_of_run(
     limit: u32,
 ) -> Result<Answer, Memory>
     ensures { IfOk result (λ a. Shows (program checked.now.program)
-        (report_answer limit (report (program ran.entry.plan.program) ran.entry.plan.numbers ran.entry.plan.limit)) a.text.items a.status) }
+        (report_answer limit (report (program ran.entry.plan.program) ran.entry.plan.numbers ran.entry.plan.limit (turns_in ran.entry.report.turns)))
+        a.text.items a.status) }
 {
     match ran.cells(limit) {
         Some(cells) => {
@@ -136,8 +138,8 @@ fn shown(alloc: Global, checked: &Checked, answer: &RunAnswer) -> Result<Answer,
     }
 }
 
-/// What a program comes to with these numbers, where so many workers run its tasks. The witness is
-/// shown what the run did.
+/// What a program comes to with these numbers, where so many workers run its tasks; the tasks that
+/// commute took their turns in some order. The witness is shown what the run did.
 fn run_by_workers<R: Threads + Wait + Sync, G: Gate, W: Witness>(
     rt: &R,
     alloc: Global,
@@ -152,7 +154,8 @@ fn run_by_workers<R: Threads + Wait + Sync, G: Gate, W: Witness>(
     requires crew { IsCrew workers }
     ensures saw { IfOk result (λ a. W.seen witness.new
         ≡ seen_with (W.seen witness.old) (record { program = checked.program; numbers = numbers.now; limit = limit })) }
-    ensures answer { IfOk result (λ a. Shows (program checked.program) (answer (program checked.program) numbers.now limit) a.text.items a.status) }
+    ensures answer { IfOk result
+        (λ a. BySomeTurns (λ turns. Shows (program checked.program) (answer (program checked.program) numbers.now limit turns) a.text.items a.status)) }
 {
     report_tells();
     let compiled = compile(alloc, checked)?;
@@ -163,7 +166,7 @@ fn run_by_workers<R: Threads + Wait + Sync, G: Gate, W: Witness>(
 }
 
 /// What a program comes to with these numbers: its code is run serially, up to where the answer is
-/// known.
+/// known. The tasks that commute take their turns in the order of creation.
 fn run_serially(
     alloc: Global,
     checked: Checked,
@@ -171,7 +174,7 @@ fn run_serially(
     limit: u32,
 ) -> Result<Answer, Memory>
     requires { length numbers.now ≡ length (input_names checked.program.items) }
-    ensures { IfOk result (λ a. Shows (program checked.program) (answer (program checked.program) numbers.now limit) a.text.items a.status) }
+    ensures { IfOk result (λ a. Shows (program checked.program) (answer (program checked.program) numbers.now limit in_order) a.text.items a.status) }
 {
     let compiled = compile(alloc, checked)?;
     let answer = run_serial(alloc, &compiled, numbers, limit)?;
@@ -196,7 +199,7 @@ pub fn run_text<R: Threads + Wait + Sync, G: Gate, W: Witness>(
     requires within { length text.now ≤ 1048576 }
     requires few { length numbers.now ≤ 64 }
     ensures saw { IfOk result (λ a. SawRun text.now numbers.now limit a.status (W.seen witness.old) (W.seen witness.new)) }
-    ensures answer { IfOk result (λ a. IsAnswered text.now numbers.now limit a.text.items a.status) }
+    ensures answer { IfOk result (λ a. BySomeTurns (λ turns. IsAnswered text.now numbers.now limit turns a.text.items a.status)) }
 {
     let ready = prepare(alloc, text, numbers)?;
     match ready {
@@ -217,7 +220,7 @@ pub fn serial_text(
     requires some { 1 ≤ limit }
     requires within { length text.now ≤ 1048576 }
     requires few { length numbers.now ≤ 64 }
-    ensures { IfOk result (λ a. IsAnswered text.now numbers.now limit a.text.items a.status) }
+    ensures { IfOk result (λ a. IsAnswered text.now numbers.now limit in_order a.text.items a.status) }
 {
     let ready = prepare(alloc, text, numbers)?;
     match ready {

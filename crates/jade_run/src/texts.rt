@@ -57,6 +57,7 @@ fn fault_word(kind: FaultKind) -> &'static [u8]
         FaultKind::Cover => b"cover",
         FaultKind::Change => b"change",
         FaultKind::Limit => b"limit",
+        FaultKind::Commute => b"commute",
     }
 }
 

@@ -8,7 +8,7 @@ use Rattle.jade_syntax.specs.declared.shapes.place.BlockKind.TheVariants.{Main, 
 use Rattle.jade_syntax.specs.declared.shapes.extent.Extent.{Extent}
 use Rattle.jade_syntax.specs.declared.tree.Number.{Number}
 use Rattle.jade_syntax.specs.declared.tree.DeclareWord.{DeclareWord}
-use Rattle.jade_syntax.specs.declared.tree.DeclareWord.TheVariants.{Rd, Wr, RdWr, DfRd, DfWr, DfRdWr, NoRd, NoWr, NoRdWr}
+use Rattle.jade_syntax.specs.declared.tree.DeclareWord.TheVariants.{Rd, Wr, RdWr, DfRd, DfWr, DfRdWr, Cm, NoRd, NoWr, NoRdWr}
 use Rattle.jade_syntax.specs.declared.tree.Relation.{Relation}
 use Rattle.jade_syntax.specs.declared.tree.Atom.{Atom, fold-Atom}
 use Rattle.jade_syntax.specs.declared.tree.Atom.TheOpen.{Atom-F, AndExpr-F, CellRef-F, Compare-F, Expr-F, Product-F, Sum-F, Unary-F}
@@ -39,6 +39,7 @@ declares_child RdWr = true
 declares_child DfRd = true
 declares_child DfWr = true
 declares_child DfRdWr = true
+declares_child Cm = true
 declares_child NoRd = false
 declares_child NoWr = false
 declares_child NoRdWr = false
@@ -51,6 +52,7 @@ declares_change RdWr = true
 declares_change DfRd = false
 declares_change DfWr = false
 declares_change DfRdWr = false
+declares_change Cm = false
 declares_change NoRd = true
 declares_change NoWr = true
 declares_change NoRdWr = true

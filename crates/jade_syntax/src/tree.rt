@@ -49,6 +49,7 @@ pub enum DeclareWord {
     DfRd,
     DfWr,
     DfRdWr,
+    Cm,
     NoRd,
     NoWr,
     NoRdWr,

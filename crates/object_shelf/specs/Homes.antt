@@ -8,7 +8,7 @@ use Rattle.object_shelf.specs.declared.queue.Entry.{Entry}
 use Rattle.object_shelf.specs.declared.shelf.Home.{Home}
 use Rattle.object_shelf.specs.declared.shelf.Home.TheVariants.{Out, Own, Shared}
 use Rattle.object_shelf.specs.Views.{ShelfView}
-use Rattle.object_shelf.specs.Shelves.{find, at, held_with, released}
+use Rattle.object_shelf.specs.Shelves.{find, at, held_with, released, turned}
 
 -- the content, where it is at home
 abbrev pub home_of : Home → Option (List ℤ)
@@ -45,7 +45,8 @@ home_after Commuting h = None
 
 -- the object once its content is handed out
 abbrev pub handed : List ℕ → Mode → ShelfView → ShelfView
-handed p m s = record { queue = at p (held_with m (kept_of m (hand_in p m s))) s.queue; home = home_after m s.home }
+handed p m s =
+    record { queue = at p (held_with m (kept_of m (hand_in p m s))) s.queue; home = home_after m s.home; turns = turned p m s.turns }
 
 -- a content that was handed out to be changed comes home
 abbrev pub home_with : Mode → List ℤ → Option (List ℤ) → Option (List ℤ)
@@ -55,11 +56,12 @@ home_with Commuting xs h = Some xs
 
 -- the object once the path's task has given its content back
 abbrev pub returned : List ℕ → Held → ShelfView → ShelfView
-returned p c s = record { queue = at p released s.queue; home = home_with c.mode c.cells s.home }
+returned p c s = record s { queue = at p released s.queue; home = home_with c.mode c.cells s.home }
 
--- the root's entry alone, and zeros at home
+-- the root's entry alone, zeros at home, and no turn
 abbrev pub started : List ℕ → Rights → ℕ → ShelfView
-started p a n = record { queue = record { path = p; rights = a; hold = None; version = None } ∷ []; home = Some (replicate n (pos 0)) }
+started p a n =
+    record { queue = record { path = p; rights = a; hold = None; version = None } ∷ []; home = Some (replicate n (pos 0)); turns = [] }
 
 -- a change of the queue alone
 abbrev pub on_queue : (List Entry → List Entry) → ShelfView → ShelfView

@@ -5,7 +5,7 @@ use Rattle.jade_base.specs.declared.rights.Mode.TheVariants.{Reading, Writing, C
 use Rattle.jade_base.specs.Held.{Held}
 use Rattle.object_shelf.specs.declared.queue.Entry.{Entry}
 use Rattle.object_shelf.specs.Views.{ObjectView}
-use Rattle.object_shelf.specs.Shelves.{takes_out, at}
+use Rattle.object_shelf.specs.Shelves.{takes_out, at, unturned}
 
 -- the content, at home or in a task's hand
 abbrev pub content_of : Option (List ℤ) → Option Held → List ℤ
@@ -41,8 +41,8 @@ abbrev pub reset : Option (List ℤ) → Entry → Entry
 reset v e = record e { hold = None; version = v }
 
 -- the object as it was before the path's task took it
-abbrev pub untaken : List ℕ → Option (List ℤ) → ObjectView → ObjectView
-untaken p v s = record s { queue = at p (reset v) s.queue }
+abbrev pub untaken : List ℕ → Mode → Option (List ℤ) → ObjectView → ObjectView
+untaken p m v s = record s { queue = at p (reset v) s.queue; turns = unturned m s.turns }
 
 -- the content that is in a hand once one is handed out
 abbrev pub in_hand_as : Mode → Held → Option Held → Option Held

@@ -1,5 +1,5 @@
 ghost use Rattle.std.specs.Prelude.{◌≡◌, ◌<◌, true, false, None, Some, is_some, pos, length, slice_get, IfOk, OnOk, OnErr, MatchOption};
-ghost use Rattle.object_shelf.specs.Shelves.{find, keeper_in, entered, taken, given, shifted, left, written, content_for, value_in, at, held_for, entered_in};
+ghost use Rattle.object_shelf.specs.Shelves.{find, keeper_in, entered, taken, given, shifted, left, written, content_for, value_in, at, held_for, entered_in, turned};
 ghost use Rattle.object_shelf.specs.Shelves.{started as begun};
 ghost use Rattle.object_shelf.specs.Order.{fits};
 ghost use Rattle.object_shelf.specs.Takes.{MayTake, IsUnheld};
@@ -12,7 +12,7 @@ use std::alloc::Global;
 use std::marker::Model;
 
 /// A whole object for one thread: its shelf, and the content itself while a task has it out to
-/// change it. Contracts see it as the queue and the content, wherever that is.
+/// change it. Contracts see it as the queue, the content, wherever that is, and the turns.
 #[derive(Drop)]
 pub struct Object {
     shelf: Shelf,
@@ -26,15 +26,16 @@ impl Model for Object {
 
     ghost Value = { ObjectView };
 
-    ghost view = { λ o. record { queue = o.shelf.queue; content = content_of o.shelf.home o.hand } };
+    ghost view = { λ o. record { queue = o.shelf.queue; content = content_of o.shelf.home o.hand; turns = o.shelf.turns } };
 
     ghost invariant = { λ o. (is_one o.shelf.home o.hand ≡ true) × (is_some o.hand ≡ is_out o.shelf.queue) };
 }
 
-/// The version that was kept for a path before it took an object.
+/// The version that was kept for a path before it took an object, and the mode in which it did.
 #[derive(Drop)]
 pub struct Before {
     pub version: Option<SharedCells>,
+    pub mode: Mode,
 }
 
 impl Object {
@@ -76,6 +77,7 @@ impl Object {
         requires { MayTake mode path.now self.old.queue }
         ensures done { OnOk result (self.new ≡ taken path.now mode self.old) }
         ensures before { IfOk result (λ b. was_kept b.version (find path.now self.old.queue)) }
+        ensures mode { IfOk result (λ b. b.mode ≡ mode) }
         ensures unchanged { OnErr result (self.new ≡ self.old) }
     {
         take_in(&mut self.shelf, &mut self.hand, alloc, path, mode)
@@ -83,9 +85,9 @@ impl Object {
 
     /// Undoes a take. It takes no memory.
     pub fn untake(&mut self, path: &Path, before: Before)
-        ensures { self.new ≡ untaken path.now before.version self.old }
+        ensures { self.new ≡ untaken path.now before.mode before.version self.old }
     {
-        self.shelf.restore(path, before.version);
+        self.shelf.restore(path, before.mode, before.version);
         settle(&mut self.shelf, &mut self.hand);
     }
 
@@ -111,6 +113,13 @@ impl Object {
     {
         self.shelf.leave(path);
         settle(&mut self.shelf, &mut self.hand);
+    }
+
+    /// The paths that took the object for commuting, in that order. It takes no memory.
+    pub fn turns(&self) -> &[Path]
+        ensures { result.now ≡ self.now.turns }
+    {
+        self.shelf.turns()
     }
 
     /// The number of entries of the queue.
@@ -182,6 +191,7 @@ fn enter_in(
     requires { fits parent.now child.now shelf.old.queue ≡ true }
     ensures queue { OnOk result (shelf.new.queue ≡ entered_in parent.now child.now rights shelf.old.queue) }
     ensures home { shelf.new.home ≡ shelf.old.home }
+    ensures turns { shelf.new.turns ≡ shelf.old.turns }
     ensures out { is_out shelf.new.queue ≡ is_out shelf.old.queue }
     ensures unchanged { OnErr result (shelf.new ≡ shelf.old) }
 {
@@ -202,13 +212,15 @@ fn take_in(
     requires may { MayTake mode path.now shelf.old.queue }
     ensures queue { OnOk result (shelf.new.queue ≡ at path.now (held_for mode (content_of shelf.old.home hand.old)) shelf.old.queue) }
     ensures content { OnOk result (content_of shelf.new.home hand.new ≡ content_of shelf.old.home hand.old) }
+    ensures turns { OnOk result (shelf.new.turns ≡ turned path.now mode shelf.old.turns) }
     ensures before { IfOk result (λ b. was_kept b.version (find path.now shelf.old.queue)) }
+    ensures mode { IfOk result (λ b. b.mode ≡ mode) }
     ensures one { is_one shelf.new.home hand.new ≡ true }
     ensures out { is_some hand.new ≡ is_out shelf.new.queue }
     ensures unchanged { OnErr result (shelf.new ≡ shelf.old) }
     ensures unmoved { OnErr result (hand.new ≡ hand.old) }
 {
-    let before = kept(shelf, path)?;
+    let before = kept(shelf, path, mode)?;
     match shelf.take(alloc, path, mode)? {
         Some(content) => {
             hold(hand, content);
@@ -219,26 +231,32 @@ fn take_in(
 }
 
 // What is kept for a path whose task does not hold the object.
-fn kept(shelf: &Shelf, path: &Path) -> Result<Before, Memory>
+fn kept(shelf: &Shelf, path: &Path, mode: Mode) -> Result<Before, Memory>
     requires { IsUnheld (find path.now shelf.now.queue) }
     ensures before { IfOk result (λ b. was_kept b.version (find path.now shelf.now.queue)) }
+    ensures mode { IfOk result (λ b. b.mode ≡ mode) }
 {
     match shelf.find(path) {
-        Some(entry) => version_kept(entry),
+        Some(entry) => version_kept(entry, mode),
         None => unreachable!(),
     }
 }
 
 // What is kept for an entry whose task does not hold the object.
-fn version_kept(entry: &Entry) -> Result<Before, Memory>
+fn version_kept(entry: &Entry, mode: Mode) -> Result<Before, Memory>
     requires { entry.now.hold ≡ None }
-    ensures { IfOk result (λ b. was_kept b.version (Some entry.now)) }
+    ensures before { IfOk result (λ b. was_kept b.version (Some entry.now)) }
+    ensures mode { IfOk result (λ b. b.mode ≡ mode) }
 {
     match &entry.version {
         Some(version) => Ok(Before {
             version: Some(version.again()?),
+            mode,
         }),
-        None => Ok(Before { version: None }),
+        None => Ok(Before {
+            version: None,
+            mode,
+        }),
     }
 }
 
@@ -258,6 +276,7 @@ fn settle(shelf: &mut Shelf, hand: &mut Option<Content>)
     requires kept { is_out shelf.old.queue ≡ true → is_some hand.old ≡ true }
     ensures queue { shelf.new.queue ≡ shelf.old.queue }
     ensures content { content_of shelf.new.home hand.new ≡ content_of shelf.old.home hand.old }
+    ensures turns { shelf.new.turns ≡ shelf.old.turns }
     ensures one { is_one shelf.new.home hand.new ≡ true }
     ensures out { is_some hand.new ≡ is_out shelf.new.queue }
 {

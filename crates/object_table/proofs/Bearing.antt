@@ -6,7 +6,7 @@ use Rattle.jade_base.specs.declared.place.Pos.{Pos}
 use Rattle.jade_base.specs.declared.report.Blame.{Blame}
 use Rattle.jade_base.specs.declared.rights.Rights.{Rights}
 use Rattle.jade_base.specs.declared.rights.Mode.{Mode}
-use Rattle.jade_base.specs.Rights.{is_immediate, has_rights, same_rights, mode_of}
+use Rattle.jade_base.specs.Rights.{may_read, may_write, has_rights, same_rights, mode_of}
 use Rattle.jade_syntax.specs.declared.tree.DeclareWord.{DeclareWord}
 use Rattle.jade_syntax.specs.declared.tree.Statement.{Statement, map-Statement, fold-roll-Statement, ind-Statement}
 use Rattle.jade_syntax.specs.declared.tree.Statement.TheOpen.{Statement-F}
@@ -20,10 +20,10 @@ use Rattle.jade_meaning.specs.declared.values.Value.TheVariants.{IntOf}
 use Rattle.jade_meaning.specs.declared.resolve.Range.{Range}
 use Rattle.jade_meaning.specs.declared.resolve.ResolvedObject.{ResolvedObject}
 use Rattle.jade_meaning.specs.Values.{Given, Gives, Fails, operated, decides, signed, whole, holds, is_index, magnitude, turn_count}
-use Rattle.jade_meaning.specs.Specification.{Specification, rights_on, objects, covers, fitted}
+use Rattle.jade_meaning.specs.Specification.{Specification, rights_on, objects, covers, fitted, commuting_on, is_commuting, may_commute}
 use Rattle.jade_meaning.specs.Changes.{amended}
 use Rattle.jade_meaning.specs.Laws.{Every}
-use Rattle.jade_meaning.specs.Course.{Course, Reads, Writes, Steps, Creates, Changes, Ends, Environment, Setting, Mine, On, Draft, NoDraft, Building, Amending}
+use Rattle.jade_meaning.specs.Course.{section_begins, Course, Reads, Writes, Steps, Creates, Changes, Ends, Environment, Setting, Mine, On, Draft, NoDraft, Building, Amending}
 use Rattle.jade_meaning.specs.Course.{drafted, finish, choose, step, given, place_of, member, reach, read_cell, write_cell, bind, leave, scoped, turns, amend}
 use Rattle.jade_meaning.specs.Course.{
   declare,
@@ -42,7 +42,7 @@ use Rattle.jade_meaning.specs.Course.{
   none_of,
 }
 use Rattle.jade_meaning.specs.Talk.{Task, Event, Enter, Enroll, Take, TouchRead, TouchWrite, Wants, Give, Leave, Shift, Resign, Holds, held, when, take_in}
-use Rattle.jade_meaning.specs.Talk.{first_take, touched, start_holds, start_takes, creation_gives, enters, kept, change_gives, shift, shifts, taken_anew}
+use Rattle.jade_meaning.specs.Talk.{own_last, first_take, touched, start_holds, start_takes, creation_gives, enters, kept, change_gives, shift, shifts, taken_anew}
 use Rattle.jade_meaning.specs.Talk.{change_takes, changed, end_gives, end_leaves, events}
 use Rattle.jade_meaning.specs.Walks.{Walk, setting_of}
 use Rattle.jade_meaning.specs.Walk.{task_of, upcoming, First, IsChildOf, begun_as}
@@ -141,10 +141,10 @@ module _ (s : Setting) where
       (λ a. scoped_good turn (λ k g c. b k g (bind x (IntOf i) c)) (turns limit n (i +ℤ pos 1) x body on) (turns_good limit n (i +ℤ pos 1) x body b on h) a) m
 
   read_good : (o c : ℕ) (at : Pos) (m : Mine) (on : Value → Course) → ((v : Value) → Fine s (on v)) → Fine s (read_cell o c at m on)
-  read_good o c at m on h = choose_good (is_immediate (rights_on m.spec o).reads) _ _ m (record { is = λ z. (h (IntOf z)).is }) (done _)
+  read_good o c at m on h = choose_good (may_read (rights_on m.spec o)) _ _ m (record { is = λ z. (h (IntOf z)).is }) (done _)
 
   write_good : (o c : ℕ) (z : ℤ) (at : Pos) (on : On) (m : Mine) → Fine s (on m) → Fine s (write_cell o c z at on m)
-  write_good o c z at on m h = choose_good (is_immediate (rights_on m.spec o).writes) _ _ m (record { is = h.is }) (done _)
+  write_good o c z at on m h = choose_good (may_write (rights_on m.spec o)) _ _ m (record { is = h.is }) (done _)
 
   reach_good : (f : ResolvedObject) (i : ℤ) (at : Pos) (m : Mine) (on : ℕ → Course) → ((c : ℕ) → Fine s (on c)) → Fine s (reach f i at m on)
   reach_good f i at m on h = choose_good (is_index i f.size) _ _ m (h (magnitude i)) (done _)
@@ -172,7 +172,10 @@ module _ (s : Setting) where
         body = b;
         is = ap (λ (a : Actions). record { spec = child; course = run_all s a finish (child_start (copied names m.env ++ s.given) child) }) is;
       } in
-      choose_good (covers m.spec child) _ _ m (record { is = (walk, (h (record m { draft = NoDraft })).is) }) (done _)
+      choose_good (may_commute child) _ _ m (choose_good (covers m.spec child) _ _ m (record { is = (walk, (h (record m { draft = NoDraft })).is) }) (done _)) (done _)
+
+  section_good : (at : Pos) (draft : Draft) (on : On) → Good on → Good (section_begins at draft on)
+  section_good at draft on h m = choose_good (is_commuting m.spec) _ _ m (done _) (h (record m { draft = draft }))
 
   change_good : (on : On) → Good on → Good (change on)
   change_good on h m = record { is = (h (record m { spec = fitted m.spec (working m.draft m.spec); draft = NoDraft })).is }
@@ -213,10 +216,12 @@ module _ (s : Setting) where
         eval_good low m _ (λ l. eval_good high m _ (λ k. turns_good s.limit (turn_count (whole l) (whole k)) (whole l) x (run_all s body)
         (all_good body g) on h m))
     run_good (Withonly at section names body) g on h m =
-        scoped_good (run_all s section) (all_good section g.0) (create s at names (run_all s body finish) on)
-        (create_good at names body g.1.0 on g.1.1 h) (record m { draft = Building (none_of s.items) })
+        section_good at (Building (none_of s.items)) (scoped (run_all s section) (create s at names (run_all s body finish) on))
+        (scoped_good (run_all s section) (all_good section g.0) (create s at names (run_all s body finish) on)
+        (create_good at names body g.1.0 on g.1.1 h)) m
     run_good (With at section) g on h m =
-        scoped_good (run_all s section) (all_good section g) (change on) (change_good on h) (record m { draft = Amending m.spec })
+        section_good at (Amending m.spec) (scoped (run_all s section) (change on))
+        (scoped_good (run_all s section) (all_good section g) (change on) (change_good on h)) m
     run_good (Declare how at o) g on h m = find_good o m _ (λ f. declare_good m.draft how f.number at on m h)
 
     all_good : (b : Actions) → AllImaged b → (on : On) → Good on → Good (run_all s b on)
@@ -256,7 +261,7 @@ module _ (s : Setting) where
   first spec h o = either_of (is_none (held h o)) _ _ (takes (mode_of (rights_on spec o)) o) tt
 
   starts : (spec : Specification) → Every Bred (start_takes spec)
-  starts spec = each _ (λ o. takes (mode_of (rights_on spec o)) o) (objects spec)
+  starts spec = each _ (λ o. takes (mode_of (rights_on spec o)) o) (own_last (commuting_on spec) (objects spec))
 
   creation : (child : Specification) (h : Holds) → Every Bred (creation_gives child h ++ enters child)
   creation child h =

@@ -7,7 +7,7 @@ use Rattle.jade_base.specs.declared.rights.Mode.{Mode}
 use Rattle.jade_base.specs.declared.rights.Mode.TheVariants.{Reading, Writing, Commuting}
 use Rattle.object_shelf.specs.declared.queue.Entry.{Entry}
 use Rattle.object_shelf.specs.Views.{ObjectView, ShelfView}
-use Rattle.object_shelf.specs.Shelves.{same_path, find, takes_out, at, without, entered_in, taken, given, entered, shifted, left, held_for, held_with, released}
+use Rattle.object_shelf.specs.Shelves.{same_path, find, takes_out, at, without, entered_in, taken, given, entered, shifted, left, held_for, held_with, released, turned}
 use Rattle.object_shelf.specs.Shelves.{with_rights, version_or}
 use Rattle.object_shelf.specs.Homes.{hand_in, hand_of, or_home, kept_of, home_after, handed, returned, home_with, on_queue}
 use Rattle.object_shelf.specs.Whole.{is_out}
@@ -24,8 +24,8 @@ held_same q x y f c k (nothing empty free) = nothing empty (ap hold_of f ∙ fre
 held_same q x y f c k (owns d e is g m t v w) = owns d e is (f ∙ g) m t v (c ∙ w)
 held_same q x y f c k (sees d e is g m t v) = sees d e is (f ∙ g) m t v
 
-shelf_with : List Entry → Bool → List ℤ → ShelfView
-shelf_with es b xs = record { queue = es; home = home_if b xs }
+shelf_with : List Entry → Bool → List ℤ → List (List ℕ) → ShelfView
+shelf_with es b xs ts = record { queue = es; home = home_if b xs; turns = ts }
 
 no_entry : (e : Entry) → ◌≡◌ {A = Option Entry} None (Some e) → ⊥
 no_entry e q = cc
@@ -52,8 +52,8 @@ module _ (p : List ℕ) (x : ObjectView) where
         ∙ at_same p (held_with Reading (Some (version_or e.version x.content))) (held_for Reading x.content) e x.queue there refl in
         let o : is_out (at p (held_for Reading x.content) x.queue) ≡ is_out x.queue =
         out_at p (held_for Reading x.content) x.queue (λ d f. sym (ap (λ (y : Entry). takes_out y.hold) (some_entry d e (sym f ∙ there)) ∙ not_out)) in
-        ap (λ es. record { queue = es; home = home_if (is_out x.queue) x.content }) q
-        ∙ sym (ap (λ b. record { queue = at p (held_for Reading x.content) x.queue; home = home_if b x.content }) o)
+        ap (λ es. record { queue = es; home = home_if (is_out x.queue) x.content; turns = x.turns }) q
+        ∙ sym (ap (λ b. record { queue = at p (held_for Reading x.content) x.queue; home = home_if b x.content; turns = x.turns }) o)
 
     read_mine : HeldOk p (taken p Reading x) (held_in Reading (hand_in p Reading (shelf_of x)))
     read_mine =
@@ -79,11 +79,12 @@ module _ (p : List ℕ) (x : ObjectView) where
               queue = at p (held_with m f) x.queue;
               home =
                   home_after m (home_if (is_out x.queue) x.content);
+              turns = turned p m x.turns;
             }) (kept (hand_in p m (shelf_of x)))
-            ∙ ap (λ es. record { queue = es; home = home_after m (home_if (is_out x.queue) x.content) })
+            ∙ ap (λ es. record { queue = es; home = home_after m (home_if (is_out x.queue) x.content); turns = turned p m x.turns })
             (at_same p (held_with m None) (held_for m x.content) e x.queue there held_is)
-            ∙ ap (λ y. record { queue = at p (held_for m x.content) x.queue; home = y }) (gone (home_if (is_out x.queue) x.content))
-            ∙ sym (ap (λ b. record { queue = at p (held_for m x.content) x.queue; home = home_if b x.content }) now_out)
+            ∙ ap (λ y. record { queue = at p (held_for m x.content) x.queue; home = y; turns = turned p m x.turns }) (gone (home_if (is_out x.queue) x.content))
+            ∙ sym (ap (λ b. record { queue = at p (held_for m x.content) x.queue; home = home_if b x.content; turns = turned p m x.turns }) now_out)
 
         whole_mine : HeldOk p (taken p m x) (held_in m (hand_in p m (shelf_of x)))
         whole_mine =
@@ -115,8 +116,8 @@ module _ (p : List ℕ) (x : ObjectView) where
       let off : is_out (at p released x.queue) ≡ false = none_out e there takes in
       let home : home_with c.mode c.cells (home_if (is_out x.queue) x.content) ≡ Some x.content =
       changed c.mode (ap takes_out (ap (λ (y : Held). Some y.mode) same ∙ sym mode) ∙ takes) ∙ ap Some (ap (λ (y : Held). y.cells) same ∙ sym content) in
-      ap (λ y. record { queue = at p released x.queue; home = y }) home
-      ∙ sym (ap (λ b. record { queue = at p released x.queue; home = home_if b x.content }) off)
+      ap (λ y. record { queue = at p released x.queue; home = y; turns = x.turns }) home
+      ∙ sym (ap (λ b. record { queue = at p released x.queue; home = home_if b x.content; turns = x.turns }) off)
     where
       changed : (m : Mode) → takes_out (Some m) ≡ true → home_with m c.cells (home_if (is_out x.queue) x.content) ≡ Some c.cells
       changed Reading t = absurd (cc)
@@ -128,7 +129,7 @@ module _ (p : List ℕ) (x : ObjectView) where
       out_at p released x.queue (λ a f. sym (ap (λ (y : Entry). takes_out y.hold) (some_entry a e (sym f ∙ there)) ∙ takes)) in
       let home : home_with c.mode c.cells (home_if (is_out x.queue) x.content) ≡ home_if (is_out x.queue) x.content =
       unchanged c.mode (ap takes_out (ap (λ (y : Held). Some y.mode) same ∙ sym mode) ∙ takes) in
-      ap (λ y. record { queue = at p released x.queue; home = y }) home ∙ sym (ap (λ b. record { queue = at p released x.queue; home = home_if b x.content }) o)
+      ap (λ y. record { queue = at p released x.queue; home = y; turns = x.turns }) home ∙ sym (ap (λ b. record { queue = at p released x.queue; home = home_if b x.content; turns = x.turns }) o)
     where
       unchanged : (m : Mode) → takes_out (Some m) ≡ false → home_with m c.cells (home_if (is_out x.queue) x.content) ≡ home_if (is_out x.queue) x.content
       unchanged Reading t = refl
@@ -147,7 +148,7 @@ module _ (p : List ℕ) (x : ObjectView) where
     kid = p ++ n ∷ []
 
     pub enter_shows : on_queue (entered_in p kid a) (shelf_of x) ≡ shelf_of (entered p kid a x)
-    enter_shows = sym (ap (λ b. record { queue = entered_in p kid a x.queue; home = home_if b x.content }) (out_entered p kid a x.queue))
+    enter_shows = sym (ap (λ b. record { queue = entered_in p kid a x.queue; home = home_if b x.content; turns = x.turns }) (out_entered p kid a x.queue))
 
     pub enter_others : (q : List ℕ) → same_path q kid ≡ false → (k : Option Held) → HeldOk q x k → HeldOk q (entered p kid a x) k
     enter_others q far k h = held_same q x (entered p kid a x) (find_entered p kid q a x.queue far) refl k h
@@ -158,7 +159,7 @@ module _ (p : List ℕ) (x : ObjectView) where
   -- a Shift
   module _ (a : Rights) where
     pub shift_shows : on_queue (at p (with_rights a)) (shelf_of x) ≡ shelf_of (shifted p a x)
-    shift_shows = sym (ap (λ b. record { queue = at p (with_rights a) x.queue; home = home_if b x.content }) (out_at p (with_rights a) x.queue (λ e f. refl)))
+    shift_shows = sym (ap (λ b. record { queue = at p (with_rights a) x.queue; home = home_if b x.content; turns = x.turns }) (out_at p (with_rights a) x.queue (λ e f. refl)))
 
     pub shift_others : (q : List ℕ) → same_path q p ≡ false → (k : Option Held) → HeldOk q x k → HeldOk q (shifted p a x) k
     shift_others q far k h = held_same q x (shifted p a x) (find_other p q (with_rights a) x.queue (λ d. refl) far) refl k h
@@ -174,6 +175,7 @@ module _ (p : List ℕ) (x : ObjectView) where
     queue = without p x.queue;
     home =
         home_if b x.content;
+    turns = x.turns;
   }) (out_without p x.queue (ap (λ y. takes_out (hold_of y)) there ∙ ap takes_out free)))
 
   pub leave_others : (q : List ℕ) → same_path q p ≡ false → (k : Option Held) → HeldOk q x k → HeldOk q (left p x) k

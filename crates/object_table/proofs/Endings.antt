@@ -1,8 +1,7 @@
 -- The slots at the end of a run, and the report that is made of them.
 use Rattle.std.proofs.Common.{◌≡◌, ◌≢◌, ℕ, zero, suc, ◌+◌, ◌<◌, Bool, true, false, List, [], ◌∷◌, ◌++◌, map, length, take, refl, sym, ap, ◌∙◌, subst}
 use Rattle.std.proofs.Common.{arith, eq-eqb, ne_eqb}
-use Rattle.std.specs.Prelude.{slice_get, slice_index_or, slice_set, replicate, if◌then◌else◌}
-use Rattle.std.specs.List.{filter_map}
+use Rattle.std.specs.Prelude.{slice_get, slice_index_or, slice_set, if◌then◌else◌}
 use Rattle.std.specs.Mem.Slots.Ownership.{Filled}
 use mathlib.Core.Logic.{dite}
 use mathlib.Core.Option.{some, some-injective}
@@ -13,20 +12,20 @@ use Rattle.atomic_table.specs.Table.{Final, Seen}
 use Rattle.jade_syntax.specs.Image.{program as abstracted}
 use Rattle.jade_meaning.specs.Laws.{Every}
 use Rattle.jade_meaning.specs.Report.{report}
+use Rattle.jade_meaning.specs.Turns.{Full, turns_in}
 use Rattle.object_shelf.specs.declared.queue.Entry.{Entry}
 use Rattle.object_shelf.specs.Views.{ObjectView}
 use Rattle.object_shelf.specs.Whole.{is_out}
 use Rattle.task_roll.specs.declared.note.PartNote.{PartNote}
 use Rattle.task_roll.specs.Rolls.{by_key}
-use Rattle.schedule_core.specs.Notes.{step_note, fault_note}
 use Rattle.schedule_core.specs.Reports.{told_of}
 use Rattle.schedule_core.specs.ByNumber.{shelf_at}
 use Rattle.schedule_core.specs.Plain.{Reached}
-use Rattle.schedule_core.specs.Queued.{Owner}
+use Rattle.schedule_core.specs.Soundness.{Owner}
 use Rattle.jade_meaning.specs.Plan.{RunPlan}
 use Rattle.object_table.specs.Views.{count_of, View, home_if, part_of, worth, worths, gathered}
 use Rattle.object_table.specs.Rule.{Owned, by_pass, by_maker, PlaceOk, free, taken, Ruled}
-use Rattle.object_table.specs.steps.Endings.{cells_in, notes_in, or_none, on_shelf, LastSlots, EndLaws}
+use Rattle.object_table.specs.steps.Endings.{cells_in, turns_at, notes_in, or_none, on_shelf, LastSlots, EndLaws}
 use Rattle.object_table.specs.declared.slot.Slot.{Slot}
 use Rattle.object_table.specs.declared.slot.Slot.TheVariants as slot
 use Rattle.object_table.proofs.Purses.{worth_within, none_in_hand}
@@ -152,23 +151,26 @@ module _ (key : RunPlan) where
   home_cells (s ∷ ss) k =
       ap (λ b. or_none (home_if b s.content) ∷ map cells_in (map on_shelf ss)) (k 0) ∙ ap (λ xs. s.content ∷ xs) (home_cells ss (λ o. k (suc o)))
 
-  map_length : (ss : List ObjectView) → length (map (λ (x : ObjectView). x.content) ss) ≡ length ss
-  map_length [] = refl
-  map_length (s ∷ ss) = ap suc (map_length ss)
+  all_turns : (ss : List ObjectView) → map turns_at (map on_shelf ss) ≡ map (λ (x : ObjectView). x.turns) ss
+  all_turns [] = refl
+  all_turns (s ∷ ss) = ap (λ xs. s.turns ∷ xs) (all_turns ss)
+
+  -- the turn lists in the slots are full
+  pub full_turns : EndLaws key → (xs : List Slot) (y : Slot) → LastSlots key xs y
+      → Full (abstracted key.program) key.numbers key.limit (turns_in (map turns_at xs))
+  full_turns laws xs y l =
+      subst (λ ts. Full (abstracted key.program) key.numbers key.limit (turns_in ts)) (sym (ap (map turns_at) l.objects ∙ all_turns l.shelves))
+      (laws.reports.full l.count l.shelves (by_key l.tally.notes) l.reached)
 
   -- the report that is made of them is the meaning's
-  pub reported : EndLaws key → (xs : List Slot) (y : Slot) → LastSlots key xs y → told_of (map cells_in xs) (by_key (notes_in y))
-      ≡ report (abstracted key.program) key.numbers key.limit
+  pub reported : EndLaws key → (xs : List Slot) (y : Slot) → LastSlots key xs y → told_of (map cells_in xs) (map turns_at xs) (by_key (notes_in y))
+      ≡ report (abstracted key.program) key.numbers key.limit (turns_in (map turns_at xs))
   reported laws xs y l =
-      (λ i. told_of (map cells_in (l.objects i)) (by_key (notes_in (l.roll i))))
-      ∙ ap (λ cs. told_of cs (by_key l.tally.notes)) (home_cells l.shelves at_home)
-      ∙ ap (λ k. record {
-        objects = map (λ (x : ObjectView). x.content) l.shelves;
-        faults = filter_map fault_note (by_key l.tally.notes);
-        turns = replicate k [];
-        steps = map step_note (by_key l.tally.notes);
-      }) (map_length l.shelves)
-      ∙ laws.shows.reports l.count l.shelves (by_key l.tally.notes) l.reached
+      (λ i. told_of (map cells_in (l.objects i)) (map turns_at (l.objects i)) (by_key (notes_in (l.roll i))))
+      ∙ ap (λ cs. told_of cs (map turns_at (map on_shelf l.shelves)) (by_key l.tally.notes)) (home_cells l.shelves at_home)
+      ∙ ap (λ ts. told_of (map (λ (x : ObjectView). x.content) l.shelves) ts (by_key l.tally.notes)) (all_turns l.shelves)
+      ∙ laws.reports.reports l.count l.shelves (by_key l.tally.notes) l.reached
+      ∙ sym (ap (λ ts. report (abstracted key.program) key.numbers key.limit (turns_in ts)) (ap (map turns_at) l.objects ∙ all_turns l.shelves))
     where
       nobody_owns : (p : List ℕ) → Owner [] p → ⊥
       nobody_owns p o = let e = o.live in cc

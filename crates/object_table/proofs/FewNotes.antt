@@ -2,27 +2,41 @@
 use Rattle.std.proofs.Common.{◌≡◌, ℕ, suc, ◌≤◌, Bool, true, false, List, [], ◌∷◌, map, refl, sym, ap, ◌∙◌, subst, ℤ, arith}
 use Rattle.std.specs.Prelude.{if◌then◌else◌}
 use Rattle.std.proofs.lemmas.Bool.{true≢false}
-use Rattle.jade_base.specs.Places.{is_before, same_path}
+use Rattle.jade_base.specs.Places.{is_before, key, same_path}
 use Rattle.jade_syntax.specs.Abstract.{AbstractProgram}
 use Rattle.jade_syntax.specs.declared.tree.Program.{Program}
 use Rattle.jade_syntax.specs.Image.{program}
-use Rattle.jade_meaning.specs.Serial.{Part, parts, serial_run}
+use Rattle.jade_meaning.specs.Serial.{Path, Part}
+use Rattle.jade_meaning.specs.Turns.{marks_by}
 use Rattle.jade_meaning.specs.Laws.{Every}
 use Rattle.jade_meaning.specs.Answer as answer
-use Rattle.jade_meaning.specs.Report.{ReportAscends}
+use Rattle.jade_meaning.specs.Report.{step_of, Ascends, ReportAscends}
 use Rattle.object_shelf.specs.Views.{ObjectView}
 use Rattle.task_roll.specs.declared.note.PartNote.{PartNote}
 use Rattle.task_roll.specs.Rolls.{note_key, by_key}
 use Rattle.task_roll.proofs.InOrder.{same-is}
 use Rattle.schedule_core.specs.declared.steps.Seat.{Seat}
-use Rattle.schedule_core.specs.Notes.{note_of, notes_of}
-use Rattle.schedule_core.specs.Parts.{Woven, nothing, first, second, NotesAreSerial}
+use Rattle.schedule_core.specs.Notes.{note_of}
+use Rattle.schedule_core.specs.Remains.{Woven, nothing, first, second, NotesAreSerial}
+use Rattle.schedule_core.specs.Soundness.{and_then}
 use Rattle.schedule_core.specs.Plain.{Reached}
 use Rattle.schedule_core.proofs.Ascending.{asym}
-use Rattle.schedule_core.proofs.Weaves.{Up}
-use Rattle.schedule_core.proofs.NotedSteps.{ups}
 use Rattle.object_table.specs.Bags.{count_key, Few}
 use Rattle.object_table.proofs.Bags.{count_by_key}
+
+-- notes by ascending key
+abbrev Up : List PartNote → Type 0
+Up [] = Unit {0}
+Up (n ∷ ns) = Every (λ m. is_before (note_key n) (note_key m) ≡ true) ns × Up ns
+
+ups_each : (p : Part) (ps : List Part) → Every (λ q. is_before (key p.path p.children) q ≡ true) (map (λ s. key s.path s.children) (map step_of ps))
+    → Every (λ m. is_before (note_key (note_of p)) (note_key m) ≡ true) (map note_of ps)
+ups_each p [] h = tt
+ups_each p (q ∷ ps) h = (h.0, ups_each p ps h.1)
+
+ups : (ps : List Part) → Ascends (map (λ s. key s.path s.children) (map step_of ps)) → Up (map note_of ps)
+ups [] h = tt
+ups (p ∷ ps) h = (ups_each p ps h.0, ups ps h.1)
 
 -- what stands before a key is another
 other_key : (p q : List ℕ) → is_before p q ≡ true → same_path p q ≡ false
@@ -50,34 +64,6 @@ up_few k (n ∷ ns) h = go (same_path k (note_key n)) refl (up_few k ns h.1)
         let none : count_key k ns ≡ 0 = ap (λ q. count_key q ns) (same-is k (note_key n) e) ∙ none_above (note_key n) ns h.0 in
         omega arith
 
--- parts by key are as many of each key as in any order
-one_more : (t : Bool) → ℕ → ℕ
-one_more true n = suc n
-one_more false n = n
-
-count_part : (k : List ℕ) (p : Part) (qs : List Part) → count_key k (map note_of (answer.filed p qs)) ≡ count_key k (map note_of (p ∷ qs))
-count_part k p [] = refl
-count_part k p (q ∷ qs) = go (is_before (answer.key q) (answer.key p)) (count_part k p qs)
-  where
-    turned : (s t : Bool) (c d : ℕ) → c ≡ (if s then suc d else d) → (if t then suc c else c) ≡ (if s then suc (if t then suc d else d) else (if t then suc d else d))
-    turned true true c d e = ap suc e
-    turned true false c d e = e
-    turned false true c d e = ap suc e
-    turned false false c d e = e
-
-    go : (b : Bool) → count_key k (map note_of (answer.filed p qs)) ≡ count_key k (map note_of (p ∷ qs))
-        → count_key k (map note_of (if b then q ∷ answer.filed p qs else p ∷ (q ∷ qs))) ≡ count_key k (map note_of (p ∷ (q ∷ qs)))
-    go false e = refl
-    go true e =
-        turned (same_path k (note_key (note_of p))) (same_path k (note_key (note_of q))) (count_key k (map note_of (answer.filed p qs)))
-        (count_key k (map note_of qs)) e
-
-count_parts : (k : List ℕ) (ps : List Part) → count_key k (map note_of (answer.by_key ps)) ≡ count_key k (map note_of ps)
-count_parts k [] = refl
-count_parts k (p ∷ ps) =
-    count_part k p (answer.by_key ps)
-    ∙ ap (λ n. if same_path k (note_key (note_of p)) then suc n else n) (count_parts k ps)
-
 -- of what makes up a list none comes oftener than there
 woven_count : (k : List ℕ) {xs ys zs : List PartNote} → Woven xs ys zs → count_key k xs ≤ count_key k zs
 woven_count k nothing = omega arith
@@ -94,18 +80,15 @@ woven_count k (second {xs = xs} {zs = zs} n w) = go (same_path k (note_key n)) (
     go false le = le
 
 module _ (serial : (p : Program) (ns : List ℤ) (limit : ℕ) → NotesAreSerial p ns limit)
-    (ascends : (p : AbstractProgram) (ns : List ℤ) (limit : ℕ) → ReportAscends p ns limit) (p : Program) (ns : List ℤ) (limit : ℕ) where
-  -- of the parts of the serial run no two have one key
-  run_few : (k : List ℕ) → count_key k (notes_of (serial_run (program p) ns limit)) ≤ 1
-  run_few k =
-      let run = serial_run (program p) ns limit in
-      subst (λ n. n ≤ 1) (count_parts k (parts run)) (up_few k _ (ups (answer.parts_by_key run) (ascends (program p) ns limit).steps))
+    (ascends : (p : AbstractProgram) (ns : List ℤ) (limit : ℕ) (turns : ℕ → List Path) → ReportAscends p ns limit turns) (p : Program) (ns : List ℤ) (limit : ℕ) where
+  -- of the parts of a run no two have one key
+  run_few : (turns : ℕ → List Path) (k : List ℕ) → count_key k (map note_of (answer.parts_by_key (marks_by (program p) ns limit turns))) ≤ 1
+  run_few turns k = up_few k _ (ups (answer.parts_by_key (marks_by (program p) ns limit turns)) (ascends (program p) ns limit turns).steps)
 
   pub few_reached : (k : ℕ) (roll : List Seat) (ss : List ObjectView) (told : List PartNote) → Reached p ns limit k roll ss (by_key told) → Few told
   few_reached k roll ss told reached = record {
-    each = λ q. let le : count_key q (by_key told) ≤ count_key q (notes_of (serial_run (program p) ns limit)) =
-        woven_count q ((serial p ns limit).noted k roll ss (by_key told) reached).woven in
-        let few = run_few q in
+    each = λ q. let le = woven_count q ((serial p ns limit).noted k roll ss (by_key told) reached (λ o. [])).woven in
+        let few = run_few (and_then ss (λ o. [])) q in
         let is = count_by_key q told in
         omega arith;
   }

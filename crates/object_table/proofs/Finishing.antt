@@ -32,7 +32,8 @@ use Rattle.object_table.specs.Plays.{held_in, handed_by, did, Ahead, left_done}
 use Rattle.object_table.specs.steps.Kept.{Made, Once}
 use Rattle.object_table.specs.declared.slot.Slot.{Slot}
 use Rattle.object_table.specs.declared.slot.Slot.TheVariants as slot
-use Rattle.object_table.proofs.Lists.{shelf_on, shelf_else, held_here, held_else, at_inside}
+use Rattle.object_table.proofs.Sizes.{how_many}
+use Rattle.object_table.proofs.Lists.{shelf_on, shelf_within, shelf_else, held_here, held_else, at_inside}
 use Rattle.object_table.proofs.Entries.{some_entry}
 use Rattle.object_table.proofs.Goes.{SamePurse, parts0, leaving}
 use Rattle.object_table.proofs.Quiet.{on, found, seat_on, quiet, part_else, part_here}
@@ -68,10 +69,15 @@ module _ (key : RunPlan) (tells : CoreTells key.program key.numbers key.limit) (
   seat_here : slice_get (map h.seats h.owners) (length (on n key s h id v at_v alive).spot.front) ≡ Some v.seat
   seat_here = seat_on n key s h id v at_v alive _ v.seat (on n key s h id v at_v alive)
 
+  inside : o < length h.shelves
+  inside =
+      let many : length h.shelves ≡ n = how_many key h.count (map h.seats h.owners) h.shelves (core_notes (gathered h.tally s.views)) h.reached in
+      let low = ((h.passes id v at_v).turn turn).inside in
+      omega (arith, many, low, place, object)
+
   module _ (carried : List (ℕ × Slot)) (new : Slot) (has : carried ≡ (o, new) ∷ rest carried) where
     -- an event on the object that makes g of it
-    module _ (e : Event) (g : ObjectView → ObjectView) (of_none : g (record { queue = []; content = [] })
-        ≡ record { queue = []; content = [] }) (held2 : List (Option Held)) (next : First (upcoming v.seat.walker) (λ y. y
+    module _ (e : Event) (g : ObjectView → ObjectView) (here : shelf_at (on_shelf o g h.shelves) o ≡ g x) (held2 : List (Option Held)) (next : First (upcoming v.seat.walker) (λ y. y
         ≡ e)) (does : Does e v.seat h.shelves (seat_after None v.seat ∷ []) (on_shelf o g h.shelves)) (silent : (ns : List PartNote) → noted e v.seat ns
         ≡ ns) (others : (q : List ℕ) → same_path q v.seat.path ≡ false → same_path q (v.seat.path ++ v.seat.children ∷ []) ≡ false → (k : Option Held)
         → HeldOk q x k → HeldOk q (g x) k) (own : HeldOk v.seat.path (g x) (held_at o held2)) (more : (i : ℕ) → i ≢ o → held_at i held2
@@ -84,9 +90,6 @@ module _ (key : RunPlan) (tells : CoreTells key.program key.numbers key.limit) (
 
       abbrev ss2 : List ObjectView
       ss2 = on_shelf o g h.shelves
-
-      here : shelf_at ss2 o ≡ g x
-      here = shelf_on o g h.shelves of_none
 
       mine : Agrees v.seat.path ss2 held2
       mine = record {
@@ -135,7 +138,7 @@ module _ (key : RunPlan) (tells : CoreTells key.program key.numbers key.limit) (
           turn =
               false;
         }) gives)) (sym handed_is)
-        (on_object (Take o m) (taken v.seat.path m) refl (put_held o now v.held) next' (blocked_is o v.seat.path m h.shelves ∙ clear, refl, refl) (λ ns. refl)
+        (on_object (Take o m) (taken v.seat.path m) (shelf_within o (taken v.seat.path m) h.shelves inside) (put_held o now v.held) next' (blocked_is o v.seat.path m h.shelves ∙ clear, refl, refl) (λ ns. refl)
         (λ r off kin k a. take_others v.seat.path x m r off k a)
         (subst (λ k. HeldOk v.seat.path (taken v.seat.path m x) k) (sym (held_here o now v.held)) (take_mine v.seat.path x m may))
         (λ i ne. held_else o i now v.held ne)
@@ -147,7 +150,7 @@ module _ (key : RunPlan) (tells : CoreTells key.program key.numbers key.limit) (
         next' in
         let holds : HeldOk v.seat.path x (Some c) = subst (λ k. HeldOk v.seat.path x k) has_it (held.each o) in
         subst (λ i. Ruled key (stepped s (word_of o) 0 id carried (did (Give i) v) gives)) (sym same)
-        (on_object (Give o) (given v.seat.path) refl (put_held o None v.held) next' (refl, refl) (λ ns. refl)
+        (on_object (Give o) (given v.seat.path) (shelf_on o (given v.seat.path) h.shelves refl) (put_held o None v.held) next' (refl, refl) (λ ns. refl)
         (λ r off kin k a. give_others v.seat.path x r off k a)
         (subst (λ k. HeldOk v.seat.path (given v.seat.path x) k) (sym (held_here o None v.held)) (give_mine v.seat.path x may.entry may.there))
         (λ i ne. held_else o i None v.held ne)
@@ -157,7 +160,7 @@ module _ (key : RunPlan) (tells : CoreTells key.program key.numbers key.limit) (
     event_on (Enter q a) next (same, y, note, made) =
         let is : y ≡ shelf_of x = found_is y note in
         let next' : First (upcoming v.seat.walker) (λ z. z ≡ Enter o a) = subst (λ i. First (upcoming v.seat.walker) (λ z. z ≡ Enter i a)) same next in
-        on_object (Enter o a) (entered v.seat.path (v.seat.path ++ v.seat.children ∷ []) a) refl v.held next' (refl, refl) (λ ns. refl)
+        on_object (Enter o a) (entered v.seat.path (v.seat.path ++ v.seat.children ∷ []) a) (shelf_on o (entered v.seat.path (v.seat.path ++ v.seat.children ∷ []) a) h.shelves refl) v.held next' (refl, refl) (λ ns. refl)
         (λ r off kin k b. enter_others v.seat.path x v.seat.children a r kin k b)
         (enter_mine v.seat.path x v.seat.children a (held_at o v.held) (held.each o)) (λ i ne. refl)
         (made ∙ ap (λ z. slot.Object (on_queue (entered_in v.seat.path (v.seat.path ++ v.seat.children ∷ []) a) z)) is
@@ -166,7 +169,7 @@ module _ (key : RunPlan) (tells : CoreTells key.program key.numbers key.limit) (
         let is : y ≡ shelf_of x = found_is y note in
         let next' : First (upcoming v.seat.walker) (λ z. z ≡ Shift o a) = subst (λ i. First (upcoming v.seat.walker) (λ z. z ≡ Shift i a)) same next in
         let may = entries.shifts h.count (map h.seats h.owners) h.shelves (core_notes (gathered h.tally s.views)) h.reached _ v.seat seat_here o a next' in
-        on_object (Shift o a) (shifted v.seat.path a) refl v.held next' (refl, refl) (λ ns. refl)
+        on_object (Shift o a) (shifted v.seat.path a) (shelf_on o (shifted v.seat.path a) h.shelves refl) v.held next' (refl, refl) (λ ns. refl)
         (λ r off kin k b. shift_others v.seat.path x a r off k b)
         (shift_mine v.seat.path x a may.entry may.there (held_at o v.held) (held.each o)) (λ i ne. refl)
         (made ∙ ap (λ z. slot.Object (on_queue (at v.seat.path (with_rights a)) z)) is ∙ ap slot.Object (shift_shows v.seat.path x a))
@@ -174,7 +177,7 @@ module _ (key : RunPlan) (tells : CoreTells key.program key.numbers key.limit) (
         let is : y ≡ shelf_of x = found_is y note in
         let next' : First (upcoming v.seat.walker) (λ z. z ≡ Leave o) = subst (λ i. First (upcoming v.seat.walker) (λ z. z ≡ Leave i)) same next in
         let may = entries.leaves h.count (map h.seats h.owners) h.shelves (core_notes (gathered h.tally s.views)) h.reached _ v.seat seat_here o next' in
-        on_object (Leave o) (left v.seat.path) refl v.held next' (refl, refl) (λ ns. refl)
+        on_object (Leave o) (left v.seat.path) (shelf_on o (left v.seat.path) h.shelves refl) v.held next' (refl, refl) (λ ns. refl)
         (λ r off kin k b. leave_others v.seat.path x r off k b)
         (leave_mine v.seat.path x may.entry may.there may.free
         (ap hold_of (once.each h.count (map h.seats h.owners) h.shelves (core_notes (gathered h.tally s.views)) h.reached o v.seat.path)) (held_at o v.held) (held.each o))

@@ -123,7 +123,19 @@ place_drop (x ∷ f) s b = place_drop f s b
 
 -- objects
 abbrev pub empty : ObjectView
-empty = record { queue = []; content = [] }
+empty = record { queue = []; content = []; turns = [] }
+
+-- the object itself once it has changed; past the last one nothing changes
+pub shelf_on_or : (P : ObjectView → Type 0) (o : ℕ) (g : ObjectView → ObjectView) (ss : List ObjectView) → P (g (shelf_at ss o)) → P (shelf_at ss o)
+    → P (shelf_at (on_shelf o g ss) o)
+shelf_on_or P o g [] a b = b
+shelf_on_or P zero g (s ∷ ss) a b = a
+shelf_on_or P (suc o) g (s ∷ ss) a b = shelf_on_or P o g ss a b
+
+pub shelf_within : (o : ℕ) (g : ObjectView → ObjectView) (ss : List ObjectView) → o < length ss → shelf_at (on_shelf o g ss) o ≡ g (shelf_at ss o)
+shelf_within o g [] lt = absurd (omega (arith, lt))
+shelf_within zero g (s ∷ ss) lt = refl
+shelf_within (suc o) g (s ∷ ss) lt = shelf_within o g ss (omega (arith, lt))
 
 pub shelf_on : (o : ℕ) (g : ObjectView → ObjectView) (ss : List ObjectView) → g empty ≡ empty → shelf_at (on_shelf o g ss) o ≡ g (shelf_at ss o)
 shelf_on o g [] e = sym e

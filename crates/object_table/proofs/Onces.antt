@@ -20,7 +20,7 @@ use Rattle.schedule_core.specs.Plain.{Reached, begins, goes_on, root_shelves, on
 use Rattle.schedule_core.specs.Tells.{EntriesAreThere}
 use Rattle.jade_meaning.specs.Plan.{RunPlan}
 use Rattle.object_table.specs.steps.Kept.{Once}
-use Rattle.object_table.proofs.Lists.{same_is, path_same, shelf_on, shelf_else}
+use Rattle.object_table.proofs.Lists.{same_is, path_same, shelf_on_or, shelf_else}
 
 -- none of the entries is the path's
 abbrev Away : List ℕ → List Entry → Type 0
@@ -112,10 +112,9 @@ lone_entered p c a (e ∷ es) far h = go (lone_entered p c a es far.1 h.1) (same
 abbrev AllLone : List ObjectView → Type 0
 AllLone ss = (o : ℕ) → Lone (shelf_at ss o).queue
 
-on_lone : (o : ℕ) (g : ObjectView → ObjectView) (ss : List ObjectView) → g (record { queue = []; content = [] }) ≡ record { queue = []; content = [] }
-    → Lone (g (shelf_at ss o)).queue → AllLone ss → AllLone (on_shelf o g ss)
-on_lone o g ss of_none here h i = dite (ℕ_discrete i o)
-    (λ same. subst (λ j. Lone (shelf_at (on_shelf o g ss) j).queue) (sym same) (subst (λ (x : ObjectView). Lone x.queue) (sym (shelf_on o g ss of_none)) here))
+on_lone : (o : ℕ) (g : ObjectView → ObjectView) (ss : List ObjectView) → Lone (g (shelf_at ss o)).queue → AllLone ss → AllLone (on_shelf o g ss)
+on_lone o g ss here h i = dite (ℕ_discrete i o)
+    (λ same. subst (λ j. Lone (shelf_at (on_shelf o g ss) j).queue) (sym same) (shelf_on_or (λ (x : ObjectView). Lone x.queue) o g ss here (h o)))
     (λ ne. subst (λ (x : ObjectView). Lone x.queue) (sym (shelf_else o i g ss ne)) (h i))
 
 start_lone : (ns : List ℕ) → AllLone (root_shelves ns)
@@ -126,17 +125,17 @@ start_lone (n ∷ ns) (suc o) = start_lone ns o
 does_lone : (e : Event) (s : Seat) (ss : List ObjectView) (new : List Seat) (ss' : List ObjectView) → Does e s ss new ss'
     → ((o : ℕ) (a : Rights) → e ≡ Enter o a → find (s.path ++ s.children ∷ []) (shelf_at ss o).queue ≡ None) → AllLone ss → AllLone ss'
 does_lone (Take o m) s ss new ss' d fresh h = subst AllLone (sym d.2)
-    (on_lone o (taken s.path m) ss refl (lone_at s.path (held_for m (shelf_at ss o).content) (shelf_at ss o).queue (λ x. refl) (h o)) h)
+    (on_lone o (taken s.path m) ss (lone_at s.path (held_for m (shelf_at ss o).content) (shelf_at ss o).queue (λ x. refl) (h o)) h)
 does_lone (Give o) s ss new ss' d fresh h = subst AllLone (sym d.1)
-    (on_lone o (given s.path) ss refl (lone_at s.path released (shelf_at ss o).queue (λ x. refl) (h o)) h)
+    (on_lone o (given s.path) ss (lone_at s.path released (shelf_at ss o).queue (λ x. refl) (h o)) h)
 does_lone (Enter o a) s ss new ss' d fresh h = subst AllLone (sym d.1)
-    (on_lone o (entered s.path (s.path ++ s.children ∷ []) a) ss refl
+    (on_lone o (entered s.path (s.path ++ s.children ∷ []) a) ss
     (lone_entered s.path (s.path ++ s.children ∷ []) a (shelf_at ss o).queue (none_away (s.path ++ s.children ∷ []) (shelf_at ss o).queue (fresh o a refl))
     (h o)) h)
 does_lone (Shift o a) s ss new ss' d fresh h = subst AllLone (sym d.1)
-    (on_lone o (shifted s.path a) ss refl (lone_at s.path (with_rights a) (shelf_at ss o).queue (λ x. refl) (h o)) h)
-does_lone (Leave o) s ss new ss' d fresh h = subst AllLone (sym d.1) (on_lone o (left s.path) ss refl (lone_without s.path (shelf_at ss o).queue (h o)) h)
-does_lone (TouchWrite o c v) s ss new ss' d fresh h = subst AllLone (sym d.1) (on_lone o (written c v) ss refl (h o) h)
+    (on_lone o (shifted s.path a) ss (lone_at s.path (with_rights a) (shelf_at ss o).queue (λ x. refl) (h o)) h)
+does_lone (Leave o) s ss new ss' d fresh h = subst AllLone (sym d.1) (on_lone o (left s.path) ss (lone_without s.path (shelf_at ss o).queue (h o)) h)
+does_lone (TouchWrite o c v) s ss new ss' d fresh h = subst AllLone (sym d.1) (on_lone o (written c v) ss (h o) h)
 does_lone (Wants o c) s ss new ss' d fresh h = subst AllLone (sym d.1) h
 does_lone (TouchRead o c v) s ss new ss' d fresh h = absurd d
 does_lone (Enroll t n) s ss new ss' d fresh h = subst AllLone (sym d.3) h

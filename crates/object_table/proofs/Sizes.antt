@@ -22,7 +22,7 @@ use Rattle.schedule_core.specs.ByNumber.{shelf_at}
 use Rattle.schedule_core.specs.Plain.{Reached, begins, goes_on, root_shelves, on_shelf, Does}
 use Rattle.task_roll.specs.declared.note.PartNote.{PartNote}
 use Rattle.object_table.specs.Views.{shelf_of, home_if}
-use Rattle.object_table.proofs.Lists.{shelf_on, shelf_else}
+use Rattle.object_table.proofs.Lists.{shelf_on_or, shelf_else}
 
 abbrev Kept : ℕ → Option (List ℤ) → Type 0
 Kept n None = Unit {0}
@@ -99,11 +99,11 @@ abbrev AllSized : List ℕ → List ObjectView → Type 0
 AllSized ns ss = (o n : ℕ) → slice_get ns o ≡ Some n → Sized n (shelf_at ss o)
 
 -- a change of an object that leaves its size
-on_sized : (ns : List ℕ) (o : ℕ) (g : ObjectView → ObjectView) (ss : List ObjectView) → g (record { queue = []; content = [] })
-    ≡ record { queue = []; content = [] } → ((n : ℕ) → Sized n (shelf_at ss o) → Sized n (g (shelf_at ss o))) → AllSized ns ss → AllSized ns (on_shelf o g ss)
-on_sized ns o g ss of_none k h i n e = dite (ℕ_discrete i o)
+on_sized : (ns : List ℕ) (o : ℕ) (g : ObjectView → ObjectView) (ss : List ObjectView) → ((n : ℕ) → Sized n (shelf_at ss o) → Sized n (g (shelf_at ss o)))
+    → AllSized ns ss → AllSized ns (on_shelf o g ss)
+on_sized ns o g ss k h i n e = dite (ℕ_discrete i o)
     (λ same. subst (λ j. Sized n (shelf_at (on_shelf o g ss) j)) (sym same)
-    (subst (Sized n) (sym (shelf_on o g ss of_none)) (k n (h o n (subst (λ j. slice_get ns j ≡ Some n) same e)))))
+    (let was = h o n (subst (λ j. slice_get ns j ≡ Some n) same e) in shelf_on_or (Sized n) o g ss (k n was) was))
     (λ ne. subst (Sized n) (sym (shelf_else o i g ss ne)) (h i n e))
 
 zeros_long : (n : ℕ) → length {A = ℤ} (replicate n (pos 0)) ≡ n
@@ -120,28 +120,28 @@ start_sized (m ∷ ns) (suc o) n e = start_sized ns o n e
 
 module _ (ns : List ℕ) where
   does_sized : (e : Event) (s : Seat) (ss : List ObjectView) (new : List Seat) (ss' : List ObjectView) → Does e s ss new ss' → AllSized ns ss → AllSized ns ss'
-  does_sized (Take o m) s ss new ss' d h = subst (AllSized ns) (sym d.2) (on_sized ns o (taken s.path m) ss refl (λ n z. record {
+  does_sized (Take o m) s ss new ss' d h = subst (AllSized ns) (sym d.2) (on_sized ns o (taken s.path m) ss (λ n z. record {
     content = z.content;
     versions = rows_at n s.path (held_for m (shelf_at ss o).content) (shelf_at ss o).queue (row_held n m (shelf_at ss o).content z.content) z.versions;
   }) h)
-  does_sized (Give o) s ss new ss' d h = subst (AllSized ns) (sym d.1) (on_sized ns o (given s.path) ss refl (λ n z. record {
+  does_sized (Give o) s ss new ss' d h = subst (AllSized ns) (sym d.1) (on_sized ns o (given s.path) ss (λ n z. record {
     content = z.content;
     versions = rows_at n s.path released (shelf_at ss o).queue (row_released n) z.versions;
   }) h)
   does_sized (Enter o a) s ss new ss' d h =
-      subst (AllSized ns) (sym d.1) (on_sized ns o (entered s.path (s.path ++ s.children ∷ []) a) ss refl (λ n z. record {
+      subst (AllSized ns) (sym d.1) (on_sized ns o (entered s.path (s.path ++ s.children ∷ []) a) ss (λ n z. record {
         content = z.content;
         versions = rows_entered n s.path (s.path ++ s.children ∷ []) a (shelf_at ss o).queue z.versions;
       }) h)
-  does_sized (Shift o a) s ss new ss' d h = subst (AllSized ns) (sym d.1) (on_sized ns o (shifted s.path a) ss refl (λ n z. record {
+  does_sized (Shift o a) s ss new ss' d h = subst (AllSized ns) (sym d.1) (on_sized ns o (shifted s.path a) ss (λ n z. record {
     content = z.content;
     versions = rows_at n s.path (with_rights a) (shelf_at ss o).queue (λ e r. r) z.versions;
   }) h)
-  does_sized (Leave o) s ss new ss' d h = subst (AllSized ns) (sym d.1) (on_sized ns o (left s.path) ss refl (λ n z. record {
+  does_sized (Leave o) s ss new ss' d h = subst (AllSized ns) (sym d.1) (on_sized ns o (left s.path) ss (λ n z. record {
     content = z.content;
     versions = rows_without n s.path (shelf_at ss o).queue z.versions;
   }) h)
-  does_sized (TouchWrite o c v) s ss new ss' d h = subst (AllSized ns) (sym d.1) (on_sized ns o (written c v) ss refl (λ n z. record {
+  does_sized (TouchWrite o c v) s ss new ss' d h = subst (AllSized ns) (sym d.1) (on_sized ns o (written c v) ss (λ n z. record {
     content = length-set (shelf_at ss o).content c v ∙ z.content;
     versions = z.versions;
   }) h)
@@ -214,7 +214,7 @@ module _ (key : RunPlan) where
       by_entry Writing (Some d) h e = by_home (is_out x.queue) e
       by_entry Commuting (Some d) h e = by_home (is_out x.queue) e
 
-  past : (ss : List ObjectView) (ns : List ℕ) (o : ℕ) → length ss ≡ length ns → slice_get ns o ≡ None → shelf_at ss o ≡ record { queue = []; content = [] }
+  past : (ss : List ObjectView) (ns : List ℕ) (o : ℕ) → length ss ≡ length ns → slice_get ns o ≡ None → shelf_at ss o ≡ record { queue = []; content = []; turns = [] }
   past [] ns o l e = refl
   past (s ∷ ss) [] o l e = absurd (cc)
   past (s ∷ ss) (n ∷ ns) zero l e = absurd (cc)
@@ -228,7 +228,7 @@ module _ (key : RunPlan) where
       ≡ Some (length xs)
   got_sized k roll ss notes r o p m xs got = go (slice_get (sizes key.program.items) o) refl
     where
-      nothing : (y : Mode) → hand_in p y (shelf_of (record { queue = []; content = [] })) ≡ None
+      nothing : (y : Mode) → hand_in p y (shelf_of (record { queue = []; content = []; turns = [] })) ≡ None
       nothing y = refl
 
       go : (f : Option ℕ) → slice_get (sizes key.program.items) o ≡ f → slice_get (sizes key.program.items) o ≡ Some (length xs)

@@ -165,8 +165,8 @@ by_limit a b store s e = subst (λ x. IsFault (answer_by a x store)) (sym e) (go
     go (Some f) = choose (is_before (key f.path f.children) (key s.path s.children)) f
 
 -- where some steps are left, the report tells the contents
-pub tells_cells : (l k : ℕ) (cs : List (List ℤ)) (ns : List PartNote) → left_after l ns ≡ Some k → report_answer l (told_of cs (by_key ns)) ≡ Cells cs
-tells_cells l k cs ns e =
+pub tells_cells : (l k : ℕ) (cs : List (List ℤ)) (ts : List (List (List ℕ))) (ns : List PartNote) → left_after l ns ≡ Some k → report_answer l (told_of cs ts (by_key ns)) ≡ Cells cs
+tells_cells l k cs ts ns e =
     ap (λ a. answer_by a (step_over l (map step_note (by_key ns))) cs) (no_fault (by_key ns) (well_by_key ns ∙ (some_left l k ns e).0))
     ∙ ap (λ b. answer_by None b cs) (not_over l (by_key ns) few)
   where
@@ -174,10 +174,10 @@ tells_cells l k cs ns e =
     few = let s = steps_by_key ns in let r = (some_left l k ns e).1 in omega (arith, s, r)
 
 -- and else it tells a fault
-pub tells_fault : (l : ℕ) (cs : List (List ℤ)) (ns : List PartNote) → left_after l ns ≡ None → IsFault (report_answer l (told_of cs (by_key ns)))
-tells_fault l cs ns e = go (none_left l ns e)
+pub tells_fault : (l : ℕ) (cs : List (List ℤ)) (ts : List (List (List ℕ))) (ns : List PartNote) → left_after l ns ≡ None → IsFault (report_answer l (told_of cs ts (by_key ns)))
+tells_fault l cs ts ns e = go (none_left l ns e)
   where
-    go : (are_well ns ≡ false) ⊎ (l < steps_in ns) → IsFault (report_answer l (told_of cs (by_key ns)))
+    go : (are_well ns ≡ false) ⊎ (l < steps_in ns) → IsFault (report_answer l (told_of cs ts (by_key ns)))
     go (inl w) =
         let f = some_fault (by_key ns) (well_by_key ns ∙ w) in
         by_fault (first_note (filter_map fault_note (by_key ns))) (step_over l (map step_note (by_key ns))) cs f.0 f.1

@@ -153,8 +153,8 @@ module _ (n : ℕ) (key : RunPlan) (s : table.State Slot View) (h : Shown n key 
         hidden : shelf_of (shelf_at h.shelves o) ≡ shelf_of (written c x (shelf_at h.shelves o))
         hidden =
             let b : is_out (shelf_at h.shelves o).queue ≡ true = found_out v.seat.path out.entry (shelf_at h.shelves o).queue out.there out.hold in
-            ap (λ z. record { queue = (shelf_at h.shelves o).queue; home = home_if z (shelf_at h.shelves o).content }) b
-            ∙ sym (ap (λ z. record { queue = (shelf_at h.shelves o).queue; home = home_if z (slice_set (shelf_at h.shelves o).content c x) }) b)
+            ap (λ z. record { queue = (shelf_at h.shelves o).queue; home = home_if z (shelf_at h.shelves o).content; turns = (shelf_at h.shelves o).turns }) b
+            ∙ sym (ap (λ z. record { queue = (shelf_at h.shelves o).queue; home = home_if z (slice_set (shelf_at h.shelves o).content c x); turns = (shelf_at h.shelves o).turns }) b)
 
     pub write_on : Shown n key (record { words = s.words; homes = s.homes; views = set s.views id w3 })
     write_on =

@@ -47,7 +47,7 @@ home_if false xs = Some xs
 
 -- an object, without the content that a task has out
 abbrev pub shelf_of : ObjectView → ShelfView
-shelf_of x = record { queue = x.queue; home = home_if (is_out x.queue) x.content }
+shelf_of x = record { queue = x.queue; home = home_if (is_out x.queue) x.content; turns = x.turns }
 
 -- the notes of the core, by key, that notes in any order are
 abbrev pub core_notes : List PartNote → List PartNote

@@ -4,7 +4,7 @@ ghost use Rattle.std.specs.Prelude.{◌≡◌, ◌<◌, ◌≤◌, ◌+◌, [], 
 ghost use Rattle.std.specs.Mem.Slots.{slots_filled, slots_items, slots_len, IsFull};
 ghost use Rattle.jade_meaning.specs.Plan.{RunPlan};
 ghost use Rattle.object_table.specs.steps.Kept.{Laid, shown};
-ghost use Rattle.object_table.specs.steps.Endings.{EndLaws, LastSlots, Emptied, cells_in, notes_in};
+ghost use Rattle.object_table.specs.steps.Endings.{EndLaws, LastSlots, Emptied, cells_in, notes_in, turns_at};
 
 use crate::notes::Notes;
 use crate::ran::Ran;
@@ -12,7 +12,7 @@ use crate::slot::Slot;
 use crate::task::Task;
 use crate::view::{Sharing, View};
 use atomic_table::{Closed, Table};
-use jade_base::{CellLists, Memory, Numbers};
+use jade_base::{CellLists, Memory, Numbers, Path, PathList, TurnLists};
 use jade_list::sequence::Sequence;
 use jade_meaning::Plan;
 use std::alloc::Global;
@@ -21,7 +21,7 @@ use std::alloc::Global;
 fn end_laws()
     ensures { (key : RunPlan) → EndLaws key }
 {
-    schedule_core::laws::core_shows();
+    schedule_core::laws::reports_are_serial();
     schedule_core::laws::entries_are_owned();
 }
 
@@ -41,9 +41,11 @@ pub(crate) fn finish_with<'c>(
     end_laws();
     let (slots, roll) = close(alloc, table, task)?;
     let objects = contents_of(alloc, slots.as_slice())?;
+    let turns = turns_of(alloc, slots.as_slice())?;
     let notes = notes_of(alloc, roll);
     Ok(Ran {
         objects,
+        turns,
         notes,
         plan,
     })
@@ -136,6 +138,47 @@ fn cells_of(alloc: Global, slot: &Slot) -> Result<Numbers, Memory>
         Slot::Away => Ok(Sequence::empty(alloc)),
         Slot::Roll(_) => Ok(Sequence::empty(alloc)),
     }
+}
+
+// The turns on the objects in slots.
+fn turns_of(alloc: Global, slots: &[Slot]) -> Result<TurnLists, Memory>
+    ensures { IfOk result (λ lists. lists ≡ map turns_at slots.now) }
+{
+    let mut lists = Sequence::empty(alloc);
+    for slot in slots {
+        let paths = turns_in_slot(alloc, slot)?;
+        match lists.push(paths) {
+            Ok(()) => {}
+            Err(_) => return Err(Memory),
+        }
+    }
+    Ok(lists)
+}
+
+// The turns on the object in a slot.
+fn turns_in_slot(alloc: Global, slot: &Slot) -> Result<PathList, Memory>
+    ensures { IfOk result (λ paths. paths ≡ turns_at slot.now) }
+{
+    match slot {
+        Slot::Object(shelf) => paths_of(alloc, shelf.turns()),
+        Slot::Away => Ok(Sequence::empty(alloc)),
+        Slot::Roll(_) => Ok(Sequence::empty(alloc)),
+    }
+}
+
+// The same paths once more.
+fn paths_of(alloc: Global, paths: &[Path]) -> Result<PathList, Memory>
+    ensures { IfOk result (λ list. list ≡ paths.now) }
+{
+    let mut list = Sequence::empty(alloc);
+    for path in paths {
+        let copy = path.copy(alloc)?;
+        match list.push(copy) {
+            Ok(()) => {}
+            Err(_) => return Err(Memory),
+        }
+    }
+    Ok(list)
 }
 
 // The notes in a slot.

@@ -47,7 +47,7 @@ through p q r e f = go (slice_cmp nat_cmp q r) refl
         let g : is_before r q ≡ true = is_less r q (nat_list_cmp_total.antisymm r q ∙ ap ordering_reverse h) in
         absurd (true≢false (sym g ∙ f))
 
-trans : (p q r : List ℕ) → is_before p q ≡ true → is_before q r ≡ true → is_before p r ≡ true
+pub trans : (p q r : List ℕ) → is_before p q ≡ true → is_before q r ≡ true → is_before p r ≡ true
 trans p q r e f = through p q r e (asym q r f)
 
 -- a note that stands before another has nothing of what follows that before it

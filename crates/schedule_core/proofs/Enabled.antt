@@ -12,17 +12,16 @@ use Rattle.jade_meaning.specs.Talk.{Event, Enter, Enroll, Take, TouchRead, Touch
 use Rattle.jade_meaning.specs.Walk.{upcoming, First}
 use Rattle.object_shelf.specs.declared.queue.Entry.{Entry}
 use Rattle.object_shelf.specs.Views.{ObjectView}
-use Rattle.object_shelf.specs.Shelves.{same_path, find, at, without, entered_in, newborn, changes, conflicts, blocker_in, if_read_only, held_for, version_at}
-use Rattle.object_shelf.specs.Shelves.{released, with_rights, taken, given, shifted, left, entered, written}
-use Rattle.object_shelf.proofs.Order.{same-is as same_is}
+use Rattle.object_shelf.specs.Shelves.{same_path, find, at, without, entered_in, newborn, changes, conflicts, blocker_in, if_read_only, held_for, version_at, released, with_rights, taken, given, shifted, left, entered, written}
 use Rattle.schedule_core.specs.declared.steps.Seat.{Seat}
 use Rattle.task_roll.specs.declared.note.PartNote.{PartNote}
 use Rattle.schedule_core.specs.Fitting.{Lessened}
 use Rattle.schedule_core.specs.Plain.{on_shelf, Does, NotedIn, Reached}
 use Rattle.schedule_core.specs.Shown.{shelf_at}
 use Rattle.schedule_core.specs.Tells.{EntriesAreThere}
-use Rattle.schedule_core.specs.Queued.{Spares, StaysEnabled}
-use Rattle.schedule_core.proofs.Showing.{path_same, shelf_here, shelf_there, keeper_none, keeper_is}
+use Rattle.schedule_core.specs.Soundness.{Spares, StaysEnabled}
+use Rattle.schedule_core.proofs.Showing.{path_same, same_is, shelf_here, shelf_there, keeper_none, keeper_is}
+use Rattle.schedule_core.proofs.Moves.{queue_taken}
 
 -- tests
 or_true : (a b : Bool) → a || b ≡ true → (a ≡ true) ⊎ (b ≡ true)
@@ -171,12 +170,12 @@ grown q sp c a m n (e ∷ es) less h = by (same_path sp e.path) refl (same_path 
         ap (λ b. blocker_in q m (if b then newborn c a e ∷ (e ∷ es) else e ∷ entered_in sp c a es)) y ∙ pass q m e (entered_in sp c a es) r.0 (again y r.1)
 
 -- an event on one object leaves the others
-on_object : (o q : ℕ) (g : ObjectView → ObjectView) (ss : List ObjectView) → g (record { queue = []; content = [] }) ≡ record { queue = []; content = [] }
+on_object : (o q : ℕ) (g : ObjectView → ObjectView) (ss : List ObjectView) → ((q : ℕ) → (shelf_at (on_shelf q g ss) q).queue ≡ (g (shelf_at ss q)).queue)
     → (P : List Entry → Type 0) → P (shelf_at ss o).queue → (q ≡ o → P (g (shelf_at ss o)).queue) → P (shelf_at (on_shelf q g ss) o).queue
 on_object o q g ss none P same here = go (eqb_tells q o)
   where
     go : ((nat_eq q o ≡ true) × (q ≡ o)) ⊎ ((nat_eq q o ≡ false) × (q ≢ o)) → P (shelf_at (on_shelf q g ss) o).queue
-    go (inl k) = subst (λ i. P (shelf_at (on_shelf i g ss) o).queue) (sym k.1) (subst (λ (s : ObjectView). P s.queue) (sym (shelf_here o g ss none)) (here k.1))
+    go (inl k) = subst (λ i. P (shelf_at (on_shelf i g ss) o).queue) (sym k.1) (subst P (sym (none o)) (here k.1))
     go (inr k) = subst (λ (s : ObjectView). P s.queue) (sym (shelf_there q o g ss (λ e. k.1 (sym e)))) same
 
 some_entry : (d e : Entry) → ◌≡◌ {A = Option Entry} (Some d) (Some e) → d ≡ e
@@ -191,28 +190,28 @@ module _ (p : Program) (ns : List ℤ) (limit : ℕ) (there : EntriesAreThere p 
   still : (e : Event) → First (upcoming s.walker) (λ x. x ≡ e) → Does e s ss new ss' → (same_path s.path q ≡ true → Spares o e) → Clear (shelf_at ss o).queue
       → Clear (shelf_at ss' o).queue
   still (Take i n) first does spares h =
-      subst (λ z. Clear (shelf_at z o).queue) (sym does.2) (on_object o i (taken s.path n) ss refl Clear h
+      subst (λ z. Clear (shelf_at z o).queue) (sym does.2) (on_object o i (taken s.path n) ss (λ j. queue_taken j s.path n ss) Clear h
       (λ x. changed q s.path m (held_for n (shelf_at ss o).content) (λ e. refl) (shelf_at ss o).queue
       (λ e f c. not_now m (held_for n (shelf_at ss o).content e) e
       (calmer m (held_for n (shelf_at ss o).content e) e (no_less e.rights)
       (λ v. or_right (changes e.rights) (is_none e.version) (none_at n e.version (shelf_at ss o).content v))) c) h))
   still (Give i) first does spares h =
-      subst (λ z. Clear (shelf_at z o).queue) (sym does.1) (on_object o i (given s.path) ss refl Clear h
+      subst (λ z. Clear (shelf_at z o).queue) (sym does.1) (on_object o i (given s.path) ss (λ j. ap (λ (z : ObjectView). z.queue) (shelf_here j (given s.path) ss refl)) Clear h
       (λ x. changed q s.path m released (λ e. refl) (shelf_at ss o).queue
       (λ e f c. not_now m (released e) e (calmer m (released e) e (no_less e.rights) (kept_version e.rights e.version)) c) h))
   still (Shift i a) first does spares h =
       let may = there.shifts k roll ss notes r place s at_place i a first in
-      subst (λ z. Clear (shelf_at z o).queue) (sym does.1) (on_object o i (shifted s.path a) ss refl Clear h
+      subst (λ z. Clear (shelf_at z o).queue) (sym does.1) (on_object o i (shifted s.path a) ss (λ j. ap (λ (z : ObjectView). z.queue) (shelf_here j (shifted s.path a) ss refl)) Clear h
       (λ x. changed q s.path m (with_rights a) (λ e. refl) (shelf_at ss o).queue (λ e f c. let same : may.entry ≡ e =
       some_entry may.entry e (sym may.there ∙ ap (λ j. find s.path (shelf_at ss j).queue) x ∙ f) in
       not_now m (with_rights a e) e (calmer m (with_rights a e) e (subst (λ (z : Entry). Lessened a z.rights) same may.less)
       (λ v. or_right (changes e.rights) (is_none e.version) v)) c) h))
   still (Leave i) first does spares h =
-      subst (λ z. Clear (shelf_at z o).queue) (sym does.1) (on_object o i (left s.path) ss refl Clear h
+      subst (λ z. Clear (shelf_at z o).queue) (sym does.1) (on_object o i (left s.path) ss (λ j. ap (λ (z : ObjectView). z.queue) (shelf_here j (left s.path) ss refl)) Clear h
       (λ x. gone q s.path m (λ e. spares (ap (λ z. same_path z q) e ∙ path_same q) x) (shelf_at ss o).queue h))
   still (Enter i a) first does spares h =
       let may = there.enters k roll ss notes r place s at_place i a first in
-      subst (λ z. Clear (shelf_at z o).queue) (sym does.1) (on_object o i (entered s.path (s.path ++ s.children ∷ []) a) ss refl Clear h
+      subst (λ z. Clear (shelf_at z o).queue) (sym does.1) (on_object o i (entered s.path (s.path ++ s.children ∷ []) a) ss (λ j. ap (λ (z : ObjectView). z.queue) (shelf_here j (entered s.path (s.path ++ s.children ∷ []) a) ss refl)) Clear h
       (λ x. grown q s.path (s.path ++ s.children ∷ []) a m (λ e. spares (ap (λ z. same_path z q) e
       ∙ path_same q) x) (shelf_at ss o).queue (λ e f. let same : may.entry ≡ e =
       some_entry may.entry e (sym may.there ∙ ap (λ j. find s.path (shelf_at ss j).queue) x ∙ f) in

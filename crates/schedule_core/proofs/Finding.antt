@@ -15,7 +15,7 @@ use Rattle.schedule_core.specs.declared.steps.Seat.{Seat}
 use Rattle.task_roll.specs.declared.note.PartNote.{PartNote}
 use Rattle.schedule_core.specs.Plain.{Reached, goes_on, NotedIn, StepIn, on_shelf, seat_after}
 use Rattle.schedule_core.specs.ByNumber.{shelf_at}
-use Rattle.schedule_core.specs.Queued.{InSerialOrder}
+use Rattle.schedule_core.specs.Soundness.{InSerialOrder}
 use Rattle.schedule_core.specs.Tells.{CoreTells, EntriesAreThere}
 use Rattle.schedule_core.specs.steps.Finds.{Finds}
 use Rattle.schedule_core.proofs.Showing.{shelf_here}

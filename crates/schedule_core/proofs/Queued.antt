@@ -1,5 +1,5 @@
 -- Tasks and entries stand in serial order, and a reader beside a writer stands before it.
-use Rattle.std.proofs.Common.{◌≡◌, ℕ, zero, suc, ◌<◌, Bool, true, false, not, ◌&&◌, ◌||◌, List, [], ◌∷◌, ◌++◌, map, refl, sym, ap, ◌∙◌, subst, Option, Some}
+use Rattle.std.proofs.Common.{◌≡◌, ℕ, zero, suc, ◌<◌, Bool, true, false, not, ◌&&◌, ◌||◌, List, [], ◌∷◌, ◌++◌, length, refl, sym, ap, ◌∙◌, subst, Option, Some}
 use Rattle.std.proofs.Common.{None, arith, append-nil, append_assoc, ◌⊎◌, inl, inr}
 use Rattle.std.specs.Prelude.{ℤ, slice_get, is_some, if◌then◌else◌}
 use Rattle.jade_base.specs.declared.rights.Rights.{Rights}
@@ -10,30 +10,49 @@ use Rattle.jade_syntax.specs.declared.tree.Program.{Program}
 use Rattle.jade_syntax.specs.Image.{program}
 use Rattle.jade_syntax.specs.Objects.{sizes}
 use Rattle.jade_meaning.specs.Specification.{rights_on}
-use Rattle.jade_meaning.specs.Course.{Course, Reads, Writes, Steps, Creates, Changes, Ends}
-use Rattle.jade_meaning.specs.Serial.{Path, serial_run, zeros}
+use Rattle.jade_meaning.specs.Course.{Course, Reads, Writes, Steps, Creates, Changes, Ends, root_spec, root_course}
+use Rattle.jade_meaning.specs.Serial.{Path, zeros}
+use Rattle.jade_meaning.specs.Turns.{turns_on, marks_by}
+use Rattle.jade_meaning.specs.Proper.{Proper}
+use Rattle.jade_meaning.specs.Talk.{Event, Enter, Enroll, Take, TouchRead, TouchWrite, Wants, Give, Leave, Shift, Resign}
+use Rattle.jade_syntax.specs.Abstract.{AbstractProgram}
+use Rattle.schedule_core.specs.Going.{Going}
+use Rattle.schedule_core.specs.Reached as reaches
+use Rattle.schedule_core.proofs.Schedules.{reached_sound}
+use Rattle.schedule_core.proofs.Stuck.{core_shows}
 use Rattle.jade_meaning.specs.Laws.{Every}
 use Rattle.object_shelf.specs.declared.queue.Entry.{Entry}
 use Rattle.object_shelf.specs.Views.{ObjectView}
 use Rattle.object_shelf.specs.Shelves.{same_path, find, takes_out}
 use Rattle.object_shelf.specs.Order.{stands_before, before_all, is_ordered}
 use Rattle.schedule_core.specs.declared.steps.Seat.{Seat}
-use Rattle.schedule_core.specs.Core.{Cells, changes, touches, enters_still, handed_on, is_writing, quiet}
-use Rattle.schedule_core.specs.Unplaced.{Live, State}
-use Rattle.schedule_core.specs.Sited as sited
+use Rattle.schedule_core.specs.Core.{Cells, changes, touches, enters_still, handed_on, is_out, quiet, quietly, with_pending, going_on, child_of, value_in, content_for}
+use Rattle.schedule_core.specs.Unplaced.{Live, State, event_done, deed_done}
 use Rattle.schedule_core.specs.Sound.{Apart, Pairs, Fit, Before}
 use Rattle.schedule_core.specs.More.{InOrder}
 use Rattle.schedule_core.specs.Shown.{slot, born_slots, slots, line, shelf_at, Seated}
 use Rattle.schedule_core.specs.Mirror.{CoreShows, Mirror}
-use Rattle.schedule_core.specs.Tells.{CoreTells}
-use Rattle.schedule_core.specs.Queued.{Owner, EntriesAreOwned, InSerialOrder, ReadsBefore, HeldAlone}
+use Rattle.schedule_core.specs.Soundness.{Owner, EntriesAreOwned, InSerialOrder, ReadsBefore, HeldAlone}
 use Rattle.schedule_core.proofs.Lines.{every_append, every_with}
-use Rattle.schedule_core.proofs.Order.{earlier, stands, before_child, child_before, child_first}
-use Rattle.schedule_core.proofs.Bare.{Trim, trim}
+use Rattle.schedule_core.proofs.Order.{earlier, stands, before_child, child_before, child_first, same_order, less_order, enroll_order}
 use Rattle.schedule_core.proofs.Holds.{held_with}
-use Rattle.schedule_core.proofs.Showing.{path_same}
-use Rattle.schedule_core.proofs.Tells.{find_both, some_entry, takes_writing}
-use Rattle.object_shelf.proofs.Order.{same-is as same_is}
+use Rattle.schedule_core.proofs.Showing.{path_same, same_is}
+
+pub some_entry : (d e : Entry) → ◌≡◌ {A = Option Entry} (Some d) (Some e) → d ≡ e
+some_entry d e q = cc
+
+pub find_both : (p : Path) (es fs : List Entry) (d : Entry) → find p (es ++ fs) ≡ Some d → (find p es ≡ Some d) ⊎ (find p fs ≡ Some d)
+find_both p [] fs d h = inr h
+find_both p (e ∷ es) fs d h = go (find_both p es fs d) (same_path p e.path) refl
+  where
+    go : (find p (es ++ fs) ≡ Some d → (find p es ≡ Some d) ⊎ (find p fs ≡ Some d)) → (b : Bool) → same_path p e.path ≡ b → (find p (e ∷ es) ≡ Some d)
+        ⊎ (find p fs ≡ Some d)
+    go more true q = inl (ap (λ b. if b then Some e else find p es) q ∙ sym (ap (λ b. if b then Some e else find p (es ++ fs)) q) ∙ h)
+    go more false q = turn (more (sym (ap (λ b. if b then Some e else find p (es ++ fs)) q) ∙ h))
+      where
+        turn : (find p es ≡ Some d) ⊎ (find p fs ≡ Some d) → (find p (e ∷ es) ≡ Some d) ⊎ (find p fs ≡ Some d)
+        turn (inl x) = inl (ap (λ b. if b then Some e else find p es) q ∙ x)
+        turn (inr x) = inr x
 
 -- entries behind a task
 before_both : (p : Path) (es fs : List Entry) → before_all p es ≡ true → before_all p fs ≡ true → before_all p (es ++ fs) ≡ true
@@ -139,15 +158,6 @@ ordered_line o (t ∷ ts) h far =
     ap is_ordered (append_assoc born mine (line o ts)) ∙ ordered_born t.doing.course o t (mine ++ line o ts)
     (before_both kid mine (line o ts) (before_slot kid t.path (t.rights o) (t.held o) (t.versions o) first) (before_line kid o ts kids))
     (ordered_slot t.path (t.rights o) (t.held o) (t.versions o) (line o ts) (before_line t.path o ts behind) rest)
-
--- the order of tasks without places
-each_bare : (s : sited.Live) (ts : List sited.Live) → Every (InOrder s) ts → Every (InOrder (sited.bare s)) (map sited.bare ts)
-each_bare s [] h = tt
-each_bare s (t ∷ ts) h = (h.0, each_bare s ts h.1)
-
-order_bare : (ts : List sited.Live) → Pairs InOrder ts → Pairs InOrder (map sited.bare ts)
-order_bare [] h = tt
-order_bare (t ∷ ts) h = (each_bare t ts h.0, order_bare ts h.1)
 
 -- seats in order
 seats_behind : (p : Path) (seats : List Seat) (ts : List Live) → Seated seats ts → Every (λ (u : Live). stands_before p u.path ≡ true) ts → (j : ℕ) (s : Seat)
@@ -258,34 +268,10 @@ line_holds p o (t ∷ ts) d f x = go (λ g. line_holds p o ts d g x) (find_both 
     go more (inl y) = own (find_both p (born_slots t.doing.course o t) (slot t.path (t.rights o) (t.held o) (t.versions o)) d y)
     go more (inr y) = later t ts (more y)
 
--- a task with some place, where only what it holds matters
-somewhere : Live → sited.Live
-somewhere t = record { path = t.path; part = t.part; place = []; rights = t.rights; held = t.held; versions = t.versions; doing = t.doing }
-
 -- of two tasks that hold an object, one with its content out
-two_hold : (o : ℕ) (s t : Live) → Fit s → Fit t → Before o s t → is_some (s.held o) ≡ true → is_some (t.held o) ≡ true → (is_writing (s.held o) ≡ true)
-    ⊎ (is_writing (t.held o) ≡ true) → (is_writing (t.held o) ≡ true) × (quiet o s ≡ true) × (s.held o ≡ Some Reading)
-unfolding somewhere
-two_hold o s t f g b hs ht w =
-    held_with o (somewhere s) (somewhere t) (record {
-      proper = f.proper;
-      less = f.less;
-      holds = f.holds;
-      keeps = f.keeps;
-      reading = f.reading;
-      plain =
-          f.plain;
-      orderly = f.orderly;
-    }) (record {
-      proper = g.proper;
-      less = g.less;
-      holds = g.holds;
-      keeps = g.keeps;
-      reading = g.reading;
-      plain =
-          g.plain;
-      orderly = g.orderly;
-    }) (record { writing = b.writing; reading = b.reading }) hs ht w
+two_hold : (o : ℕ) (s t : Live) → Fit s → Fit t → Before o s t → is_some (s.held o) ≡ true → is_some (t.held o) ≡ true → (is_out (s.held o) ≡ true)
+    ⊎ (is_out (t.held o) ≡ true) → (is_out (t.held o) ≡ true) × (quiet o s ≡ true) × (s.held o ≡ Some Reading)
+two_hold o s t f g b hs ht w = let r = held_with o s t f g b hs ht w in (r.0, r.2, r.1)
 
 out_some : (h : Option Mode) → takes_out h ≡ true → is_some h ≡ true
 out_some None e = absurd (cc)
@@ -306,7 +292,7 @@ reader_first o q r d e t _ path is ft fs bs os hd he (later u us x) = reader_fir
 reader_first o q r d e t _ path is ft fs bs os hd he (here u us p i) =
     let mine : is_some (t.held o) ≡ true = ap (λ (z : Entry). is_some z.hold) (sym is) ∙ hd in
     let out : takes_out (u.held o) ≡ true = ap (λ (z : Entry). takes_out z.hold) (sym i) ∙ he in
-    let w = two_hold o t u ft fs.0 bs.0 mine (out_some (u.held o) out) (inr (takes_writing (u.held o) out)) in
+    let w = two_hold o t u ft fs.0 bs.0 mine (out_some (u.held o) out) (inr out) in
     record {
       reads = ap (λ (z : Entry). z.hold) is ∙ w.2;
       read_only = ap (λ (z : Entry). changes z.rights) is ∙ calm_rights (t.rights o) (t.versions o) w.1;
@@ -322,7 +308,7 @@ writer_last o r d e t _ is ft fs bs hd he (later u us x) = writer_last o r d e t
 writer_last o r d e t _ is ft fs bs hd he (here u us p i) =
     let out : takes_out (t.held o) ≡ true = ap (λ (z : Entry). takes_out z.hold) (sym is) ∙ he in
     let other : is_some (u.held o) ≡ true = ap (λ (z : Entry). is_some z.hold) (sym i) ∙ hd in
-    let w = two_hold o t u ft fs.0 bs.0 (out_some (t.held o) out) other (inl (takes_writing (t.held o) out)) in
+    let w = two_hold o t u ft fs.0 bs.0 (out_some (t.held o) out) other (inl out) in
     absurd (let y : false ≡ true = sym (ap takes_out w.2) ∙ out in cc)
 
 none_holds : (o : ℕ) (p : Path) (d : Entry) (ts : List Live) → Holds_as o p d ts → ts ≡ [] → ⊥
@@ -338,13 +324,61 @@ reads_before o q r d e (t ∷ ts) n fs bs os hd he (here _ _ p i) (later _ _ b) 
 reads_before o q r d e (t ∷ ts) n fs bs os hd he (later _ _ a) (here _ _ p i) = absurd (writer_last o q d e t ts i fs.0 fs.1 bs.0 hd he a)
 reads_before o q r d e (t ∷ ts) n fs bs os hd he (later _ _ a) (later _ _ b) = reads_before o q r d e ts n fs.1 bs.1 os.1 hd he a b
 
-module _ (p : Program) (ns : List ℤ) (limit : ℕ) (shows : CoreShows p ns limit) (seats : List Seat) (ss : List ObjectView)
+-- one task alone has a content out
+no_two : (o : ℕ) (q r : Path) (d e : Entry) (t : Live) (us : List Live) → d ≡ record { path = t.path; rights = t.rights o; hold = t.held o; version = t.versions o }
+    → Every (Before o t) us → takes_out d.hold ≡ true → takes_out e.hold ≡ true → Holds_as o r e us → ⊥
+no_two o q r d e t _ is bs hd he (later u us x) = no_two o q r d e t us is bs.1 hd he x
+no_two o q r d e t _ is bs hd he (here u us p i) =
+    bs.0.one (ap (λ (z : Entry). takes_out z.hold) (sym is) ∙ hd) (ap (λ (z : Entry). takes_out z.hold) (sym i) ∙ he)
+
+one_out : (o : ℕ) (q r : Path) (d e : Entry) (ts : List Live) → Pairs (Before o) ts → takes_out d.hold ≡ true → takes_out e.hold ≡ true → Holds_as o q d ts
+    → Holds_as o r e ts → same_path q r ≡ true
+one_out o q r d e [] bs hd he a b = absurd (none_holds o q d [] a refl)
+one_out o q r d e (t ∷ ts) bs hd he (here _ _ p i) (here _ _ p' i') = ap (same_path q) (sym p' ∙ p) ∙ path_same q
+one_out o q r d e (t ∷ ts) bs hd he (here _ _ p i) (later _ _ b) = absurd (no_two o q r d e t ts i bs.0 hd he b)
+one_out o q r d e (t ∷ ts) bs hd he (later _ _ a) (here _ _ p i) = absurd (no_two o r q e d t ts i bs.0 he hd a)
+one_out o q r d e (t ∷ ts) bs hd he (later _ _ a) (later _ _ b) = one_out o q r d e ts bs.1 hd he a b
+
+-- a roll that goes on stays in order
+quiet_path : (e : Event) (f : ℕ → Cells) (t : Live) → (quietly e f t).path ≡ t.path
+quiet_path (Take o m) f t = refl
+quiet_path (Give o) f t = refl
+quiet_path (Shift o a) f t = refl
+quiet_path (Leave o) f t = refl
+quiet_path (Enter o a) f t = refl
+quiet_path (Enroll x n) f t = refl
+quiet_path (TouchRead o c v) f t = refl
+quiet_path (TouchWrite o c v) f t = refl
+quiet_path (Wants o c) f t = refl
+quiet_path (Resign b n) f t = refl
+
+event_order : (b l : List Live) (t : Live) (f : ℕ → Cells) → Pairs InOrder (b ++ (t ∷ l)) → Pairs Apart (b ++ (t ∷ l)) → (es : List Event)
+    → Pairs InOrder (b ++ ((event_done es f t).tasks ++ l))
+event_order b l t f h far (e ∷ es) = same_order b t (with_pending es (quietly e f t)) l h (quiet_path e f t)
+event_order b l t f h far [] = go t.doing.course
+  where
+    go : (c : Course) → Pairs InOrder (b ++ ((deed_done c f t).tasks ++ l))
+    go (Reads o c on) = same_order b t (going_on (on (value_in (content_for t o (f o)) c)) t.doing.steps t) l h refl
+    go (Writes o c v on) = same_order b t (going_on on t.doing.steps (record t { place = tt })) l h refl
+    go (Creates child body on) = enroll_order b t (child_of child body t) (going_on on 0 (record t { part = suc t.part; place = tt })) l h far refl refl
+    go (Ends x) = less_order b t l h
+    go (Steps on) = h
+    go (Changes new on) = h
+
+pub state_order : (p : AbstractProgram) (ns : List ℤ) (limit : ℕ) → Proper (root_spec p) (root_course p ns limit) → (st : State) → reaches.Reached p ns limit st
+    → Pairs InOrder st.roll
+state_order p ns limit proper _ reaches.starts = (tt, tt)
+state_order p ns limit proper _ (reaches.steps {st = st} b l c r roll allowed) =
+    event_order b l c st.contents (subst (Pairs InOrder) roll (state_order p ns limit proper st r))
+    (subst (Pairs Apart) roll ((reached_sound p ns limit proper st r).by (λ o. [])).apart) c.doing.pending
+
+module _ (proper : (p : AbstractProgram) (ns : List ℤ) (limit : ℕ) → Proper (root_spec p) (root_course p ns limit)) (p : Program) (ns : List ℤ) (limit : ℕ) (seats : List Seat) (ss : List ObjectView)
     (m : Mirror p ns limit seats ss) where
-  known : Trim m.state
-  known = trim (serial_run (program p) ns limit) (zeros (sizes p.items)) m.state m.sound
+  known : Going (λ o. []) (length (sizes p.items)) (marks_by (program p) ns limit (λ o. turns_on o m.state.log ++ [])) (zeros (sizes p.items)) m.state
+  known = m.sound.by (λ o. [])
 
   order : Pairs InOrder m.state.roll
-  order = subst (λ (y : State). Pairs InOrder y.roll) m.sound.same (order_bare m.sound.placed.roll m.sound.ranged.standing)
+  order = state_order (program p) ns limit (proper (program p) ns limit) m.state m.reached
 
   rows : (o : ℕ) → (shelf_at ss o).queue ≡ line o m.state.roll
   rows o = ap (λ (y : ObjectView). y.queue) (m.shown.shelves o)
@@ -352,18 +386,27 @@ module _ (p : Program) (ns : List ℤ) (limit : ℕ) (shows : CoreShows p ns lim
   queue_of : (o : ℕ) → is_ordered (shelf_at ss o).queue ≡ true
   queue_of o = ap is_ordered (rows o) ∙ ordered_line o m.state.roll order known.apart
 
+  one_of : (o : ℕ) (q r : List ℕ) (d e : Entry) → find q (shelf_at ss o).queue ≡ Some d → takes_out d.hold ≡ true
+      → find r (shelf_at ss o).queue ≡ Some e → takes_out e.hold ≡ true → same_path q r ≡ true
+  one_of o q r d e a hd b he =
+      one_out o q r d e m.state.roll (known.before o) hd he (line_holds q o m.state.roll d (ap (find q) (sym (rows o)) ∙ a) (out_some d.hold hd))
+      (line_holds r o m.state.roll e (ap (find r) (sym (rows o)) ∙ b) (out_some e.hold he))
+
   readers_of : (o : ℕ) (q r : List ℕ) (d e : Entry) → same_path q r ≡ false → find q (shelf_at ss o).queue ≡ Some d → is_some d.hold ≡ true
       → find r (shelf_at ss o).queue ≡ Some e → takes_out e.hold ≡ true → ReadsBefore d q r
   readers_of o q r d e n a hd b he =
       reads_before o q r d e m.state.roll n known.fits (known.before o) order hd he (line_holds q o m.state.roll d (ap (find q) (sym (rows o))
       ∙ a) hd) (line_holds r o m.state.roll e (ap (find r) (sym (rows o)) ∙ b) (out_some e.hold he))
 
-module _ (p : Program) (ns : List ℤ) (limit : ℕ) (shows : CoreShows p ns limit) where
+module _ (proper : (p : AbstractProgram) (ns : List ℤ) (limit : ℕ) → Proper (root_spec p) (root_course p ns limit)) (p : Program) (ns : List ℤ) (limit : ℕ) where
+  shows : CoreShows p ns limit
+  shows = core_shows proper p ns limit
+
   pub in_serial_order : InSerialOrder p ns limit
   in_serial_order = record {
     tasks = λ k roll ss notes r i j s t a b lt. let m = shows.mirror k roll ss notes r in
-        seats_ordered roll m.state.roll m.shown.seated (order p ns limit shows roll ss m) i j s t a b lt;
-    queues = λ k roll ss notes r. queue_of p ns limit shows roll ss (shows.mirror k roll ss notes r);
+        seats_ordered roll m.state.roll m.shown.seated (order proper p ns limit roll ss m) i j s t a b lt;
+    queues = λ k roll ss notes r. queue_of proper p ns limit roll ss (shows.mirror k roll ss notes r);
   }
 
   pub entries_are_owned : EntriesAreOwned p ns limit
@@ -373,8 +416,8 @@ module _ (p : Program) (ns : List ℤ) (limit : ℕ) (shows : CoreShows p ns lim
         (ap (λ (x : ObjectView). slice_get x.queue j) (sym (m.shown.shelves o)) ∙ q);
   }
 
-  pub held_alone : CoreTells p ns limit → HeldAlone p ns limit
-  held_alone tells = record {
-    one = tells.alone;
-    readers = λ k roll ss notes r. readers_of p ns limit shows roll ss (shows.mirror k roll ss notes r);
+  pub held_alone : HeldAlone p ns limit
+  held_alone = record {
+    one = λ k roll ss notes r. one_of proper p ns limit roll ss (shows.mirror k roll ss notes r);
+    readers = λ k roll ss notes r. readers_of proper p ns limit roll ss (shows.mirror k roll ss notes r);
   }

@@ -1,34 +1,29 @@
 -- What the plain layer tells, from the sound state that it shows.
-use Rattle.std.proofs.Common.{◌≡◌, ◌≢◌, ◌⊎◌, inl, inr, ℕ, zero, suc, Bool, true, false, not, ◌&&◌, ◌||◌, List, [], ◌∷◌, ◌++◌, map, refl, sym, ap, ◌∙◌, subst}
+use Rattle.std.proofs.Common.{◌≡◌, ◌≢◌, ◌⊎◌, inl, inr, ℕ, zero, suc, Bool, true, false, not, ◌&&◌, ◌||◌, List, [], ◌∷◌, ◌++◌, refl, sym, ap, ◌∙◌, subst}
 use Rattle.std.proofs.Common.{Option, Some, None, append-nil, append_assoc, arith}
 use Rattle.std.specs.Prelude.{ℤ, slice_get, is_some, is_none, if◌then◌else◌}
 use Rattle.jade_base.specs.declared.rights.Rights.{Rights}
 use Rattle.jade_base.specs.declared.rights.Mode.{Mode}
 use Rattle.jade_base.specs.declared.rights.Mode.TheVariants.{Reading, Writing, Commuting}
 use Rattle.jade_base.specs.Rights.{is_there}
-use Rattle.jade_syntax.specs.Image.{program}
-use Rattle.jade_syntax.specs.Objects.{sizes}
 use Rattle.jade_meaning.specs.Specification.{rights_on}
 use Rattle.jade_meaning.specs.Course.{Course, Reads, Writes, Steps, Creates, Changes, Ends}
-use Rattle.jade_meaning.specs.Serial.{Path, serial_run, zeros}
+use Rattle.jade_meaning.specs.Serial.{Path}
+use Rattle.schedule_core.specs.Fitting as fitting
+use Rattle.object_shelf.specs.Shelves.{holder_in, or_else, blocker_in, same_path, find, takes_out, keeper_in, at, released}
 use Rattle.jade_meaning.specs.Laws.{Every}
 use Rattle.object_shelf.specs.declared.queue.Entry.{Entry}
 use Rattle.object_shelf.specs.Views.{ObjectView}
-use Rattle.object_shelf.specs.Shelves.{same_path, find, takes_out}
 use Rattle.schedule_core.specs.declared.steps.Seat.{Seat}
-use Rattle.schedule_core.specs.Core.{Cells, changes, touches, enters_still, handed_on, quiet, is_writing}
+use Rattle.schedule_core.specs.Core.{Cells, changes, touches, enters_still, handed_on, quiet}
 use Rattle.schedule_core.specs.Unplaced.{Live}
-use Rattle.schedule_core.specs.Sited as sited
-use Rattle.schedule_core.specs.Sound.{Apart, Pairs, Fit, Before, Within, may}
+use Rattle.schedule_core.specs.Sound.{Apart, Pairs, Fit, Before, Within, may, only_commutes}
 use Rattle.schedule_core.specs.Shown.{slot, born_slots, slots, line, shelf_at, Seated}
 use Rattle.schedule_core.specs.Mirror.{CoreShows, Mirror}
-use Rattle.schedule_core.proofs.Showing.{path_same}
-use Rattle.schedule_core.proofs.Bare.{trim}
+use Rattle.schedule_core.proofs.Showing.{path_same, same_is}
 use Rattle.schedule_core.proofs.Mirrors.{find_away, find_own, split_at}
 use Rattle.schedule_core.specs.Tells.{Holding, MayTake, MayGive, MayEnter, MayShift, MayLeave, CoreTells, EntriesAreThere}
-use Rattle.object_shelf.specs.Shelves.{keeper_in, at, released}
 use Rattle.object_shelf.specs.Whole.{is_out}
-use Rattle.object_shelf.proofs.Order.{same-is as same_is}
 use Rattle.jade_meaning.specs.Talk.{Event, Enter, Enroll, Take, TouchRead, TouchWrite, Wants, Give, Leave, Shift, Resign}
 use Rattle.jade_meaning.specs.Walk.{upcoming, First}
 use Rattle.jade_meaning.specs.Doing.{from_deed, to_come}
@@ -39,8 +34,8 @@ use Rattle.schedule_core.specs.Sound.{Orderly, Ready}
 use Rattle.schedule_core.proofs.Showing.{Away, Elsewhere, born_away, slot_away, slots_away, before_away, line_away, line_both, at_away, free_is, keeper_none}
 use Rattle.schedule_core.proofs.Moves.{ahead_is}
 use Rattle.schedule_core.proofs.Lines.{every_append, every_with, every_front, every_back, pairs_front, pairs_back}
-use Rattle.schedule_core.proofs.Changing.{touches_is, mode_may, no_commuting}
-use Rattle.schedule_core.proofs.Deeds.{may_some}
+use Rattle.schedule_core.proofs.Changing.{touches_is, may_some, widen}
+use Rattle.schedule_core.proofs.Alone.{mode_may}
 use Rattle.schedule_core.proofs.Acts.{touch_less}
 use Rattle.std.proofs.lemmas.Bool.{eq-eqb}
 
@@ -128,7 +123,7 @@ kid_at (x ∷ ss) h (suc i) (suc j) s t a b ne = kid_at ss h.1 i j s t a b (λ e
 
 -- a live task of the path has the object out
 data HasOut (o : ℕ) (p : Path) : List Live → Type 0 where
-  here : (t : Live) (ts : List Live) → t.path ≡ p → is_writing (t.held o) ≡ true → HasOut o p (t ∷ ts)
+  here : (t : Live) (ts : List Live) → t.path ≡ p → takes_out (t.held o) ≡ true → HasOut o p (t ∷ ts)
   later : (t : Live) (ts : List Live) → HasOut o p ts → HasOut o p (t ∷ ts)
 
 pub some_entry : (d e : Entry) → ◌≡◌ {A = Option Entry} (Some d) (Some e) → d ≡ e
@@ -147,24 +142,24 @@ find_both p (e ∷ es) fs d h = go (find_both p es fs d) (same_path p e.path) re
         turn (inl x) = inl (ap (λ b. if b then Some e else find p es) q ∙ x)
         turn (inr x) = inr x
 
-pub takes_writing : (h : Option Mode) → takes_out h ≡ true → is_writing h ≡ true
+pub takes_writing : (h : Option Mode) → takes_out h ≡ true → takes_out h ≡ true
 takes_writing None e = absurd (cc)
 takes_writing (Some Reading) e = absurd (cc)
 takes_writing (Some Writing) e = refl
 takes_writing (Some Commuting) e = refl
 
 slot_out : (p q : Path) (a : Rights) (h : Option Mode) (v : Option Cells) (d : Entry) → find p (slot q a h v) ≡ Some d → takes_out d.hold ≡ true → (q ≡ p)
-    × (is_writing h ≡ true)
+    × (takes_out h ≡ true)
 slot_out p q a h v d = go (touches a)
   where
     row : Entry
     row = record { path = q; rights = a; hold = h; version = v }
 
-    inner : (b : Bool) → same_path p q ≡ b → (if b then Some row else None) ≡ Some d → takes_out d.hold ≡ true → (q ≡ p) × (is_writing h ≡ true)
+    inner : (b : Bool) → same_path p q ≡ b → (if b then Some row else None) ≡ Some d → takes_out d.hold ≡ true → (q ≡ p) × (takes_out h ≡ true)
     inner true e f t = (sym (same_is p q e), takes_writing h (ap (λ (x : Entry). takes_out x.hold) (some_entry row d f) ∙ t))
     inner false e f t = absurd (cc)
 
-    go : (b : Bool) → find p (if b then row ∷ [] else []) ≡ Some d → takes_out d.hold ≡ true → (q ≡ p) × (is_writing h ≡ true)
+    go : (b : Bool) → find p (if b then row ∷ [] else []) ≡ Some d → takes_out d.hold ≡ true → (q ≡ p) × (takes_out h ≡ true)
     go true f t = inner (same_path p q) refl f t
     go false f t = absurd (cc)
 
@@ -180,11 +175,11 @@ born_out p (Steps on) o t d f x = absurd (cc)
 born_out p (Changes new on) o t d f x = absurd (cc)
 born_out p (Ends b) o t d f x = absurd (cc)
 
-slots_out : (p : Path) (o : ℕ) (t : Live) (d : Entry) → find p (slots o t) ≡ Some d → takes_out d.hold ≡ true → (t.path ≡ p) × (is_writing (t.held o) ≡ true)
+slots_out : (p : Path) (o : ℕ) (t : Live) (d : Entry) → find p (slots o t) ≡ Some d → takes_out d.hold ≡ true → (t.path ≡ p) × (takes_out (t.held o) ≡ true)
 slots_out p o t d f x = go (find_both p (born_slots t.doing.course o t) (slot t.path (t.rights o) (t.held o) (t.versions o)) d f)
   where
     go : (find p (born_slots t.doing.course o t) ≡ Some d) ⊎ (find p (slot t.path (t.rights o) (t.held o) (t.versions o)) ≡ Some d) → (t.path ≡ p)
-        × (is_writing (t.held o) ≡ true)
+        × (takes_out (t.held o) ≡ true)
     go (inl y) = absurd (born_out p t.doing.course o t d y x)
     go (inr y) = slot_out p t.path (t.rights o) (t.held o) (t.versions o) d y x
 
@@ -198,9 +193,9 @@ line_out p o (t ∷ ts) d f x = go (λ g. line_out p o ts d g x) (find_both p (s
 
 -- of two tasks one alone has it
 record Lone (o : ℕ) (s t : Live) : Type 0 where
-  not_both : is_writing (s.held o) ≡ true → is_writing (t.held o) ≡ true → ⊥
+  not_both : takes_out (s.held o) ≡ true → takes_out (t.held o) ≡ true → ⊥
 
-every_out : (o : ℕ) (s : Live) (q : Path) (ts : List Live) → Every (Lone o s) ts → is_writing (s.held o) ≡ true → HasOut o q ts → ⊥
+every_out : (o : ℕ) (s : Live) (q : Path) (ts : List Live) → Every (Lone o s) ts → takes_out (s.held o) ≡ true → HasOut o q ts → ⊥
 every_out o s q _ h w (here t ts e x) = h.0.not_both w x
 every_out o s q _ h w (later t ts x) = every_out o s q ts h.1 w x
 
@@ -215,26 +210,39 @@ one_out o p q (t ∷ ts) h (here _ _ e x) (later _ _ b) = absurd (every_out o t 
 one_out o p q (t ∷ ts) h (later _ _ a) (here _ _ f y) = absurd (every_out o t p ts h.0 y a)
 one_out o p q (t ∷ ts) h (later _ _ a) (later _ _ b) = one_out o p q ts h.1 a b
 
-may_changes : (h : Option Mode) (a : Rights) → is_writing h ≡ true → may h a ≡ true → changes a ≡ true
+pub may_changes : (h : Option Mode) (a : Rights) → takes_out h ≡ true → may h a ≡ true → changes a ≡ true
 may_changes None a w m = absurd (cc)
 may_changes (Some Reading) a w m = absurd (cc)
-may_changes (Some Writing) a w m = m
-may_changes (Some Commuting) a w m = m
+may_changes (Some Writing) a w m = ap (λ z. z || is_there a.commutes) m
+may_changes (Some Commuting) a w m = go (is_there a.writes) m
+  where
+    go : (b : Bool) → is_there a.commutes ≡ true → b || is_there a.commutes ≡ true
+    go true e = refl
+    go false e = e
 
-lone : (o : ℕ) (s t : sited.Live) → Fit s → Before o s t → Lone o (sited.bare s) (sited.bare t)
-lone o s t fit b = record {
-  not_both = λ x y. absurd (let r : false ≡ true =
-      sym (ap (λ z. not z && (not (is_there (s.rights o).reads) || is_some (s.versions o))) (may_changes (s.held o) (s.rights o) x (fit.holds o)))
-      ∙ b.writing y in cc);
-}
+-- what a hold may have, as entries see it
+may_widen : (h : Option Mode) (a : Rights) → may h a ≡ true → fitting.may h a ≡ true
+may_widen None a m = refl
+may_widen (Some Reading) a m = m
+may_widen (Some Writing) a m = may_changes (Some Writing) a refl m
+may_widen (Some Commuting) a m = may_changes (Some Commuting) a refl m
 
-every_lone : (o : ℕ) (s : sited.Live) (ts : List sited.Live) → Fit s → Every (Before o s) ts → Every (Lone o (sited.bare s)) (map sited.bare ts)
-every_lone o s [] fit h = tt
-every_lone o s (t ∷ ts) fit h = (lone o s t fit h.0, every_lone o s ts fit h.1)
+every_lone : (o : ℕ) (s : Live) (ts : List Live) → Every (Before o s) ts → Every (Lone o s) ts
+every_lone o s [] h = tt
+every_lone o s (t ∷ ts) h = (record { not_both = h.0.one }, every_lone o s ts h.1)
 
-pairs_lone : (o : ℕ) (ts : List sited.Live) → Every Fit ts → Pairs (Before o) ts → Pairs (Lone o) (map sited.bare ts)
-pairs_lone o [] fits h = tt
-pairs_lone o (t ∷ ts) fits h = (every_lone o t ts fits.0 h.0, pairs_lone o ts fits.1 h.1)
+pairs_lone : (o : ℕ) (ts : List Live) → Pairs (Before o) ts → Pairs (Lone o) ts
+pairs_lone o [] h = tt
+pairs_lone o (t ∷ ts) h = (every_lone o t ts h.0, pairs_lone o ts h.1)
+
+-- no entry has the content out
+none_out_there : (es : List Entry) → holder_in es ≡ None → is_out es ≡ false
+none_out_there [] h = refl
+none_out_there (e ∷ es) h = go (takes_out e.hold) h (λ k. none_out_there es k)
+  where
+    go : (b : Bool) → (if b then Some e else holder_in es) ≡ None → (holder_in es ≡ None → is_out es ≡ false) → b || is_out es ≡ false
+    go true h f = absurd (cc)
+    go false h f = f h
 
 -- a path is not that of a child
 pub longer : (p : Path) (k : ℕ) → p ≡ p ++ k ∷ [] → ⊥
@@ -275,12 +283,12 @@ take_heads t o m h = go t.doing.pending refl h
     go (e ∷ es) q h = record { rest = es; is = q ∙ ap (λ x. x ∷ es) h }
 
 write_holds : (t : Live) (o c : ℕ) (v : ℤ) → Orderly t.doing.spec t.doing.plan t.doing.course t.doing.pending t.rights t.held
-    → First (to_come t.doing []) (λ x. x ≡ TouchWrite o c v) → is_writing (t.held o) ≡ true
+    → First (to_come t.doing []) (λ x. x ≡ TouchWrite o c v) → takes_out (t.held o) ≡ true
 write_holds t o c v order h = go t.doing.pending t.doing.course order h
   where
-    deed : (c' : Course) → Ready t.held c' → First (from_deed c' t.doing.spec t.doing.plan t.doing.steps []) (λ x. x ≡ TouchWrite o c v) → is_writing (t.held o)
+    deed : (c' : Course) → Ready t.held c' → First (from_deed c' t.doing.spec t.doing.plan t.doing.steps []) (λ x. x ≡ TouchWrite o c v) → takes_out (t.held o)
         ≡ true
-    deed (Writes q d w on) r h = let same : q ≡ o = cc in subst (λ z. is_writing (t.held z) ≡ true) same r
+    deed (Writes q d w on) r h = let same : q ≡ o = cc in subst (λ z. takes_out (t.held z) ≡ true) same r
     deed (Reads q d on) r h = absurd (cc)
     deed (Creates child body on) r h = absurd (cc)
     deed (Ends b) r h = absurd (cc)
@@ -288,7 +296,7 @@ write_holds t o c v order h = go t.doing.pending t.doing.course order h
     deed (Changes new on) r h = absurd h
 
     go : (es : List Event) (c' : Course) → Orderly t.doing.spec t.doing.plan c' es t.rights t.held
-        → First (es ++ from_deed c' t.doing.spec t.doing.plan t.doing.steps []) (λ x. x ≡ TouchWrite o c v) → is_writing (t.held o) ≡ true
+        → First (es ++ from_deed c' t.doing.spec t.doing.plan t.doing.steps []) (λ x. x ≡ TouchWrite o c v) → takes_out (t.held o) ≡ true
     go [] c' order h = deed c' order.1 h
     go (e ∷ es) c' order h = absurd (subst (λ x. Orderly t.doing.spec t.doing.plan c' (x ∷ es) t.rights t.held) h order)
 
@@ -318,7 +326,7 @@ out_both (x ∷ xs) ys h g = go (takes_out x.hold) (out_both xs ys) h
     go true f h = absurd (cc)
     go false f h = f h g
 
-takes_is : (h : Option Mode) → is_writing h ≡ false → takes_out h ≡ false
+takes_is : (h : Option Mode) → takes_out h ≡ false → takes_out h ≡ false
 takes_is None e = refl
 takes_is (Some Reading) e = refl
 takes_is (Some Writing) e = e
@@ -343,7 +351,7 @@ born_home (Steps on) o t = refl
 born_home (Changes new on) o t = refl
 born_home (Ends b) o t = refl
 
-line_home : (o : ℕ) (ts : List Live) → Every (λ (t : Live). is_writing (t.held o) ≡ false) ts → is_out (line o ts) ≡ false
+line_home : (o : ℕ) (ts : List Live) → Every (λ (t : Live). takes_out (t.held o) ≡ false) ts → is_out (line o ts) ≡ false
 line_home o [] h = refl
 line_home o (t ∷ ts) h =
     out_both (slots o t) (line o ts) (out_both (born_slots t.doing.course o t) (slot t.path (t.rights o) (t.held o) (t.versions o))
@@ -354,10 +362,10 @@ is_not : (b : Bool) → (b ≡ true → ⊥) → b ≡ false
 is_not true f = absurd (f refl)
 is_not false f = refl
 
-allows_home : (o : ℕ) (m : Mode) (t : Live) → (m ≡ Commuting → ⊥) → Fit t → allows o m t ≡ true → is_writing (t.held o) ≡ false
-allows_home o Reading t n fit h = is_not (is_writing (t.held o)) (λ w. let x = may_changes (t.held o) (t.rights o) w (fit.holds o) in let y : false ≡ true =
+allows_home : (o : ℕ) (m : Mode) (t : Live) → (m ≡ Commuting → ⊥) → Fit t → allows o m t ≡ true → takes_out (t.held o) ≡ false
+allows_home o Reading t n fit h = is_not (takes_out (t.held o)) (λ w. let x = may_changes (t.held o) (t.rights o) w (fit.holds o) in let y : false ≡ true =
     sym (ap not x) ∙ h in absurd (let z = y in cc))
-allows_home o Writing t n fit h = is_not (is_writing (t.held o)) (λ w. let x = may_changes (t.held o) (t.rights o) w (fit.holds o) in let y : false ≡ true =
+allows_home o Writing t n fit h = is_not (takes_out (t.held o)) (λ w. let x = may_changes (t.held o) (t.rights o) w (fit.holds o) in let y : false ≡ true =
     sym (ap (λ b. not b && (not (is_there (t.rights o).reads) || is_some (t.versions o))) x) ∙ h in absurd (let z = y in cc))
 allows_home o Commuting t n fit h = absurd (n refl)
 
@@ -366,26 +374,39 @@ both_true true b h = (refl, h)
 both_true false b h = absurd (cc)
 
 all_home : (o : ℕ) (m : Mode) (ts : List Live) → (m ≡ Commuting → ⊥) → Every Fit ts → all_allow o m ts ≡ true
-    → Every (λ (t : Live). is_writing (t.held o) ≡ false) ts
+    → Every (λ (t : Live). takes_out (t.held o) ≡ false) ts
 all_home o m [] n fits h = tt
 all_home o m (t ∷ ts) n fits h =
     let r = both_true (allows o m t) (all_allow o m ts) h in
     (allows_home o m t n fits.0 r.0, all_home o m ts n fits.1 r.1)
 
--- behind a task that is not quiet nobody has the content out
-behind_home : (o : ℕ) (t : Live) (ts : List Live) → quiet o t ≡ false → Every (Before o t) ts → Every (λ (u : Live). is_writing (u.held o) ≡ false) ts
-behind_home o t [] q h = tt
-behind_home o t (u ∷ ts) q h =
-    (is_not (is_writing (u.held o)) (λ w. let y : false ≡ true = sym q ∙ h.0.writing w in absurd (let z = y in cc)), behind_home o t ts q h.1)
+-- behind a task that is neither quiet nor only commutes nobody has the content out
+behind_home : (o : ℕ) (t : Live) (ts : List Live) → quiet o t ≡ false → only_commutes o t ≡ false → Every Fit ts → Every (Before o t) ts
+    → Every (λ (u : Live). takes_out (u.held o) ≡ false) ts
+behind_home o t [] q c f h = tt
+behind_home o t (u ∷ ts) q c f h = (go (u.held o) refl, behind_home o t ts q c f.1 h.1)
+  where
+    go : (m : Option Mode) → u.held o ≡ m → takes_out (u.held o) ≡ false
+    go None e = ap takes_out e
+    go (Some Reading) e = ap takes_out e
+    go (Some Writing) e = absurd (let y : false ≡ true = sym q ∙ h.0.writing e in cc)
+    go (Some Commuting) e = absurd (let y : false ≡ true = sym (ap (λ z. z || only_commutes o t) q ∙ c) ∙ h.0.commuting e in cc)
 
 every_join : (P : Live → Type 0) (xs ys : List Live) → Every P xs → Every P ys → Every P (xs ++ ys)
 every_join P [] ys h g = g
 every_join P (x ∷ xs) ys h g = (h.0, every_join P xs ys h.1 g)
 
-unquiet : (o : ℕ) (m : Mode) (t : Live) → (m ≡ Commuting → ⊥) → may (Some m) (t.rights o) ≡ true → is_none (t.versions o) ≡ true → quiet o t ≡ false
-unquiet o Writing t n w v = ap (λ b. not b && (not (is_there (t.rights o).reads) || is_some (t.versions o))) w
+-- who may take an object for reading or writing, and has no version, is not quiet and does more than commute
+unquiet : (o : ℕ) (m : Mode) (t : Live) → (m ≡ Commuting → ⊥) → may (Some m) (t.rights o) ≡ true → is_none (t.versions o) ≡ true → (quiet o t ≡ false) × (only_commutes o t ≡ false)
+unquiet o Writing t n w v =
+    (ap (λ b. not b && (not (is_there (t.rights o).reads) || is_some (t.versions o))) (may_changes (Some Writing) (t.rights o) refl w), ap (λ b. not (is_there (t.rights o).reads) && not b) w ∙ both (not (is_there (t.rights o).reads)))
+  where
+    both : (b : Bool) → b && false ≡ false
+    both true = refl
+    both false = refl
 unquiet o Commuting t n w v = absurd (n refl)
-unquiet o Reading t n w v = ap (λ b. not (changes (t.rights o)) && (not b || is_some (t.versions o))) w ∙ go (t.versions o) (not (changes (t.rights o))) v
+unquiet o Reading t n w v =
+    (ap (λ b. not (changes (t.rights o)) && (not b || is_some (t.versions o))) w ∙ go (t.versions o) (not (changes (t.rights o))) v, ap (λ b. not b && not (is_there (t.rights o).writes)) w)
   where
     go : (x : Option Cells) (b : Bool) → is_none x ≡ true → b && (false || is_some x) ≡ false
     go None true e = refl
@@ -404,24 +425,39 @@ may_take o m b l t far behind fits first clear =
     let head = take_heads t o m first in
     let order = subst (λ es. Orderly t.doing.spec t.doing.plan t.doing.course es t.rights t.held) head.is fit.orderly in
     let w : may (Some m) (t.rights o) ≡ true = mode_may (t.rights o) m order.1 in
-    let n : m ≡ Commuting → ⊥ = no_commuting (t.rights o) m (fit.plain o) order.1 in
     let front : all_allow o m b ≡ true = free_is o m b l t far (keeper_none t.path m (line o (b ++ (t ∷ l))) clear) in
     record {
       entry = record { path = t.path; rights = t.rights o; hold = t.held o; version = t.versions o };
       there = own_found o b l t far (may_some (Some m) (t.rights o) refl w);
       free = order.0;
-      home = λ v. line_home o (b ++ (t ∷ l)) (every_join (λ u. is_writing (u.held o)
-          ≡ false) b (t ∷ l) (all_home o m b n (every_front Fit b (t ∷ l) fits) front) (
-            ap is_writing order.0,
-            behind_home o t l (unquiet o m t n w v) (pairs_back (Before o) b t l behind),
-          ));
+      home = λ v. home_so m w v front order.0 clear;
       versionless = λ r. none_of (t.versions o) (λ x. keeps m r w order.0 (fit.keeps o x));
     }
   where
+    plain_home : (m : Mode) → (m ≡ Commuting → ⊥) → may (Some m) (t.rights o) ≡ true → is_none (t.versions o) ≡ true → all_allow o m b ≡ true → t.held o ≡ None
+        → is_out (line o (b ++ (t ∷ l))) ≡ false
+    plain_home m n w v front free =
+        let r = unquiet o m t n w v in
+        line_home o (b ++ (t ∷ l)) (every_join (λ u. takes_out (u.held o) ≡ false) b (t ∷ l) (all_home o m b n (every_front Fit b (t ∷ l) fits) front) (
+          ap takes_out free,
+          behind_home o t l r.0 r.1 (every_back Fit b (t ∷ l) fits).1 (pairs_back (Before o) b t l behind),
+        ))
+
+    second_none : (x y : Option Entry) → or_else x y ≡ None → y ≡ None
+    second_none None y e = e
+    second_none (Some x) y e = absurd (cc)
+
+    home_so : (m : Mode) → may (Some m) (t.rights o) ≡ true → is_none (t.versions o) ≡ true → all_allow o m b ≡ true → t.held o ≡ None
+        → keeper_in t.path m (line o (b ++ (t ∷ l))) ≡ None → is_out (line o (b ++ (t ∷ l))) ≡ false
+    home_so Reading w v front free clear = plain_home Reading (λ e. absurd (cc)) w v front free
+    home_so Writing w v front free clear = plain_home Writing (λ e. absurd (cc)) w v front free
+    home_so Commuting w v front free clear =
+        none_out_there (line o (b ++ (t ∷ l))) (second_none (blocker_in t.path Commuting (line o (b ++ (t ∷ l)))) (holder_in (line o (b ++ (t ∷ l)))) clear)
+
     keeps : (m : Mode) → (m ≡ Reading → ⊥) → may (Some m) (t.rights o) ≡ true → t.held o ≡ None → (changes (t.rights o) ≡ true → t.held o ≡ Some Reading) → ⊥
     keeps Reading r w e f = r refl
-    keeps Writing r w e f = absurd (let g : ◌≡◌ {A = Option Mode} None (Some Reading) = sym e ∙ f w in cc)
-    keeps Commuting r w e f = absurd (let g : ◌≡◌ {A = Option Mode} None (Some Reading) = sym e ∙ f w in cc)
+    keeps Writing r w e f = absurd (let g : ◌≡◌ {A = Option Mode} None (Some Reading) = sym e ∙ f (may_changes (Some Writing) (t.rights o) refl w) in cc)
+    keeps Commuting r w e f = absurd (let g : ◌≡◌ {A = Option Mode} None (Some Reading) = sym e ∙ f (may_changes (Some Commuting) (t.rights o) refl w) in cc)
 
 may_write : (o c : ℕ) (v : ℤ) (b l : List Live) (t : Live) → Pairs Apart (b ++ (t ∷ l)) → Every Fit (b ++ (t ∷ l))
     → First (to_come t.doing []) (λ x. x ≡ TouchWrite o c v) → Holding takes_out t.path (line o (b ++ (t ∷ l)))
@@ -434,11 +470,11 @@ may_write o c v b l t far fits first =
       hold = writing_takes (t.held o) out;
     }
   where
-    writing_some : (h : Option Mode) → is_writing h ≡ true → is_some h ≡ true
+    writing_some : (h : Option Mode) → takes_out h ≡ true → is_some h ≡ true
     writing_some None e = absurd (cc)
     writing_some (Some m) e = refl
 
-    writing_takes : (h : Option Mode) → is_writing h ≡ true → takes_out h ≡ true
+    writing_takes : (h : Option Mode) → takes_out h ≡ true → takes_out h ≡ true
     writing_takes None e = absurd (cc)
     writing_takes (Some Reading) e = absurd (cc)
     writing_takes (Some Writing) e = refl
@@ -491,7 +527,7 @@ heads t e quiet h = go t.doing.pending refl h
 
 -- once its holder has given it up, an object's content is at home
 after_give : (o : ℕ) (b l : List Live) (t : Live) → Pairs Apart (b ++ (t ∷ l)) → Pairs (Lone o) (b ++ (t ∷ l)) → touches (t.rights o) ≡ true
-    → is_writing (t.held o) ≡ true
+    → takes_out (t.held o) ≡ true
     → is_out (at t.path released (line o (b ++ (t ∷ l)))) ≡ false
 after_give o b l t far lone x w =
     let born = born_slots t.doing.course o t in
@@ -508,10 +544,10 @@ after_give o b l t far lone x w =
     ∙ at_away t.path released (line o b) (born ++ (mine ++ line o l)) front
     ∙ ap (λ es. line o b ++ es) (at_away t.path released born (mine ++ line o l) (born_away t.path t.doing.course o t (longer t.path t.part))
     ∙ ap (λ es. born ++ es) last) in
-    let before = line_home o b (every_with (λ u. Lone o u t) (λ (u : Live). is_writing (u.held o)
-    ≡ false) (λ u g. is_not (is_writing (u.held o)) (λ y. g.not_both y w)) b (pairs_front (Lone o) b t l lone)) in
-    let behind = line_home o l (every_with (Lone o t) (λ (u : Live). is_writing (u.held o)
-    ≡ false) (λ u g. is_not (is_writing (u.held o)) (λ y. g.not_both w y)) l (pairs_back (Lone o) b t l lone)) in
+    let before = line_home o b (every_with (λ u. Lone o u t) (λ (u : Live). takes_out (u.held o)
+    ≡ false) (λ u g. is_not (takes_out (u.held o)) (λ y. g.not_both y w)) b (pairs_front (Lone o) b t l lone)) in
+    let behind = line_home o l (every_with (Lone o t) (λ (u : Live). takes_out (u.held o)
+    ≡ false) (λ u g. is_not (takes_out (u.held o)) (λ y. g.not_both w y)) l (pairs_back (Lone o) b t l lone)) in
     ap is_out whole ∙ out_both (line o b) (born ++ (released own ∷ line o l)) before
     (out_both born (released own ∷ line o l) (born_home t.doing.course o t) behind)
 
@@ -601,10 +637,10 @@ may_shift o a b l t far fits first =
     let order = subst (λ es. Orderly t.doing.spec t.doing.plan t.doing.course es t.rights t.held) head.is fit.orderly in
     record {
       entry = record { path = t.path; rights = t.rights o; hold = t.held o; version = t.versions o };
-      there = own_found o b l t far (touch_less a (t.rights o) order.0 (touches_is a ∙ order.3));
+      there = own_found o b l t far (touch_less a (t.rights o) (widen a (t.rights o) order.0) (touches_is a ∙ order.3));
       some = order.3;
-      less = order.0;
-      fits = order.1;
+      less = widen a (t.rights o) order.0;
+      fits = may_widen (t.held o) a order.1;
     }
 
 may_leave : (o : ℕ) (b l : List Live) (t : Live) → Pairs Apart (b ++ (t ∷ l)) → Every Fit (b ++ (t ∷ l)) → First (to_come t.doing []) (λ x. x ≡ Leave o)
@@ -621,10 +657,10 @@ may_leave o b l t far fits first =
 
 module _ (prog : Program) (ns : List ℤ) (limit : ℕ) (shows : CoreShows prog ns limit) where
   apart_of : (roll : List Seat) (ss : List ObjectView) → Mirror prog ns limit roll ss → AllUnlike roll
-  apart_of roll ss m = all_unlike roll m.state.roll m.shown.seated (trim (serial_run (program prog) ns limit) (zeros (sizes prog.items)) m.state m.sound).apart
+  apart_of roll ss m = all_unlike roll m.state.roll m.shown.seated (m.sound.by (λ o. [])).apart
 
   lone_of : (roll : List Seat) (ss : List ObjectView) (m : Mirror prog ns limit roll ss) (o : ℕ) → Pairs (Lone o) m.state.roll
-  lone_of roll ss m o = subst (λ st. Pairs (Lone o) st.roll) m.sound.same (pairs_lone o m.sound.placed.roll m.sound.sound.fits (m.sound.sound.before o))
+  lone_of roll ss m o = pairs_lone o m.state.roll ((m.sound.by (λ o. [])).before o)
 
   alone_of : (roll : List Seat) (ss : List ObjectView) → Mirror prog ns limit roll ss → (o : ℕ) (p q : List ℕ) (d e : Entry) → find p (shelf_at ss o).queue
       ≡ Some d → takes_out d.hold ≡ true → find q (shelf_at ss o).queue ≡ Some e → takes_out e.hold ≡ true → same_path p q ≡ true
@@ -648,7 +684,7 @@ module _ (prog : Program) (ns : List ℤ) (limit : ℕ) (shows : CoreShows prog 
   placed_in : (roll : List Seat) (ss : List ObjectView) → Mirror prog ns limit roll ss → (i : ℕ) (s : Seat) → slice_get roll i ≡ Some s → Placed_in roll ss i s
   placed_in roll ss m i s e =
       let at = split_at roll m.state.roll i s m.shown.seated e in
-      let known = trim (serial_run (program prog) ns limit) (zeros (sizes prog.items)) m.state m.sound in
+      let known = m.sound.by (λ o. []) in
       record {
         front = at.before;
         task = at.task;

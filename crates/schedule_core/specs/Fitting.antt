@@ -1,8 +1,8 @@
 -- Rights that fit: what a change may make of them, and what a hold asks of them.
 use Rattle.std.specs.Prelude.{◌≡◌, Bool, true, Option, Some, None}
-use Rattle.jade_base.specs.declared.rights.Rights.{Rights}
 use Rattle.jade_base.specs.declared.rights.Mode.{Mode}
 use Rattle.jade_base.specs.declared.rights.Mode.TheVariants.{Reading, Writing, Commuting}
+use Rattle.jade_base.specs.declared.rights.Rights.{Rights}
 use Rattle.jade_base.specs.Rights.{is_there}
 use Rattle.object_shelf.specs.Shelves.{changes}
 

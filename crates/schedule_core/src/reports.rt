@@ -6,20 +6,24 @@ ghost use Rattle.schedule_core.specs.Reports.{told_of};
 ghost use Rattle.schedule_core.specs.steps.Ascending.{stands_before};
 ghost use Rattle.task_roll.specs.Rolls.{by_key};
 
-use crate::notes::{faults_of, no_turns, steps_of};
+use crate::notes::{faults_of, steps_of};
 use fault_order::key_is_before;
-use jade_base::{CellLists, Memory, Report};
+use jade_base::{CellLists, Memory, Report, TurnLists};
 use std::alloc::Global;
 use std::cmp::Ordering;
 use task_roll::PartNote;
 
-/// The report of these contents and notes: steps and faults stand by ascending key, those of equal
-/// keys as the notes stand, and no object was taken for commuting. The error is want of memory.
-pub fn report_of(alloc: Global, objects: CellLists, notes: Vec<PartNote>) -> Result<Report, Memory>
-    ensures { IfOk result (λ r. r ≡ told_of objects (by_key notes.items)) }
+/// The report of these contents, turns and notes: steps and faults stand by ascending key, those of
+/// equal keys as the notes stand. The error is want of memory.
+pub fn report_of(
+    alloc: Global,
+    objects: CellLists,
+    turns: TurnLists,
+    notes: Vec<PartNote>,
+) -> Result<Report, Memory>
+    ensures { IfOk result (λ r. r ≡ told_of objects turns (by_key notes.items)) }
 {
     let in_order = in_key_order(notes)?;
-    let turns = no_turns(alloc, objects.len())?;
     let faults = faults_of(alloc, in_order.as_slice())?;
     let steps = steps_of(alloc, in_order)?;
     Ok(Report {

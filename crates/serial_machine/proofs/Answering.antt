@@ -8,7 +8,8 @@ use Rattle.jade_syntax.specs.Abstract.{AbstractProgram}
 use Rattle.jade_syntax.specs.Objects.{sizes}
 use Rattle.jade_meaning.specs.Course.{NoDraft, root_spec, root_course}
 use Rattle.jade_meaning.specs.Serial.{Path, Store, after, zeros}
-use Rattle.jade_meaning.specs.Answer.{Faulted, Cells, Run, Stopped, Through, run_answer, stopping_run, answer, StoppingAgrees}
+use Rattle.jade_meaning.specs.Answer.{Faulted, Cells, Run, Stopped, Through, run_answer, stopping_run, answer, StopsInOrder}
+use Rattle.jade_meaning.specs.Turns.{in_order}
 use Rattle.code_meaning.specs.Meaning.{Body, given_slots, passed, from_place}
 use Rattle.task_code.specs.Rules.{TaskCode, Valid}
 use Rattle.task_translation.specs.Compile.{inputs_in}
@@ -121,10 +122,10 @@ module _ (p : AbstractProgram) (c : TaskCode) (zs : List ℤ) (limit : ℕ) (cod
     pub whole_holds : (l : Contents) (n : ℕ) → n ≡ length (sizes p.items) → (total c zs limit s k).comes ≡ Whole l → AllHeld n l
     whole_holds l n en e = (whole_is l n en e).0
 
-    module _ (agrees : StoppingAgrees p zs limit) where
-      pub fault_answered : (q : Path) (b : Blame) → (total c zs limit s k).comes ≡ Fault q b → Faulted q b ≡ answer p zs limit
+    module _ (agrees : StopsInOrder p zs limit) where
+      pub fault_answered : (q : Path) (b : Blame) → (total c zs limit s k).comes ≡ Fault q b → Faulted q b ≡ answer p zs limit in_order
       fault_answered q b e = sym (fault_tells (stopping_run p zs limit) (zeros (sizes p.items)) q b (sym comes ∙ e)) ∙ agrees.same
 
       pub whole_answered : (l : Contents) (n : ℕ) → n ≡ length (sizes p.items) → (total c zs limit s k).comes ≡ Whole l
-          → Cells (cells_held n l) ≡ answer p zs limit
+          → Cells (cells_held n l) ≡ answer p zs limit in_order
       whole_answered l n en e = sym (whole_is l n en e).1 ∙ agrees.same

@@ -3,12 +3,12 @@ use Rattle.std.proofs.Common.{◌≡◌, ℕ, zero, suc, ◌+◌, ◌-◌, ◌�
 use Rattle.std.specs.Prelude.{ℤ, pos, int_lt, replicate}
 use Rattle.jade_base.specs.declared.place.Pos.{Pos}
 use Rattle.jade_base.specs.declared.report.Blame.{Blame}
-use Rattle.jade_base.specs.declared.report.FaultKind.TheVariants.{Index, Object, Right as RightFault, Cover, Change}
-use Rattle.jade_base.specs.Rights.{is_immediate, no_rights}
+use Rattle.jade_base.specs.declared.report.FaultKind.TheVariants.{Index, Object, Right as RightFault, Cover, Change, Commute}
+use Rattle.jade_base.specs.Rights.{may_read, may_write, no_rights}
 use Rattle.jade_meaning.specs.declared.values.Value.{Value}
 use Rattle.jade_meaning.specs.declared.values.Value.TheVariants.{IntOf}
 use Rattle.jade_meaning.specs.Values.{Given, Gives, Fails, operated, decides, signed, whole, holds, is_index, magnitude}
-use Rattle.jade_meaning.specs.Specification.{Specification, rights_on, covers, fitted}
+use Rattle.jade_meaning.specs.Specification.{Specification, rights_on, covers, fitted, is_commuting, may_commute}
 use Rattle.jade_meaning.specs.Changes.{amended}
 use Rattle.jade_syntax.specs.declared.tree.DeclareWord.{DeclareWord}
 use Rattle.jade_base.specs.declared.rights.Rights.{Rights}
@@ -99,6 +99,10 @@ module _ {A : Type 0} (pause : A → A) where
     either_alike true f g x y h e = h
     either_alike false f g x y h e = e
 
+    unless_alike : (b : Bool) (x f g : On) (m : Mine) → Same (f m) (g m) → Same (choose b x f m) (choose b x g m)
+    unless_alike true x f g m h = same (x m)
+    unless_alike false x f g m h = h
+
     amend_alike : (a : Option Rights) (spec : Specification) (o : ℕ) (at : Pos) (f g : On) (m : Mine) → ((n : Mine) → Same (f n) (g n)) →
         Same (amend a spec o at f m) (amend a spec o at g m)
     amend_alike None spec o at f g m h = same (fault Change at m)
@@ -112,12 +116,12 @@ module _ {A : Type 0} (pause : A → A) where
 
     read_alike : (o c : ℕ) (at : Pos) (m : Mine) (f g : Value → Course) → ((u : Value) → Same (f u) (g u)) → Same (read_cell o c at m f) (read_cell o c at m g)
     read_alike o c at m f g h =
-        choose_alike (is_immediate (rights_on m.spec o).reads) (λ n. Reads o c (λ z. f (IntOf z))) (λ n. Reads o c (λ z. g (IntOf z))) (fault RightFault at) m
+        choose_alike (may_read (rights_on m.spec o)) (λ n. Reads o c (λ z. f (IntOf z))) (λ n. Reads o c (λ z. g (IntOf z))) (fault RightFault at) m
         (reads_alike o c (λ z. f (IntOf z)) (λ z. g (IntOf z)) (λ v. h (IntOf v)))
 
     write_alike : (o c : ℕ) (z : ℤ) (at : Pos) (f g : On) (m : Mine) → Same (f m) (g m) → Same (write_cell o c z at f m) (write_cell o c z at g m)
     write_alike o c z at f g m h =
-        choose_alike (is_immediate (rights_on m.spec o).writes) (λ n. Writes o c z (f n)) (λ n. Writes o c z (g n)) (fault RightFault at) m
+        choose_alike (may_write (rights_on m.spec o)) (λ n. Writes o c z (f n)) (λ n. Writes o c z (g n)) (fault RightFault at) m
         (writes_alike o c z (f m) (g m) h)
 
     member_alike : (first count : ℕ) (k : Operand) (at : Pos) (f g : ℕ → Course) (ss : Slots) (m : Mine) → ((o : ℕ) → Same (f o) (g o))
@@ -171,14 +175,19 @@ module _ {A : Type 0} (pause : A → A) where
           write_alike o (magnitude (worth c ss)) (worth v ss) at _ _ (own spec d) (hn ss spec d)
       act_alike (i.Write o c v at) pc n m a b hn ha ss spec d =
           write_alike (magnitude (ss o)) (magnitude (worth c ss)) (worth v ss) at _ _ (own spec d) (hn ss spec d)
-      act_alike (i.Fresh count) pc n m a b hn ha ss spec d = hn ss spec (Building (replicate count no_rights))
-      act_alike i.Draft pc n m a b hn ha ss spec d = hn ss spec (Amending spec)
+      act_alike (i.Fresh count at) pc n m a b hn ha ss spec d =
+          unless_alike (is_commuting spec) (fault Commute at) (λ q. n ss spec (Building (replicate count no_rights)))
+          (λ q. m ss spec (Building (replicate count no_rights))) (own spec d) (hn ss spec (Building (replicate count no_rights)))
+      act_alike (i.Draft at) pc n m a b hn ha ss spec d =
+          unless_alike (is_commuting spec) (fault Commute at) (λ q. n ss spec (Amending spec)) (λ q. m ss spec (Amending spec)) (own spec d)
+          (hn ss spec (Amending spec))
       act_alike (i.Declare how o at) pc n m a b hn ha ss spec d =
           declare_alike d how (magnitude (worth o ss)) at (λ q. n ss spec q.draft) (λ q. m ss spec q.draft) (own spec d) (λ q. hn ss spec q.draft)
       act_alike (i.Create number at) pc n m a b hn ha ss spec d =
           let made = fitted spec (drafted d) in
-          choose_alike (covers spec made) _ _ (fault Cover at) (own spec d)
-          (creates_alike made (child number ss made) (n ss spec NoDraft) (m ss spec NoDraft) (hn ss spec NoDraft))
+          choose_alike (may_commute made) _ _ (fault Commute at) (own spec d)
+          (choose_alike (covers spec made) _ _ (fault Cover at) (own spec d)
+          (creates_alike made (child number ss made) (n ss spec NoDraft) (m ss spec NoDraft) (hn ss spec NoDraft)))
       act_alike i.Commit pc n m a b hn ha ss spec d =
           let new = fitted spec (working d spec) in changes_alike new (n ss new NoDraft) (m ss new NoDraft) (hn ss new NoDraft)
       act_alike i.Finish pc n m a b hn ha ss spec d = same (Ends None)

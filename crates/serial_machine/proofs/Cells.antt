@@ -6,7 +6,7 @@ use Rattle.std.proofs.lemmas.Option.{none-some, same_Some}
 use Rattle.jade_base.specs.declared.rights.Mode.TheVariants.{Reading, Writing}
 use Rattle.jade_base.specs.Held.{Held}
 use Rattle.jade_meaning.specs.Specification.{numbers}
-use Rattle.jade_meaning.specs.Serial.{Store, Mark, Deed, DidRead, DidWrite, DidCreate, DidEnd, done_to, after, zeros}
+use Rattle.jade_meaning.specs.Serial.{Store, Mark, Deed, DidTurn, DidRead, DidWrite, DidCreate, DidEnd, done_to, after, zeros}
 use Rattle.task_machine.specs.Playing.{Contents}
 use Rattle.task_machine.specs.Whole.{held_of, all_held, without}
 use Rattle.std.proofs.lemmas.Bool.{ne_eqb}
@@ -51,6 +51,7 @@ for_writing n o k x h lt e r = reading (sym r ∙ same_Some x.mode Writing (sym 
 long_done : (d : Deed) (store : Store) → length (done_to d store) ≡ length store
 long_done (DidWrite o c v) store = length-set store o _
 long_done (DidRead o c v) store = refl
+long_done (DidTurn o) store = refl
 long_done (DidCreate t n) store = refl
 long_done (DidEnd b n) store = refl
 

@@ -1,9 +1,9 @@
 -- A child that is created, and a change that is made, outside of a section for it.
-use Rattle.std.proofs.Common.{◌≡◌, ℕ, ◌+◌, ◌<◌, List, length, Bool, true, false, Some, refl, sym, ap, ◌∙◌, subst}
+use Rattle.std.proofs.Common.{◌≡◌, ℕ, ◌+◌, ◌<◌, List, length, Bool, true, false, Some, refl, sym, ap, ap₂, ◌∙◌, subst}
 use Rattle.std.specs.Prelude.{slice_get}
 use Rattle.jade_base.specs.declared.place.Pos.{Pos}
-use Rattle.jade_base.specs.declared.report.FaultKind.TheVariants.{Cover}
-use Rattle.jade_meaning.specs.Specification.{Specification, covers, fitted}
+use Rattle.jade_base.specs.declared.report.FaultKind.TheVariants.{Cover, Commute}
+use Rattle.jade_meaning.specs.Specification.{Specification, covers, fitted, may_commute}
 use Rattle.jade_meaning.specs.Spread.{spread}
 use Rattle.jade_meaning.specs.Course.{Course, Creates, Changes, Ends, NoDraft, Building, Amending, drafted, working, Mine, On, choose, fault}
 use Rattle.code_meaning.specs.declared.code.Instruction.{Instruction}
@@ -23,13 +23,16 @@ use Rattle.serial_machine.specs.declared.going.Stop.TheVariants as stop
 use Rattle.serial_machine.specs.steps.Pausing.{Outside}
 use Rattle.serial_machine.proofs.Owned.{building_is, amending_is, not_amending, long_fits, made_long, rights_long}
 
-abbrev one_of : Bool → Course → Course → Course
-one_of true a b = a
-one_of false a b = b
+-- a child may be made, or why not
+abbrev one_of : (may covered : Bool) → Course → Pos → Course
+one_of true true a at = a
+one_of true false a at = Ends (Some (record { kind = Cover; pos = Some at }))
+one_of false b a at = Ends (Some (record { kind = Commute; pos = Some at }))
 
-chosen : (b : Bool) (f : On) (at : Pos) (m : Mine) → choose b f (fault Cover at) m ≡ one_of b (f m) (Ends (Some (record { kind = Cover; pos = Some at })))
-chosen true f at m = refl
-chosen false f at m = refl
+chosen : (c b : Bool) (f : On) (at : Pos) (m : Mine) → choose c (choose b f (fault Cover at)) (fault Commute at) m ≡ one_of c b (f m) at
+chosen true true f at m = refl
+chosen true false f at m = refl
+chosen false b f at m = refl
 
 module _ (code : List Instruction) (f : Frame) where
   abbrev ss : Slots
@@ -39,14 +42,13 @@ module _ (code : List Instruction) (f : Frame) where
     -- what is done where this is made for the child
     abbrev creates : Children → Specification → Specification → Course
     creates child spec made =
-        one_of (covers spec made) (Creates made (child number ss made) (from_place child code f.left (f.place + 1) ss spec NoDraft))
-        (Ends (Some (record { kind = Cover; pos = Some at })))
+        one_of (may_commute made) (covers spec made) (Creates made (child number ss made) (from_place child code f.left (f.place + 1) ss spec NoDraft)) at
 
     create_is : (child : Children) (w : Own) → going child code w f ≡ creates child (rights_of w) (fitted (rights_of w) (drafted (draft_of w)))
     create_is child w =
         let made = fitted (rights_of w) (drafted (draft_of w)) in
         comes_to child code f.left f.place ss (rights_of w) (draft_of w) (i.Create number at) here
-        ∙ chosen (covers (rights_of w) made) (λ m. Creates made (child number ss made) (from_place child code f.left (f.place + 1) ss (rights_of w) NoDraft)) at
+        ∙ chosen (may_commute made) (covers (rights_of w) made) (λ m. Creates made (child number ss made) (from_place child code f.left (f.place + 1) ss (rights_of w) NoDraft)) at
         (own (rights_of w) (draft_of w))
 
     module _ (w u : Own) (keeps : KeepsRights w u) (begun : draft_of u ≡ Building (fitted (rights_of w) (drafted (draft_of w)))) where
@@ -67,27 +69,35 @@ module _ (code : List Instruction) (f : Frame) where
           create_is child w ∙ ap (λ s. creates child s made) (sym (rights_same w u keeps)) ∙ ap (creates child (rights_of u)) (sym begun_is)
           ∙ sym (create_is child u)
 
-      pub outside_created : true ≡ covers (rights_of u) (spread u.objects u.child.entries) → Outside code w f (stop.Create number) u
-      outside_created e = record {
+      abbrev now : Specification
+      now = spread u.objects u.child.entries
+
+      abbrev on : Children → Course
+      on child = Creates now (child number ss now) (from_place child code f.left (f.place + 1) ss (rights_of u) NoDraft)
+
+      pub outside_created : true ≡ may_commute now → true ≡ covers (rights_of u) now → Outside code w f (stop.Create number) u
+      outside_created m e = record {
         same = same_is;
         objects = keeps.objects;
         tells = λ child. (
           (at, here),
-          now_is child
-              ∙ ap (λ b. one_of b (Creates (spread u.objects u.child.entries) (child number ss (spread u.objects u.child.entries))
-              (from_place child code f.left (f.place + 1) ss (rights_of u) NoDraft)) (Ends (Some (record { kind = Cover; pos = Some at })))) (sym e),
+          now_is child ∙ ap₂ (λ c b. one_of c b (on child) at) (sym m) (sym e),
         );
       }
 
-      pub outside_refused : false ≡ covers (rights_of u) (spread u.objects u.child.entries)
+      pub outside_refused : true ≡ may_commute now → false ≡ covers (rights_of u) now
           → Outside code w f (stop.Fault (record { kind = Cover; pos = Some at })) u
-      outside_refused e = record {
+      outside_refused m e = record {
         same = same_is;
         objects = keeps.objects;
-        tells = λ child.
-            now_is child
-            ∙ ap (λ b. one_of b (Creates (spread u.objects u.child.entries) (child number ss (spread u.objects u.child.entries))
-            (from_place child code f.left (f.place + 1) ss (rights_of u) NoDraft)) (Ends (Some (record { kind = Cover; pos = Some at })))) (sym e);
+        tells = λ child. now_is child ∙ ap₂ (λ c b. one_of c b (on child) at) (sym m) (sym e);
+      }
+
+      pub outside_barred : false ≡ may_commute now → Outside code w f (stop.Fault (record { kind = Commute; pos = Some at })) u
+      outside_barred m = record {
+        same = same_is;
+        objects = keeps.objects;
+        tells = λ child. now_is child ∙ ap (λ c. one_of c (covers (rights_of u) now) (on child) at) (sym m);
       }
 
   -- an instruction that stands outside of its section, and creates no child
@@ -109,8 +119,8 @@ module _ (code : List Instruction) (f : Frame) where
   is_commit (i.Read z t o c at) s h ne = absurd (h tt)
   is_commit (i.WriteOf o c v at) s h ne = absurd (h tt)
   is_commit (i.Write o c v at) s h ne = absurd (h tt)
-  is_commit (i.Fresh c) s h ne = absurd (h tt)
-  is_commit i.Draft s h ne = absurd (h tt)
+  is_commit (i.Fresh c at) s h ne = absurd (h tt)
+  is_commit (i.Draft at) s h ne = absurd (h tt)
   is_commit (i.Declare how o at) s h ne = absurd (h tt)
   is_commit (i.Create b at) s h ne = absurd (ne b at refl)
   is_commit i.Commit s h ne = refl

@@ -4,6 +4,7 @@ ghost use Rattle.std.specs.Prelude.{◌≡◌, length, IfOk};
 ghost use Rattle.jade_syntax.specs.Image.{program as abstracted};
 ghost use Rattle.jade_syntax.specs.Objects.{input_names};
 ghost use Rattle.jade_meaning.specs.Answer.{answer};
+ghost use Rattle.jade_meaning.specs.Turns.{in_order};
 ghost use Rattle.task_machine.specs.steps.Holding.{contents_of};
 ghost use Rattle.serial_machine.specs.Answers.{told};
 ghost use Rattle.serial_machine.specs.steps.Cells.{cells_held};
@@ -13,7 +14,7 @@ use crate::level::root;
 use crate::stack::{Stack, path_of, run};
 use jade_base::{Blame, CellLists, Memory, Path};
 use jade_list::sequence::Sequence;
-use jade_meaning::laws::stopping_agrees;
+use jade_meaning::laws::stops_in_order;
 use std::alloc::Global;
 use task_codegen::Compiled;
 use task_machine::holdings::Holdings;
@@ -43,7 +44,8 @@ fn cells_of(alloc: Global, objects: u32, all: Holdings) -> Result<CellLists, Mem
 
 /// Runs the code of a program serially, each child whole where it is created, and stops at the first
 /// fault, or at the first step beyond the limit of the whole run. The result is the answer of the
-/// program. The error is want of memory.
+/// program, where those that commute take their turns in the order of creation. The error is want of
+/// memory.
 pub fn run_serial(
     alloc: Global,
     compiled: &Compiled,
@@ -51,9 +53,9 @@ pub fn run_serial(
     limit: u32,
 ) -> Result<RunAnswer, Memory>
     requires given { length numbers.now ≡ length (input_names compiled.now.program.items) }
-    ensures { IfOk result (λ done. told done ≡ answer (abstracted compiled.now.program) numbers.now limit) }
+    ensures { IfOk result (λ done. told done ≡ answer (abstracted compiled.now.program) numbers.now limit in_order) }
 {
-    stopping_agrees();
+    stops_in_order();
     let code = compiled.decoded();
     code.keeps_rules();
     let objects = compiled.checked().objects();

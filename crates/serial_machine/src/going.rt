@@ -12,7 +12,7 @@ use task_code::{DecodedInstruction, Form};
 use task_machine::frame::{Frame, Pause, go_past};
 use task_machine::holdings::Holdings;
 use task_machine::play::advance;
-use task_machine::section::{Own, amend, covers_child, declare_for_child};
+use task_machine::section::{Own, amend, covers_child, declare_for_child, may_be_made};
 
 /// Where a task stops.
 #[derive(Clone, Copy, Debug, PartialEq, Eq)]
@@ -36,11 +36,18 @@ fn outside(code: &[DecodedInstruction], own: &mut Own, frame: &Frame) -> Result<
     match decoded.form {
         Form::Create(number, pos) => {
             begin_child(own)?;
-            if covers_child(own) {
-                Ok(Stop::Create(number))
+            if may_be_made(own) {
+                if covers_child(own) {
+                    Ok(Stop::Create(number))
+                } else {
+                    Ok(Stop::Fault(Blame {
+                        kind: FaultKind::Cover,
+                        pos: Some(pos),
+                    }))
+                }
             } else {
                 Ok(Stop::Fault(Blame {
-                    kind: FaultKind::Cover,
+                    kind: FaultKind::Commute,
                     pos: Some(pos),
                 }))
             }

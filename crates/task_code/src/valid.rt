@@ -96,8 +96,8 @@ fn slots_are_there(slots: u32, instruction: Instruction) -> bool
         Instruction::Turn(base, _) | Instruction::Next(base, _) => base as u64 + 2 < slots as u64,
         Instruction::Step
         | Instruction::Jump(_)
-        | Instruction::Fresh(_)
-        | Instruction::Draft
+        | Instruction::Fresh(_, _)
+        | Instruction::Draft(_)
         | Instruction::Create(_, _)
         | Instruction::Commit
         | Instruction::Finish => true,
@@ -193,7 +193,7 @@ fn objects_are_there(sizes: &[u32], instruction: Instruction) -> bool
         Instruction::WriteOf { object, .. } => (object as usize) < sizes.len(),
         Instruction::Within { size, .. } | Instruction::Read { size, .. } => sizes.contains(&size),
         Instruction::Declare(_, object, _) => is_object(sizes.len(), object),
-        Instruction::Fresh(count) => count as usize == sizes.len(),
+        Instruction::Fresh(count, _) => count as usize == sizes.len(),
         _ => true,
     }
 }
@@ -404,7 +404,7 @@ mod tests {
             (2, Instruction::Turn(0, 0), begin),
             (3, Instruction::Turn(0, 0), None),
             (3, Instruction::Next(0, 0), begin),
-            (0, Instruction::Fresh(1), begin),
+            (0, Instruction::Fresh(1, pos), begin),
             (
                 0,
                 Instruction::Declare(DeclareWord::Rd, Operand::Whole(0), pos),

@@ -95,8 +95,8 @@ fn needs(bodies: &[Body], instruction: Instruction) -> u64
         Instruction::Create(number, _) => given_reach(bodies, number),
         Instruction::Step
         | Instruction::Jump(_)
-        | Instruction::Fresh(_)
-        | Instruction::Draft
+        | Instruction::Fresh(_, _)
+        | Instruction::Draft(_)
         | Instruction::Commit
         | Instruction::Finish => 0,
     }

@@ -66,7 +66,7 @@ rows_long [] = refl
 rows_long (x ∷ es) = ap suc (rows_long es)
 
 pub fresh_kept : (e : Execution) (ds : List Bool) (part : ℕ) → IsFresh e → ds ≡ all_due e.rows → part ≡ e.stage.left
-    → IsKept (asking e ds phase.Taking part None 0 0 0)
+    → IsKept (asking e ds phase.Starting part None 0 0 0)
 fresh_kept e ds part f is whole =
     let nothing : (o : ℕ) → held_by e o ≡ None = λ o. ap (λ rs. contents_of rs o) f.rows ∙ nothing_held e.stage.spec.entries o in
     record {
@@ -126,6 +126,7 @@ module _ (e : Execution) (ds : List Bool) (part o : ℕ) (there : has_row o e.ro
       both false = none j
 
   pub knows_supplied : (p : Phase) (x : Held) → IsOrdered (machine e ds p part) → Knows p (machine e ds p part) → Knows p (supplied o x (machine e ds p part))
+  knows_supplied phase.Starting x g k = tt
   knows_supplied phase.Taking x g k = tt
   knows_supplied phase.Going x g k = still_none x phase.Going g k
   knows_supplied (phase.Creating number) x g k = (still_none x (phase.Creating number) g k.0, k.1, k.2)
@@ -157,6 +158,7 @@ module _ (e : Execution) (ds : List Bool) (part o : ℕ) (there : has_row o e.ro
   }
 
   pub order_surrendered : (p : Phase) → IsOrdered (machine e ds p part) → IsOrdered (surrendered o (machine e ds p part))
+  order_surrendered phase.Starting g = same_marks phase.Starting refl g
   order_surrendered phase.Taking g = same_marks phase.Taking refl g
   order_surrendered phase.Going g = same_marks phase.Going refl g
   order_surrendered (phase.Creating number) g = same_marks (phase.Creating number) refl g
@@ -173,6 +175,7 @@ module _ (e : Execution) (ds : List Bool) (part o : ℕ) (there : has_row o e.ro
       either j false q h = inr (g.free j (sym (ap (λ b. if b then true else due_in e.rows ds j) q) ∙ h))
 
   pub knows_surrendered : (p : Phase) → Knows p (machine e ds p part) → Knows p (surrendered o (machine e ds p part))
+  knows_surrendered phase.Starting k = tt
   knows_surrendered phase.Taking k = tt
   knows_surrendered phase.Going k = λ j. due_same o None e.rows ds j ∙ k j
   knows_surrendered (phase.Creating number) k = (λ j. due_same o None e.rows ds j ∙ k.0 j, k.1, k.2)
@@ -192,6 +195,7 @@ module _ (e : Execution) (ds : List Bool) (part : ℕ) where
   -- what is given up is held, and is given up next
   pub give_stands : (p : Phase) (o : ℕ) → IsOrdered (machine e ds p part) → Knows p (machine e ds p part) → gives_up p ≡ true
       → IsNext p (machine e ds p part) o → (is_some (held_by e o) ≡ true) × GiveIsNext o p (machine e ds p part)
+  give_stands phase.Starting o g k t next = absurd (true≢false (sym t))
   give_stands phase.Taking o g k t next = absurd (true≢false (sym t))
   give_stands phase.Going o g k t next = absurd (true≢false (sym t))
   give_stands (phase.Creating number) o g k t next =
@@ -232,6 +236,7 @@ module _ (e : Execution) (ds : List Bool) (part : ℕ) where
   pub create_stands : (p : Phase) → IsOrdered (machine e ds p part) → Knows p (machine e ds p part) → p ≡ phase.Creating (number_of p)
       → NoneIsNext p (machine e ds p part) → (vs : List ℤ) → left_in p (machine e ds p part) vs
       ≡ enters_from 0 (made_at e) ++ Enroll (child_task (number_of p) e) (part - e.stage.left) ∷ left (created (machine e ds p part)) vs
+  create_stands phase.Starting g k is none vs = cc
   create_stands phase.Taking g k is none vs = cc
   create_stands phase.Going g k is none vs = cc
   create_stands phase.Changing g k is none vs = cc
@@ -249,6 +254,7 @@ module _ (e : Execution) (ds : List Bool) (part : ℕ) where
   pub end_stands : (p : Phase) (b : Option Blame) → IsOrdered (machine e ds p part) → Knows p (machine e ds p part) → p ≡ phase.Ending b
       → NoneIsNext p (machine e ds p part) → (vs : List ℤ) → left_in p (machine e ds p part) vs
       ≡ leaves_from 0 (rights_at e.stage) ++ Resign b (part - e.stage.left) ∷ []
+  end_stands phase.Starting b g k is none vs = cc
   end_stands phase.Taking b g k is none vs = cc
   end_stands phase.Going b g k is none vs = cc
   end_stands phase.Changing b g k is none vs = cc
@@ -416,6 +422,7 @@ mark_over o (r ∷ rs) (d ∷ ds) = at (nat_eq r.object.0 o) refl (mark_over o r
         ap (λ b. if b then false ∷ with_mark o true rs ds else d ∷ with_mark o false rs (with_mark o true rs ds)) q ∙ ap (λ l. d ∷ l) more
 
 marks_back : (p : Phase) (o : ℕ) (rs : List Row) (ds : List Bool) → due_in rs ds o ≡ false → with_mark o false rs (marks_after p o rs ds) ≡ ds
+marks_back phase.Starting o rs ds h = mark_back o rs ds h
 marks_back phase.Taking o rs ds h = mark_back o rs ds h
 marks_back phase.Going o rs ds h = mark_back o rs ds h
 marks_back (phase.Creating number) o rs ds h = mark_back o rs ds h
@@ -444,6 +451,7 @@ module _ (o : ObjectId) (x : Held) (before : Asking) where
 
 creating_due : (p : Phase) (e : Execution) (ds : List Bool) (part : ℕ) → p ≡ phase.Creating (number_of p) → Knows p (machine e ds p part)
     → NoDue (machine e ds phase.Going e.stage.left)
+creating_due phase.Starting e ds part is k o = cc
 creating_due phase.Taking e ds part is k o = cc
 creating_due phase.Going e ds part is k o = cc
 creating_due phase.Changing e ds part is k o = cc
@@ -488,5 +496,5 @@ stands_now a (ask.Fault b) kept is change =
     let w = asked_is a (ask.Fault b) kept is in end_stands a.at.execution a.at.due a.at.part a.at.phase (Some b) kept.order kept.knows w.0 w.1
 
 pub begins_as : (e : Execution) (t : Task) (a : Asking) → a ≡ record { at = begun e; ask = None; asks = 0; children = 0; touched = 0 }
-    → ((vs : List ℤ) → left_in phase.Taking (begun e) vs ≡ talk t vs) → ((o : ℕ) → held_by e o ≡ None) → BeginsAs t a
+    → ((vs : List ℤ) → left_in phase.Starting (begun e) vs ≡ talk t vs) → ((o : ℕ) → held_by e o ≡ None) → BeginsAs t a
 begins_as e t a is tells none = subst (BeginsAs t) (sym is) (record { talk = tells; holds = none; ask = refl; asks = refl; children = refl })

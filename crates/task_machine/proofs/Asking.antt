@@ -12,7 +12,7 @@ use Rattle.jade_base.specs.Rights.{mode_of, no_rights}
 use Rattle.jade_base.specs.Specification.{rights_in}
 use Rattle.access_spec.specs.Copies.{copied}
 use Rattle.jade_base.specs.Held.{Held}
-use Rattle.jade_meaning.specs.Specification.{Specification, rights_on, yields}
+use Rattle.jade_meaning.specs.Specification.{Specification, rights_on, yields, commuting_on}
 use Rattle.jade_meaning.specs.Course.{Course, Reads, Writes, Steps, Creates, Changes, Ends, NoDraft}
 use Rattle.jade_meaning.specs.Talk.{Take, Give, held, given_back, events}
 use Rattle.code_meaning.specs.Children.{children_of}
@@ -26,12 +26,13 @@ use Rattle.task_machine.specs.declared.holdings.Row.{Row}
 use Rattle.task_machine.specs.declared.frame.Pause.{Pause}
 use Rattle.task_machine.specs.declared.frame.Pause.TheVariants as pause
 use Rattle.task_machine.specs.Telling.{mode_held, Agrees}
-use Rattle.task_machine.specs.Left.{Due, left_to_tell, left_to_change, IsLeast, IsNone, to_take, Touches, for_child, is_held}
+use Rattle.task_machine.specs.Left.{Due, left_to_start, left_to_tell, left_to_change, is_own, others, IsLeast, IsNone, to_take, Touches, for_child, is_held}
 use Rattle.task_machine.specs.Machines.{Machine, due_in, due_at, holds_of, holds_at, child_of, course_at, made_at, amended_at, steps_at, left_in}
 use Rattle.task_machine.specs.Machines.{supplied, TakeIsNext, GiveIsNext, CreationIsNext, ChangeIsNext, EndIsNext, PlaysOn}
 use Rattle.task_machine.specs.Machines.{NoDue, IsOrdered, rest_of, is_event, at_pause, GoesOn}
 use Rattle.task_machine.proofs.Tables.{table_long, table_past, table_same}
 use Rattle.task_machine.proofs.Marks.{holds_set, due_but, due_also, due_kept, no_content, no_mark, hold_at, hold_past, holds_long}
+use Rattle.task_machine.proofs.Left.{starts_least, starts_own, starts_on}
 use Rattle.task_machine.proofs.Left.{takes_least, tells_on, takes_touched, gives_for_child, enters_now, gives_for_change, shifts_now, gives_at_end, resigns}
 use Rattle.task_machine.proofs.Telling.{tells_as_played, modes_kept}
 
@@ -140,6 +141,31 @@ module _ (m : Machine) (good : IsOrdered m) where
       takes_least (due_at m) spec (course_at e) (holds_at e) (steps_at m) o mode full least is vs
       ∙ ap₂ (λ due h. Take o mode ∷ left_to_tell due (course_at e) spec h (steps_at m) vs) (sym (due_but e.rows o row (Some x) m.due good.long))
       (set_holds o mode x row same)
+
+  -- where the task begins, an object on which it does not commute is taken, then that on which it does, and then the course is told
+  pub start_other : (o : ℕ) (mode : Mode) → IsLeast (to_take (others (commuting_on spec) (due_at m)) spec) (length spec) o
+      → mode_of (rights_on spec o) ≡ Some mode → TakeIsNext o mode phase.Starting m
+  start_other o mode least is x same vs =
+      let row = due_has_row o (less (is_own (commuting_on spec) o) (due_at m o) _ least.here) in
+      starts_least (due_at m) spec (course_at e) (holds_at e) (steps_at m) o mode full least is vs
+      ∙ ap₂ (λ due h. Take o mode ∷ left_to_start due (course_at e) spec h (steps_at m) vs) (sym (due_but e.rows o row (Some x) m.due good.long))
+      (set_holds o mode x row same)
+    where
+      less : (b d m : Bool) → (if (if b then false else d) then m else false) ≡ true → (if d then m else false) ≡ true
+      less true d m h = absurd (true≢false (sym h))
+      less false d m h = h
+
+  pub start_own : (o : ℕ) (mode : Mode) → IsNone (to_take (others (commuting_on spec) (due_at m)) spec) (length spec) → commuting_on spec ≡ Some o
+      → due_at m o ≡ true → o < length spec → mode_of (rights_on spec o) ≡ Some mode → TakeIsNext o mode phase.Starting m
+  start_own o mode none own due lt is x same vs =
+      let row = due_has_row o (ap₂ (λ d y. if d then is_some y else false) due is) in
+      starts_own (due_at m) spec (course_at e) (holds_at e) (steps_at m) o mode full none own due lt is vs
+      ∙ ap₂ (λ due h. Take o mode ∷ left_to_start due (course_at e) spec h (steps_at m) vs) (sym (due_but e.rows o row (Some x) m.due good.long))
+      (set_holds o mode x row same)
+
+  pub starts_done : ((o : ℕ) → to_take (due_at m) spec o ≡ false) → (vs : List ℤ)
+      → left_to_start (due_at m) (course_at e) spec (holds_at e) (steps_at m) vs ≡ events (course_at e) spec (holds_at e) (steps_at m) vs
+  starts_done none vs = starts_on (due_at m) spec (course_at e) (holds_at e) (steps_at m) full none no_hold vs
 
   pub take_wanted : (o : ℕ) (mode : Mode) → NoDue m → has_row o e.rows ≡ true → o < n → Touches o (course_at e) → held_by e o ≡ None
       → mode_of (rights_on spec o) ≡ Some mode → TakeIsNext o mode phase.Going m

@@ -20,7 +20,7 @@ use Rattle.task_machine.specs.Playing.{contents_of}
 use Rattle.task_machine.specs.Stages.{id, slots_of, rights_at, drafted_as}
 use Rattle.task_machine.specs.Executions.{Execution, IsBegun, body_at, without_content}
 use Rattle.task_machine.specs.Telling.{mode_held}
-use Rattle.task_machine.specs.Left.{left_to_tell, no_holds, has_mode}
+use Rattle.task_machine.specs.Left.{left_to_start, no_holds, has_mode}
 use Rattle.task_machine.specs.Machines.{due_in, all_due, holds_of, holds_at, course_at, child_of, made_at, BeginsItsTalk, BeginsChild, BeginsCode}
 use Rattle.task_machine.proofs.Tables.{table_past, table_at}
 use Rattle.task_machine.proofs.Left.{begins_due}
@@ -84,7 +84,7 @@ begins_its_talk c zs limit body ss es e b vs =
     let none : holds_at e ≡ no_holds (rights_at e.stage) =
     ap (λ rs. holds_of n (contents_of rs)) b.rows ∙ nothing_held es 0 n ∙ ap (λ l. no_holds (spread n l)) (sym entries) in
     let steps : e.stage.left - e.stage.left ≡ 0 = omega arith in
-    ap₂ (λ h k. left_to_tell (due_in e.rows (all_due e.rows)) (course_at e) (rights_at e.stage) h k vs) none steps
+    ap₂ (λ h k. left_to_start (due_in e.rows (all_due e.rows)) (course_at e) (rights_at e.stage) h k vs) none steps
     ∙ sym (begins_due (due_in e.rows (all_due e.rows)) task all vs)
 
 module _ (e : Execution) (call : List Operand) (ss : Slots) (es : List (ObjectId × Rights)) (number limit : ℕ) (zs : List ℤ) (c : TaskCode)

@@ -228,6 +228,7 @@ module _ (e : Execution) (ds : List Bool) (part : ℕ) (good : IsOrdered (machin
 pub change_stands : (e : Execution) (ds : List Bool) (part : ℕ) (p : Phase) → IsOrdered (machine e ds p part) → HasRows e.stage.spec.entries e.rows
     → p ≡ phase.Changing → NoneIsNext p (machine e ds p part) → rights_at (changed (machine e ds p part)).execution.stage ≡ amended_at e → (vs : List ℤ)
     → left_in p (machine e ds p part) vs ≡ shifts_from 0 (rights_at e.stage) (amended_at e) ++ left (changed (machine e ds p part)) vs
+change_stands e ds part phase.Starting good rows is none same vs = cc
 change_stands e ds part phase.Taking good rows is none same vs = cc
 change_stands e ds part phase.Going good rows is none same vs = cc
 change_stands e ds part (phase.Creating number) good rows is none same vs = cc

@@ -1,14 +1,14 @@
 -- What is left of a task's talk while it takes what is due, and gives up what it has to.
 use Rattle.std.proofs.Common.{◌≡◌, ℕ, zero, suc, ◌+◌, ◌<◌, ◌≤◌, ◌⊎◌, inl, inr, List, [], ◌∷◌, ◌++◌, map, length, Bool, true, false, Option, Some, None}
 use Rattle.std.proofs.Common.{refl, sym, ap, ap₂, ◌∙◌, subst, arith, get_or-set_same, get_or-set_other, set-set}
-use Rattle.std.specs.Prelude.{ℤ, not, ◌&&◌, ◌||◌, is_some, is_none, slice_set, if◌then◌else◌}
+use Rattle.std.specs.Prelude.{ℤ, not, ◌&&◌, ◌||◌, is_some, is_none, nat_eq, slice_set, if◌then◌else◌}
 use Rattle.std.specs.List.{flat_map}
 use Rattle.std.proofs.lemmas.List.{append_assoc}
 use Rattle.std.proofs.lemmas.Bool.{cases_eq, eq-eqb, ne_eqb, true≢false}
 use Rattle.jade_base.specs.declared.report.Blame.{Blame}
 use Rattle.jade_base.specs.declared.rights.Mode.{Mode}
 use Rattle.jade_base.specs.Rights.{mode_of}
-use Rattle.jade_meaning.specs.Specification.{Specification, rights_on, numbers, yields, same_hold}
+use Rattle.jade_meaning.specs.Specification.{Specification, rights_on, numbers, objects, yields, same_hold, commuting_on}
 use Rattle.jade_meaning.specs.Course.{Course, Reads, Writes, Steps, Creates, Changes, Ends}
 use Rattle.jade_meaning.specs.Talk.{
   Task,
@@ -30,8 +30,9 @@ use Rattle.jade_meaning.specs.Talk.{
   made_immediate,
   taken_anew,
 }
-use Rattle.jade_meaning.specs.Talk.{when, first_take, touched, kept, change_gives, events}
-use Rattle.task_machine.specs.Left.{Due, takes, planned, left_to_tell, due_anew, no_due, but, and_also, no_holds, BeginsDue}
+use Rattle.jade_meaning.specs.Talk.{when, first_take, touched, kept, change_gives, events, without, own_last}
+use Rattle.task_machine.specs.Left.{Due, takes, planned, left_to_tell, due_anew, no_due, but, and_also, no_holds, IsFull, BeginsDue}
+use Rattle.task_machine.specs.Left.{takes_first, is_own, others, to_take, StartsLeast, StartsOwn, StartsOn}
 use Rattle.task_machine.specs.Left.{IsLeast, IsNone, TakesLeast, TellsOn, TakesTouched, for_child, GivesForChild, Enters, ChangesFirst}
 use Rattle.task_machine.specs.Left.{GivesForChange, Shifts, is_held, GivesAtEnd, Resigns}
 
@@ -126,11 +127,16 @@ mode_due : (d : Bool) (m : Option Mode) → (is_some m ≡ true → d ≡ true) 
 mode_due d None h = none_either d None refl
 mode_due d (Some m) h = ap (λ b. if b then Some m else None) (h refl)
 
+-- what is done for each object of a list
+same_each : (f g : ℕ → List Event) (os : List ℕ) → ((j : ℕ) → f j ≡ g j) → flat_map f os ≡ flat_map g os
+same_each f g [] h = refl
+same_each f g (o ∷ os) h = ap₂ (λ a b. a ++ b) (h o) (same_each f g os h)
+
 pub begins_due : (due : Due) (t : Task) → BeginsDue due t
 begins_due due t all vs =
     ap₂ (λ es h. es ++ events t.course t.spec h 0 vs)
-    (same_from (λ o. take_in (mode_of (rights_on t.spec o)) o) (λ o. if due o then take_in (mode_of (rights_on t.spec o)) o else []) 0
-    (length t.spec) (λ j le lt. taken_by (due j) (mode_of (rights_on t.spec j)) j (all j)))
+    (same_each (λ o. take_in (mode_of (rights_on t.spec o)) o) (λ o. if due o then take_in (mode_of (rights_on t.spec o)) o else [])
+    (own_last (commuting_on t.spec) (objects t.spec)) (λ j. taken_by (due j) (mode_of (rights_on t.spec j)) j (all j)))
     (sym (holds_from (λ o. if due o then mode_of (rights_on t.spec o) else held (no_holds t.spec) o) (λ o. mode_of (rights_on t.spec o)) 0
     (length t.spec) (λ j le lt. ap (λ m. if due j then mode_of (rights_on t.spec j) else m) (no_held t.spec j)
     ∙ mode_due (due j) (mode_of (rights_on t.spec j)) (all j))
@@ -148,22 +154,31 @@ module _ (due : Due) (spec : Specification) where
   is_due true m h = refl
   is_due false m h = h
 
-  pub takes_least : (c : Course) (h : Holds) (n o : ℕ) (m : Mode) → TakesLeast due c spec h n o m
-  takes_least c h n o m full least mode vs =
+  -- the least is taken first
+  pub head_least : (o : ℕ) (m : Mode) → IsLeast (to_take due spec) (length spec) o → mode_of (rights_on spec o) ≡ Some m
+      → takes due spec ≡ Take o m ∷ takes (but o due) spec
+  head_least o m least mode =
       let d = is_due (due o) (mode_of (rights_on spec o)) least.here in
       let f : ℕ → List Event = λ j. if due j then take_in (mode_of (rights_on spec j)) j else [] in
       let g : ℕ → List Event = λ j. if but o due j then take_in (mode_of (rights_on spec j)) j else [] in
       let here : f o ≡ Take o m ∷ [] = ap₂ (λ b x. if b then take_in x o else []) d mode in
       let after : g o ≡ [] = ap (λ b. if b then take_in (mode_of (rights_on spec o)) o else []) (here_but o due) in
-      let first = least_from f g 0 (length spec) o (Take o m) (omega arith) (omega (arith, least.within))
+      least_from f g 0 (length spec) o (Take o m) (omega arith) (omega (arith, least.within))
       (λ j le lt. nothing_taken (due j) (mode_of (rights_on spec j)) j (least.before j lt)) here after
-      (λ j ne. ap (λ b. if b then take_in (mode_of (rights_on spec j)) j else []) (other_but o due j ne)) in
-      let h' = slice_set h o (Some m) in
-      let room : o < length h = subst (λ k. o < k) (sym full) least.within in
-      let at : (j : ℕ) → (j ≡ o) ⊎ (j ≡ o → ⊥) → (if due j then mode_of (rights_on spec j) else held h j)
-      ≡ (if but o due j then mode_of (rights_on spec j) else held h' j) =
-      λ j q. planned_at m h j q d mode room in
-      ap₂ (λ es k. es ++ events c spec k n vs) first (holds_from _ _ 0 (length spec) (λ j le lt. at j (cases_eq j o)))
+      (λ j ne. ap (λ b. if b then take_in (mode_of (rights_on spec j)) j else []) (other_but o due j ne))
+
+  -- none is taken
+  pub head_none : IsNone (to_take due spec) (length spec) → takes due spec ≡ []
+  head_none none =
+      none_from (λ o. if due o then take_in (mode_of (rights_on spec o)) o else []) 0 (length spec)
+      (λ j le lt. nothing_taken (due j) (mode_of (rights_on spec j)) j (none j (below j (length spec) lt)))
+
+  -- the holds that are planned, once one of these objects is taken
+  pub planned_same : (h : Holds) (o : ℕ) (m : Mode) → IsFull spec h → o < length spec → due o ≡ true → mode_of (rights_on spec o) ≡ Some m
+      → planned due spec h ≡ planned (but o due) spec (slice_set h o (Some m))
+  planned_same h o m full lt d mode =
+      let room : o < length h = subst (λ k. o < k) (sym full) lt in
+      holds_from _ _ 0 (length spec) (λ j le lt. planned_at m h j (cases_eq j o) d mode room)
     where
       planned_at : (m : Mode) (h : Holds) (j : ℕ) → (j ≡ o) ⊎ (j ≡ o → ⊥) → due o ≡ true → mode_of (rights_on spec o) ≡ Some m → o < length h
           → (if due j then mode_of (rights_on spec j) else held h j) ≡ (if but o due j then mode_of (rights_on spec j) else held (slice_set h o (Some m)) j)
@@ -176,20 +191,136 @@ module _ (due : Due) (spec : Specification) where
       planned_at m h j (inr ne) d mode room =
           ap₂ (λ b x. if b then mode_of (rights_on spec j) else x) (sym (other_but o due j ne)) (sym (get_or-set_other h o j (Some m) None ne))
 
+  pub takes_least : (c : Course) (h : Holds) (n o : ℕ) (m : Mode) → TakesLeast due c spec h n o m
+  takes_least c h n o m full least mode vs =
+      ap₂ (λ es k. es ++ events c spec k n vs) (head_least o m least mode)
+      (planned_same h o m full least.within (is_due (due o) (mode_of (rights_on spec o)) least.here) mode)
+
   nothing_planned : (d : Bool) (m x : Option Mode) → (if d then is_some m else false) ≡ false → (d ≡ true → x ≡ None) → (if d then m else x) ≡ x
   nothing_planned false m x h free = refl
   nothing_planned true None x h free = sym (free refl)
   nothing_planned true (Some m) x h free = absurd (true≢false h)
 
-  pub tells_on : (c : Course) (h : Holds) (n : ℕ) → TellsOn due c spec h n
-  tells_on c h n full none free vs =
-      let same : planned due spec h ≡ h =
+  -- where none is taken, nothing is planned but what is held
+  pub planned_none : (h : Holds) → IsFull spec h → IsNone (to_take due spec) (length spec) → ((o : ℕ) → due o ≡ true → held h o ≡ None)
+      → planned due spec h ≡ h
+  planned_none h full none free =
       holds_from (λ o. if due o then mode_of (rights_on spec o) else held h o) (λ o. held h o) 0 (length spec)
       (λ j le lt. nothing_planned (due j) (mode_of (rights_on spec j)) (held h j) (none j (below j (length spec) lt)) (free j))
-      ∙ ap (λ k. map (λ o. held h o) (numbers 0 k)) (sym full) ∙ all_holds h in
+      ∙ ap (λ k. map (λ o. held h o) (numbers 0 k)) (sym full) ∙ all_holds h
+
+  pub tells_on : (c : Course) (h : Holds) (n : ℕ) → TellsOn due c spec h n
+  tells_on c h n full none free vs = ap₂ (λ es k. es ++ events c spec k n vs) (head_none none) (planned_none h full none free)
+
+-- ---- the begin, where the object on which the task commutes is taken last
+
+-- what is done for that object
+abbrev own_part : Option ℕ → (ℕ → List Event) → List Event
+own_part None f = []
+own_part (Some o) f = f o
+
+joined_lists : (f : ℕ → List Event) (xs ys : List ℕ) → flat_map f (xs ++ ys) ≡ flat_map f xs ++ flat_map f ys
+joined_lists f [] ys = refl
+joined_lists f (x ∷ xs) ys = ap (λ l. f x ++ l) (joined_lists f xs ys) ∙ sym (append_assoc (f x) (flat_map f xs) (flat_map f ys))
+
+without_one : (o : ℕ) (f : ℕ → List Event) (os : List ℕ) → flat_map f (without o os) ≡ flat_map (λ j. if nat_eq o j then [] else f j) os
+without_one o f [] = refl
+without_one o f (x ∷ xs) = at (nat_eq o x) (without_one o f xs)
+  where
+    at : (b : Bool) → flat_map f (without o xs) ≡ flat_map (λ j. if nat_eq o j then [] else f j) xs
+        → flat_map f (if b then without o xs else x ∷ without o xs) ≡ (if b then [] else f x) ++ flat_map (λ j. if nat_eq o j then [] else f j) xs
+    at true h = h
+    at false h = ap (λ l. f x ++ l) h
+
+nothing_after : (es : List Event) → es ≡ es ++ []
+nothing_after [] = refl
+nothing_after (e ∷ es) = ap (λ l. e ∷ l) (nothing_after es)
+
+two_parts : (x : Option ℕ) (f : ℕ → List Event) (os : List ℕ) → flat_map f (own_last x os)
+    ≡ flat_map (λ j. if is_own x j then [] else f j) os ++ own_part x f
+two_parts None f os = nothing_after (flat_map f os)
+two_parts (Some o) f os =
+    joined_lists f (without o os) (o ∷ []) ∙ ap₂ (λ a b. a ++ b) (without_one o f os) (sym (nothing_after (f o)))
+
+module _ (due : Due) (spec : Specification) where
+  abbrev own : Option ℕ
+  own = commuting_on spec
+
+  abbrev taken_of : Due → ℕ → List Event
+  taken_of d j = if d j then take_in (mode_of (rights_on spec j)) j else []
+
+  -- what is taken of the others, and then the own object
+  halves : (d : Due) → takes_first d spec ≡ takes (others own d) spec ++ own_part own (taken_of d)
+  halves d =
+      two_parts own (taken_of d) (objects spec)
+      ∙ ap (λ l. l ++ own_part own (taken_of d)) (same_each _ _ (objects spec) (λ j. apart (is_own own j) (d j) (take_in (mode_of (rights_on spec j)) j)))
+    where
+      apart : (b d : Bool) (es : List Event) → (if b then [] else (if d then es else [])) ≡ (if (if b then false else d) then es else [])
+      apart true d es = refl
+      apart false d es = refl
+
+  swapped : (o : ℕ) (j : ℕ) → but o (others own due) j ≡ others own (but o due) j
+  swapped o j = at (nat_eq j o) (is_own own j)
+    where
+      at : (b c : Bool) → (if b then false else (if c then false else due j)) ≡ (if c then false else (if b then false else due j))
+      at true true = refl
+      at true false = refl
+      at false c = refl
+
+  takes_alike : (d d' : Due) → ((j : ℕ) → d j ≡ d' j) → takes d spec ≡ takes d' spec
+  takes_alike d d' h = same_each _ _ (objects spec) (λ j. ap (λ b. if b then take_in (mode_of (rights_on spec j)) j else []) (h j))
+
+  not_own : (b d m : Bool) → (if (if b then false else d) then m else false) ≡ true → (b ≡ false) × (d ≡ true)
+  not_own true d m h = absurd (true≢false (sym h))
+  not_own false true m h = (refl, refl)
+  not_own false false m h = absurd (true≢false (sym h))
+
+  -- the own part stays, where another object is taken
+  part_stays : (x : Option ℕ) (o : ℕ) → is_own x o ≡ false → own_part x (taken_of due) ≡ own_part x (taken_of (but o due))
+  part_stays None o h = refl
+  part_stays (Some p) o h =
+      ap (λ b. if b then take_in (mode_of (rights_on spec p)) p else []) (sym (other_but o due p (λ q. true≢false (sym (eq-eqb p o q) ∙ h))))
+
+  pub starts_least : (c : Course) (h : Holds) (n o : ℕ) (m : Mode) → StartsLeast due c spec h n o m
+  starts_least c h n o m full least mode vs =
+      let d = not_own (is_own own o) (due o) _ least.here in
       ap₂ (λ es k. es ++ events c spec k n vs)
-      (none_from (λ o. if due o then take_in (mode_of (rights_on spec o)) o else []) 0 (length spec)
-      (λ j le lt. nothing_taken (due j) (mode_of (rights_on spec j)) j (none j (below j (length spec) lt)))) same
+      (halves due
+      ∙ ap₂ (λ a b. a ++ b) (head_least (others own due) spec o m least mode) (part_stays own o d.0)
+      ∙ ap (λ l. Take o m ∷ (l ++ own_part own (taken_of (but o due)))) (takes_alike _ _ (swapped o))
+      ∙ ap (λ l. Take o m ∷ l) (sym (halves (but o due))))
+      (planned_same due spec h o m full least.within d.1 mode)
+
+  pub starts_own : (c : Course) (h : Holds) (n o : ℕ) (m : Mode) → StartsOwn due c spec h n o m
+  starts_own c h n o m full none is d lt mode vs =
+      let here : own_part own (taken_of due) ≡ Take o m ∷ [] = ap (λ x. own_part x (taken_of due)) is ∙ ap₂ (λ b x. if b then take_in x o else []) d mode in
+      let after : own_part own (taken_of (but o due)) ≡ [] =
+      ap (λ x. own_part x (taken_of (but o due))) is ∙ ap (λ b. if b then take_in (mode_of (rights_on spec o)) o else []) (here_but o due) in
+      let still : IsNone (to_take (others own (but o due)) spec) (length spec) =
+      λ j lt. less (is_own own j) (nat_eq j o) (due j) _ (none j lt) in
+      ap₂ (λ es k. es ++ events c spec k n vs)
+      (halves due ∙ ap₂ (λ a b. a ++ b) (head_none (others own due) spec none) here
+      ∙ ap (λ l. Take o m ∷ l) (sym (halves (but o due) ∙ ap₂ (λ a b. a ++ b) (head_none (others own (but o due)) spec still) after)))
+      (planned_same due spec h o m full lt d mode)
+    where
+      less : (b c d m : Bool) → (if (if b then false else d) then m else false) ≡ false → (if (if b then false else (if c then false else d)) then m else false) ≡ false
+      less true c d m h = refl
+      less false true d m h = refl
+      less false false d m h = h
+
+  pub starts_on : (c : Course) (h : Holds) (n : ℕ) → StartsOn due c spec h n
+  starts_on c h n full none free vs =
+      ap₂ (λ es k. es ++ events c spec k n vs)
+      (halves due ∙ ap₂ (λ a b. a ++ b) (head_none (others own due) spec (λ j lt. less (is_own own j) (due j) _ (none j))) (nothing own))
+      (planned_none due spec h full (λ j lt. none j) free)
+    where
+      less : (b d m : Bool) → (if d then m else false) ≡ false → (if (if b then false else d) then m else false) ≡ false
+      less true d m h = refl
+      less false d m h = h
+
+      nothing : (x : Option ℕ) → own_part x (taken_of due) ≡ []
+      nothing None = refl
+      nothing (Some o) = nothing_taken due spec (due o) (mode_of (rights_on spec o)) o (none o)
 
 module _ (spec : Specification) (h : Holds) (n o : ℕ) (m : Mode) (room : o < length h) (free : held h o ≡ None) (mode : mode_of (rights_on spec o) ≡ Some m)
   where

@@ -1,3 +1,4 @@
+mod Commuting
 mod Rows
 pub mod Sparse
 mod Sections

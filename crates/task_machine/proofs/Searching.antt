@@ -10,7 +10,7 @@ use Rattle.jade_base.specs.declared.rights.Mode.{Mode}
 use Rattle.jade_base.specs.declared.rights.Mode.TheVariants.{Reading, Writing, Commuting}
 use Rattle.jade_base.specs.Rights.{no_rights, mode_of, gives_way}
 use Rattle.jade_base.specs.Specification.{AllAbove, IsAscending, rights_in}
-use Rattle.jade_meaning.specs.Specification.{rights_on, yields}
+use Rattle.jade_meaning.specs.Specification.{rights_on, yields, commuting_on}
 use Rattle.jade_meaning.specs.Talk.{held}
 use Rattle.task_machine.specs.declared.holdings.Row.{Row}
 use Rattle.task_machine.specs.declared.next.Phase.{Phase}
@@ -18,7 +18,7 @@ use Rattle.task_machine.specs.declared.next.Phase.TheVariants as phase
 use Rattle.task_machine.specs.Stages.{id, rights_at}
 use Rattle.task_machine.specs.Executions.{Execution, held_by, has_row, objects_in}
 use Rattle.task_machine.specs.Telling.{mode_held}
-use Rattle.task_machine.specs.Left.{IsLeast, IsNone}
+use Rattle.task_machine.specs.Left.{IsLeast, IsNone, is_own}
 use Rattle.task_machine.specs.Machines.{due_in, holds_at, made_at, candidates, is_to_move}
 use Rattle.task_machine.specs.steps.Holding.{RowsAbove, RowsAscend, row_from}
 use Rattle.task_machine.specs.steps.Searching.{ObjectsAbove, ObjectsAscend, has_object, Tested}
@@ -110,7 +110,7 @@ row_among [] o = refl
 row_among (r ∷ rs) o = ap (λ b. if nat_eq r.object.0 o then true else b) (row_among rs o)
 
 -- an object without an entry has no rights
-no_entry : (es : List (ObjectId × Rights)) (o : ℕ) → has_object o (map (λ x. x.0) es) ≡ false → rights_in es (id o) ≡ no_rights
+pub no_entry : (es : List (ObjectId × Rights)) (o : ℕ) → has_object o (map (λ x. x.0) es) ≡ false → rights_in es (id o) ≡ no_rights
 no_entry [] o h = refl
 no_entry (x ∷ es) o h = go (λ q. no_entry es o q) (cases_eq x.0.0 o)
   where
@@ -119,7 +119,7 @@ no_entry (x ∷ es) o h = go (λ q. no_entry es o q) (cases_eq x.0.0 o)
     go more (inl e) = let h' : true ≡ false = rw (eq-eqb x.0.0 o e) at h in absurd (true≢false h')
     go more (inr ne) = let h' : has_object o (map (λ x. x.0) es) ≡ false = rw (ne_eqb x.0.0 o ne) at h in rw (ne_eqb x.0.0 o ne) (more h')
 
-by_contra : (b : Bool) → (b ≡ false → ⊥) → b ≡ true
+pub by_contra : (b : Bool) → (b ≡ false → ⊥) → b ≡ true
 by_contra true h = refl
 by_contra false h = absurd (h refl)
 
@@ -181,6 +181,10 @@ module _ (e : Execution) where
   taken_due true m h = refl
   taken_due false m h = h
 
+  less_taken : (b d m : Bool) → (if (if b then false else d) then m else false) ≡ true → (if d then m else false) ≡ true
+  less_taken true d m h = absurd (true≢false (sym h))
+  less_taken false d m h = h
+
   made_entry : (o : ℕ) → has_object o (map (λ x. x.0) e.stage.child.entries) ≡ false → rights_on (made_at e) o ≡ no_rights
   made_entry o q = at (lt_or_le o n)
     where
@@ -193,6 +197,9 @@ module _ (e : Execution) where
 
   -- what is to be taken or given up is among the candidates
   pub is_candidate : (p : Phase) (ds : List Bool) (o : ℕ) → is_to_move p e ds o ≡ true → has_object o (candidates p e) ≡ true
+  is_candidate phase.Starting ds o h =
+      by_contra (has_object o (objects_in e.rows)) (λ q. true≢false (sym (taken_due (due_in e.rows ds o) _ (less_taken (is_own (commuting_on (rights_at e.stage)) o) _ _ h))
+      ∙ no_mark e.rows ds o (row_among e.rows o ∙ q)))
   is_candidate phase.Taking ds o h =
       by_contra (has_object o (objects_in e.rows)) (λ q. true≢false (sym (taken_due (due_in e.rows ds o) _ h) ∙ no_mark e.rows ds o (row_among e.rows o ∙ q)))
   is_candidate phase.Going ds o h = absurd (true≢false (sym h))
@@ -203,6 +210,8 @@ module _ (e : Execution) where
   is_candidate (phase.Ending b) ds o h = held_among o h
 
   pub is_object : (p : Phase) (ds : List Bool) (o : ℕ) → is_to_move p e ds o ≡ true → o < n
+  is_object phase.Starting ds o h =
+      mode_within o (taken_mode (due_in e.rows ds o) _ (less_taken (is_own (commuting_on (rights_at e.stage)) o) _ _ h))
   is_object phase.Taking ds o h = mode_within o (taken_mode (due_in e.rows ds o) _ h)
   is_object phase.Going ds o h = absurd (true≢false (sym h))
   is_object (phase.Creating number) ds o h = held_within o (yields_held (held (holds_at e) o) (rights_on (made_at e) o) h)

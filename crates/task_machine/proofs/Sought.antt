@@ -4,7 +4,7 @@ use Rattle.std.specs.Prelude.{◌&&◌, not, is_some, nat_eq, if◌then◌else�
 use Rattle.std.proofs.lemmas.Bool.{cases_eq, eq-eqb, ne_eqb}
 use Rattle.jade_base.specs.Held.{Held}
 use Rattle.jade_base.specs.Rights.{mode_of}
-use Rattle.jade_meaning.specs.Specification.{rights_on, same_hold, yields}
+use Rattle.jade_meaning.specs.Specification.{rights_on, same_hold, yields, commuting_on}
 use Rattle.jade_meaning.specs.Talk.{held}
 use Rattle.task_machine.specs.declared.holdings.Row.{Row}
 use Rattle.task_machine.specs.declared.next.Phase.{Phase}
@@ -13,7 +13,7 @@ use Rattle.task_machine.specs.Playing.{contents_of}
 use Rattle.task_machine.specs.Stages.{rights_at}
 use Rattle.task_machine.specs.Telling.{mode_held}
 use Rattle.task_machine.specs.Executions.{Execution, with_content}
-use Rattle.task_machine.specs.Left.{IsNone, has_mode}
+use Rattle.task_machine.specs.Left.{IsNone, has_mode, is_own}
 use Rattle.task_machine.specs.Machines.{amended_at, due_in, holds_of, is_to_move, made_at, marks_after, with_mark}
 use Rattle.task_machine.proofs.Marks.{due_same, hold_at, hold_past}
 
@@ -30,6 +30,7 @@ mark_other o b (r ∷ rs) (d ∷ ds) j no_o = go (cases_eq r.object.0 o) (mark_o
 
 pub marks_other : (p : Phase) (o : ℕ) (rs : List Row) (ds : List Bool) (j : ℕ) → (j ≡ o → ⊥) → due_in rs (marks_after p o rs ds) j ≡ due_in rs ds j
 marks_other phase.Changing o rs ds j no_o = mark_other o true rs ds j no_o
+marks_other phase.Starting o rs ds j no_o = refl
 marks_other phase.Taking o rs ds j no_o = refl
 marks_other phase.Going o rs ds j no_o = refl
 marks_other (phase.Creating number) o rs ds j no_o = refl
@@ -70,6 +71,9 @@ module _ (e : Execution) (o : ℕ) (h : Option Held) (ds ds' : List Bool) where
 
   -- of another object the same is to be done
   other_moves : (p : Phase) (j : ℕ) → (j ≡ o → ⊥) → due_in e.rows ds' j ≡ due_in e.rows ds j → is_to_move p e' ds' j ≡ is_to_move p e ds j
+  other_moves phase.Starting j no_o q =
+      ap (λ d. if (if is_own (commuting_on (rights_at e.stage)) j then false else d) then has_mode (rights_at e.stage) j else false)
+      (due_same o h e.rows ds' j ∙ q)
   other_moves phase.Taking j no_o q = ap (λ d. if d then has_mode (rights_at e.stage) j else false) (due_same o h e.rows ds' j ∙ q)
   other_moves phase.Going j no_o q = refl
   other_moves (phase.Creating number) j no_o q = ap (λ x. yields x (rights_on (made_at e) j)) (hold_other e.stage.objects o h e.rows j no_o)

@@ -1,5 +1,5 @@
 -- A machine between its calls, and what each call makes of it.
-use Rattle.std.proofs.Common.{◌≡◌, ℕ, suc, ◌+◌, ◌-◌, ◌<◌, ◌%◌, ◌^◌, List, [], ◌∷◌, length, Bool, true, false}
+use Rattle.std.proofs.Common.{◌≡◌, ℕ, zero, suc, ◌+◌, ◌-◌, ◌<◌, ◌≤◌, ◌⊎◌, inl, inr, ⊎_elim, ◌%◌, ◌^◌, List, [], ◌∷◌, length, Bool, true, false}
 use Rattle.std.proofs.Common.{Option, Some, None, refl, sym, ap, ap₂, ◌∙◌, subst, arith}
 use Rattle.std.specs.Prelude.{ℤ, Result, Ok, Err, OnErr, is_some, nat_eq, replicate, slice_get, if◌then◌else◌}
 use Rattle.std.proofs.Math.Path.{fun_ext}
@@ -10,10 +10,11 @@ use Rattle.jade_base.specs.declared.place.Pos.{Pos}
 use Rattle.code_meaning.specs.declared.code.Instruction.{Instruction}
 use Rattle.code_meaning.specs.declared.code.Instruction.TheVariants as i
 use Rattle.jade_base.specs.declared.rights.Rights.{Rights}
+use Rattle.jade_base.specs.declared.rights.Mode.{Mode}
 use Rattle.jade_base.specs.Rights.{mode_of, no_rights}
 use Rattle.jade_base.specs.Specification.{rights_in}
 use Rattle.jade_base.specs.Held.{Held}
-use Rattle.jade_meaning.specs.Specification.{rights_on}
+use Rattle.jade_meaning.specs.Specification.{rights_on, commuting_on}
 use Rattle.jade_meaning.specs.Course.{Course, Reads, Writes, Steps, Creates, Changes, Ends, NoDraft}
 use Rattle.jade_meaning.specs.Talk.{events}
 use Rattle.task_code.specs.Rules.{TaskCode}
@@ -27,15 +28,15 @@ use Rattle.task_machine.specs.declared.machine.Ask.TheVariants as ask
 use Rattle.task_machine.specs.Playing.{Contents, Played, played, touches}
 use Rattle.task_machine.specs.Stages.{id, rights_at, Wants, Tells, beyond}
 use Rattle.task_machine.specs.Executions.{Execution, Advanced, created_by, has_row, held_by, objects_in}
-use Rattle.task_machine.specs.Left.{Touches, IsLeast, IsNone, to_take, left_to_change, no_due}
+use Rattle.task_machine.specs.Left.{Touches, IsLeast, IsNone, has_mode, is_own, others, to_take, left_to_change, no_due}
 use Rattle.task_machine.specs.Machines.{Machine, IsOrdered, NoDue, IsNext, course_at, child_of, due_at, due_in, holds_at, amended_at, left_in}
-use Rattle.task_machine.specs.Machines.{is_event, rest_of}
+use Rattle.task_machine.specs.Machines.{is_event, is_to_move, rest_of, TakeIsNext}
 use Rattle.task_machine.specs.Asks.{PlaysTo, GoesTo, plays}
-use Rattle.task_machine.specs.steps.Standing.{has_entry, HasRows, Knows, Asked, machine, asking, IsKept, TakenAs, RunsOn, marks_in, phase_of}
-use Rattle.task_machine.proofs.Tables.{table_at}
+use Rattle.task_machine.specs.steps.Standing.{OwnIsDue, OwnIsNotDue, has_entry, HasRows, Knows, Asked, machine, asking, IsKept, TakenAs, RunsOn, marks_in, phase_of}
+use Rattle.task_machine.proofs.Tables.{table_at, table_past}
 use Rattle.task_machine.proofs.Left.{changes_first}
 use Rattle.task_machine.proofs.Telling.{tells_as_played}
-use Rattle.task_machine.proofs.Asking.{spec_long, due_has_row, take_due, take_wanted, takes_done, told, agreed, goes_on, order_there, none_there, same_play}
+use Rattle.task_machine.proofs.Asking.{spec_long, due_has_row, start_other, start_own, starts_done, take_due, take_wanted, takes_done, told, agreed, goes_on, order_there, none_there, same_play}
 use Rattle.task_machine.proofs.Asking.{stuck, rests}
 
 -- ---- rows
@@ -113,6 +114,82 @@ due_asked e ds o ask.Change least t part good = absurd t
 due_asked e ds o ask.End least t part good = absurd t
 due_asked e ds o (ask.Fault b) least t part good = absurd t
 
+-- what is due at the begin is asked for
+asked_at_start : (e : Execution) (ds : List Bool) (o : ObjectId) (k : Ask) (part : ℕ) → TakenAs k o e → o.0 < e.stage.objects
+    → to_take (due_in e.rows ds) (rights_at e.stage) o.0 ≡ true → IsOrdered (machine e ds phase.Starting part)
+    → ((mode : Mode) → mode_of (rights_on (rights_at e.stage) o.0) ≡ Some mode → TakeIsNext o.0 mode phase.Starting (machine e ds phase.Starting part))
+    → Asked k phase.Starting (machine e ds phase.Starting part)
+asked_at_start e ds o (ask.Take x mode) part t lt due good next =
+    let m = machine e ds phase.Starting part in
+    let same : x ≡ o = t.0 in
+    record {
+      there = due_has_row m good x.0 (ap (λ (y : ObjectId). to_take (due_in e.rows ds) (rights_at e.stage) y.0) same ∙ due);
+      within = subst (λ (y : ObjectId). y.0 < e.stage.objects) (sym same) lt;
+      mode_is = t.1;
+      next = subst (λ (y : ObjectId). TakeIsNext y.0 mode phase.Starting m) (sym same)
+          (next mode (ap (λ (y : ObjectId). mode_of (rights_on (rights_at e.stage) y.0)) (sym same) ∙ t.1));
+    }
+asked_at_start e ds o (ask.GiveBack x) part t lt due good next = absurd t
+asked_at_start e ds o ask.Create part t lt due good next = absurd t
+asked_at_start e ds o ask.Change part t lt due good next = absurd t
+asked_at_start e ds o ask.End part t lt due good next = absurd t
+asked_at_start e ds o (ask.Fault b) part t lt due good next = absurd t
+
+less_taken : (b d m : Bool) → (if (if b then false else d) then m else false) ≡ true → (if d then m else false) ≡ true
+less_taken true d m h = absurd (true≢false (sym h))
+less_taken false d m h = h
+
+pub other_asked : (e : Execution) (ds : List Bool) (o : ObjectId) (k : Ask) → IsNext phase.Starting (machine e ds phase.Starting 0) o.0 → TakenAs k o e
+    → (part : ℕ) → IsOrdered (machine e ds phase.Starting part) → Asked k phase.Starting (machine e ds phase.Starting part)
+other_asked e ds o k least t part good =
+    let m = machine e ds phase.Starting part in
+    asked_at_start e ds o k part t least.within (less_taken (is_own (commuting_on (rights_at e.stage)) o.0) _ _ least.here) good
+    (λ mode is. start_other m good o.0 mode
+    (subst (λ k. IsLeast (to_take (others (commuting_on (rights_at e.stage)) (due_at m)) (rights_at e.stage)) k o.0) (sym (spec_long m good)) least) is)
+
+pub own_asked : (e : Execution) (ds : List Bool) (o : ObjectId) (k : Ask) → IsNone (is_to_move phase.Starting e ds) e.stage.objects → OwnIsDue e ds o.0
+    → TakenAs k o e → (part : ℕ) → IsOrdered (machine e ds phase.Starting part) → Asked k phase.Starting (machine e ds phase.Starting part)
+own_asked e ds o k none due t part good =
+    let m = machine e ds phase.Starting part in
+    asked_at_start e ds o k part t due.within (ap (λ d. if d then has_mode (rights_at e.stage) o.0 else false) due.due ∙ due.mode) good
+    (λ mode is. start_own m good o.0 mode
+    (subst (IsNone (to_take (others (commuting_on (rights_at e.stage)) (due_at m)) (rights_at e.stage))) (sym (spec_long m good)) none) due.own due.due
+    (subst (λ k. o.0 < k) (sym (spec_long m good)) due.within) is)
+
+-- where neither another object is left to take nor the own one, nothing is
+pub none_to_start : (e : Execution) (ds : List Bool) → IsNone (is_to_move phase.Starting e ds) e.stage.objects → OwnIsNotDue e ds
+    → (o : ℕ) → to_take (due_in e.rows ds) (rights_at e.stage) o ≡ false
+none_to_start e ds none free o = at (commuting_on (rights_at e.stage)) refl
+  where
+    T : ℕ → Bool
+    T o = to_take (due_in e.rows ds) (rights_at e.stage) o
+
+    no_takes : (d : Bool) (a : Rights) → a ≡ no_rights → (if d then is_some (mode_of a) else false) ≡ false
+    no_takes true a h = ap (λ r. is_some (mode_of r)) h
+    no_takes false a h = refl
+
+    far : (e.stage.objects ≤ o) → T o ≡ false
+    far le = no_takes (due_in e.rows ds o) (rights_on (rights_at e.stage) o)
+        (table_past (λ i. rights_in e.stage.spec.entries (id i)) 0 e.stage.objects o no_rights (omega (arith, le)))
+
+    cases_lt : (i k : ℕ) → (i < k) ⊎ (k ≤ i)
+    cases_lt i zero = inr (omega arith)
+    cases_lt zero (suc k) = inl (omega arith)
+    cases_lt (suc i) (suc k) = ⊎_elim (λ lt. inl (omega (arith, lt))) (λ le. inr (omega (arith, le))) (cases_lt i k)
+
+    below : (x : Option ℕ) → commuting_on (rights_at e.stage) ≡ x → is_own x o ≡ false → T o ≡ false
+    below x is q = ⊎_elim
+        (λ lt. sym (ap (λ b. if (if b then false else due_in e.rows ds o) then has_mode (rights_at e.stage) o else false) (ap (λ y. is_own y o) is ∙ q))
+        ∙ none o lt) far (cases_lt o e.stage.objects)
+
+    at : (x : Option ℕ) → commuting_on (rights_at e.stage) ≡ x → T o ≡ false
+    at None is = below None is refl
+    at (Some p) is = two (nat_eq p o) refl
+      where
+        two : (b : Bool) → nat_eq p o ≡ b → T o ≡ false
+        two true q = let same : p ≡ o = grind (arith, q) in subst (λ j. T j ≡ false) same (free p is)
+        two false q = below (Some p) is q
+
 wanted_touches : (o : ℕ) (c : Course) (k : Contents) → Wants o c k → Touches o c
 wanted_touches o (Reads p c on) k h = h.0
 wanted_touches o (Writes p c v on) k h = h.0
@@ -163,6 +240,7 @@ clear_long (d ∷ ds) = ap suc (clear_long ds)
 
 module _ (e : Execution) (ds : List Bool) (part : ℕ) where
   pub settled_due : (p : Phase) → Knows p (machine e ds p part) → RunsOn p e ds → NoDue (machine e (marks_in p ds) phase.Going part)
+  settled_due phase.Starting k r = λ o. marks_clear e.rows ds o
   settled_due phase.Taking k r = λ o. marks_clear e.rows ds o
   settled_due phase.Going k r = k
   settled_due (phase.Creating number) k r = absurd r
@@ -170,6 +248,12 @@ module _ (e : Execution) (ds : List Bool) (part : ℕ) where
   settled_due (phase.Ending b) k r = absurd r
 
   pub settled_order : (p : Phase) → IsOrdered (machine e ds p part) → RunsOn p e ds → IsOrdered (machine e (marks_in p ds) phase.Going part)
+  settled_order phase.Starting g r = record {
+    long = clear_long ds ∙ g.long;
+    agrees = g.agrees;
+    free = λ o d. absurd (true≢false (sym d ∙ marks_clear e.rows ds o));
+    steps = g.steps;
+  }
   settled_order phase.Taking g r = record {
     long = clear_long ds ∙ g.long;
     agrees = g.agrees;
@@ -184,6 +268,7 @@ module _ (e : Execution) (ds : List Bool) (part : ℕ) where
   -- the course is told from here
   pub settled_left : (p : Phase) → IsOrdered (machine e ds p part) → Knows p (machine e ds p part) → RunsOn p e ds
       → (vs : List ℤ) → left_in p (machine e ds p part) vs ≡ events (course_at e) (rights_at e.stage) (holds_at e) (part - e.stage.left) vs
+  settled_left phase.Starting g k r vs = starts_done (machine e ds phase.Starting part) g r vs
   settled_left phase.Taking g k r vs =
       let m = machine e ds phase.Taking part in
       takes_done m g (subst (IsNone (to_take (due_at m) (rights_at e.stage))) (sym (spec_long m g)) r) vs

@@ -120,6 +120,7 @@ follows o r = if has_rights r then Shift o r else Leave o
 -- the body that is to be created
 abbrev pub number_of : Phase → ℕ
 number_of (phase.Creating n) = n
+number_of phase.Starting = 0
 number_of phase.Taking = 0
 number_of phase.Going = 0
 number_of phase.Changing = 0

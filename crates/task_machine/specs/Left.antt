@@ -5,9 +5,9 @@ use Rattle.std.specs.List.{flat_map}
 use Rattle.jade_base.specs.declared.report.Blame.{Blame}
 use Rattle.jade_base.specs.declared.rights.Mode.{Mode}
 use Rattle.jade_base.specs.Rights.{mode_of}
-use Rattle.jade_meaning.specs.Specification.{Specification, rights_on, objects, yields}
+use Rattle.jade_meaning.specs.Specification.{Specification, rights_on, objects, yields, commuting_on}
 use Rattle.jade_meaning.specs.Course.{Course, Reads, Writes, Steps, Creates, Changes, Ends}
-use Rattle.jade_meaning.specs.Talk.{Task, Event, Enroll, Take, Give, Resign, Holds, held, take_in, enters, shifts, end_leaves, given_back, taken_anew}
+use Rattle.jade_meaning.specs.Talk.{Task, Event, Enroll, Take, Give, Resign, Holds, held, take_in, enters, shifts, end_leaves, given_back, taken_anew, own_last}
 use Rattle.jade_meaning.specs.Talk.{change_gives, events, talk}
 
 -- which objects are still to be taken
@@ -25,6 +25,24 @@ planned due spec h = map (λ o. if due o then mode_of (rights_on spec o) else he
 -- what is left where so much is due: it is taken, and then the course is told
 abbrev pub left_to_tell : Due → Course → Specification → Holds → (steps : ℕ) → List ℤ → List Event
 left_to_tell due c spec h n vs = takes due spec ++ events c spec (planned due spec h) n vs
+
+-- the same, with the object on which the task commutes last
+abbrev pub takes_first : Due → Specification → List Event
+takes_first due spec =
+    flat_map (λ o. if due o then take_in (mode_of (rights_on spec o)) o else []) (own_last (commuting_on spec) (objects spec))
+
+-- what is left where a task begins and so much is due
+abbrev pub left_to_start : Due → Course → Specification → Holds → (steps : ℕ) → List ℤ → List Event
+left_to_start due c spec h n vs = takes_first due spec ++ events c spec (planned due spec h) n vs
+
+-- this is the object on which a task commutes, if it does
+abbrev pub is_own : Option ℕ → ℕ → Bool
+is_own None j = false
+is_own (Some o) j = nat_eq o j
+
+-- what is due but that object
+abbrev pub others : Option ℕ → Due → Due
+others own due j = if is_own own j then false else due j
 
 -- what is due once the rights have changed
 abbrev pub due_anew : Due → (old new : Specification) → Holds → Due
@@ -61,7 +79,7 @@ has_mode spec o = is_some (mode_of (rights_on spec o))
 abbrev pub BeginsDue : Due → Task → Type 0
 BeginsDue due t =
     ((o : ℕ) → has_mode t.spec o ≡ true → due o ≡ true)
-    → (vs : List ℤ) → talk t vs ≡ left_to_tell due t.course t.spec (no_holds t.spec) 0 vs
+    → (vs : List ℤ) → talk t vs ≡ left_to_start due t.course t.spec (no_holds t.spec) 0 vs
 
 -- this is the least object for which the test holds
 pub record IsLeast (test : ℕ → Bool) (n o : ℕ) : Type 0 where
@@ -88,6 +106,25 @@ abbrev pub TellsOn : Due → Course → Specification → Holds → (steps : ℕ
 TellsOn due c spec h n =
     IsFull spec h → IsNone (to_take due spec) (length spec) → ((o : ℕ) → due o ≡ true → held h o ≡ None)
     → (vs : List ℤ) → left_to_tell due c spec h n vs ≡ events c spec h n vs
+
+-- where a task begins, the least object that is due is taken first, of those on which it does not commute
+abbrev pub StartsLeast : Due → Course → Specification → Holds → (steps : ℕ) → (o : ℕ) → Mode → Type 0
+StartsLeast due c spec h n o m =
+    IsFull spec h → IsLeast (to_take (others (commuting_on spec) due) spec) (length spec) o → mode_of (rights_on spec o) ≡ Some m
+    → (vs : List ℤ) → left_to_start due c spec h n vs ≡ Take o m ∷ left_to_start (but o due) c spec (slice_set h o (Some m)) n vs
+
+-- where none of those is left to take, the object on which it commutes is
+abbrev pub StartsOwn : Due → Course → Specification → Holds → (steps : ℕ) → (o : ℕ) → Mode → Type 0
+StartsOwn due c spec h n o m =
+    IsFull spec h → IsNone (to_take (others (commuting_on spec) due) spec) (length spec) → commuting_on spec ≡ Some o → due o ≡ true
+    → o < length spec → mode_of (rights_on spec o) ≡ Some m
+    → (vs : List ℤ) → left_to_start due c spec h n vs ≡ Take o m ∷ left_to_start (but o due) c spec (slice_set h o (Some m)) n vs
+
+-- where nothing is left to take at the begin, the course is told
+abbrev pub StartsOn : Due → Course → Specification → Holds → (steps : ℕ) → Type 0
+StartsOn due c spec h n =
+    IsFull spec h → ((o : ℕ) → to_take due spec o ≡ false) → ((o : ℕ) → due o ≡ true → held h o ≡ None)
+    → (vs : List ℤ) → left_to_start due c spec h n vs ≡ events c spec h n vs
 
 -- the next touch is of this object
 abbrev pub Touches : ℕ → Course → Type 0

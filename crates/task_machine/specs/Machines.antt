@@ -5,7 +5,7 @@ use Rattle.jade_base.specs.declared.report.Blame.{Blame}
 use Rattle.jade_base.specs.declared.rights.Mode.{Mode}
 use Rattle.jade_base.specs.Rights.{mode_of}
 use Rattle.jade_base.specs.Held.{Held}
-use Rattle.jade_meaning.specs.Specification.{Specification, numbers, rights_on}
+use Rattle.jade_meaning.specs.Specification.{Specification, numbers, rights_on, commuting_on}
 use Rattle.jade_meaning.specs.Spread.{spread}
 use Rattle.jade_meaning.specs.Course.{Course, Creates, Ends, NoDraft}
 use Rattle.jade_meaning.specs.Talk.{Event, Enroll, Take, Give, Resign, Holds, Task, given_back, enters, shifts, end_leaves, events, talk}
@@ -23,7 +23,7 @@ use Rattle.task_machine.specs.Playing.{Contents, answers, touches, played}
 use Rattle.task_machine.specs.Stages.{rights_at, copy_spread, ahead, beyond, slots_of}
 use Rattle.task_machine.specs.Executions.{Execution, Advanced, IsBegun, body_at, held_by, with_content, has_row, objects_in}
 use Rattle.task_machine.specs.Telling.{mode_held}
-use Rattle.task_machine.specs.Left.{Due, left_to_tell, left_to_change, due_anew, IsLeast, IsNone, to_take, Touches, for_child, is_held}
+use Rattle.task_machine.specs.Left.{Due, left_to_start, left_to_tell, left_to_change, due_anew, others, IsLeast, IsNone, to_take, Touches, for_child, is_held}
 
 -- The execution of the task; for each row of it whether its object is still to be taken; what the task is about; and the steps
 -- that it could begin when its present part began.
@@ -80,6 +80,7 @@ abbrev pub left_in : Phase → Machine → List ℤ → List Event
 left_in phase.Changing m vs =
     let e = m.execution in
     left_to_change (due_at m) (amended_at e) (beyond (child_of e) e.stage (amended_at e) NoDraft) (rights_at e.stage) (holds_at e) (steps_at m) vs
+left_in phase.Starting m vs = left_to_start (due_at m) (course_at m.execution) (rights_at m.execution.stage) (holds_at m.execution) (steps_at m) vs
 left_in phase.Taking m vs = left_to_tell (due_at m) (course_at m.execution) (rights_at m.execution.stage) (holds_at m.execution) (steps_at m) vs
 left_in phase.Going m vs = left_to_tell (due_at m) (course_at m.execution) (rights_at m.execution.stage) (holds_at m.execution) (steps_at m) vs
 left_in (phase.Creating number) m vs =
@@ -100,6 +101,7 @@ supplied o x m = record m {
 -- an object that is given up for a change is due after it
 abbrev pub marks_after : Phase → ℕ → List Row → List Bool → List Bool
 marks_after phase.Changing o rs ds = with_mark o true rs ds
+marks_after phase.Starting o rs ds = ds
 marks_after phase.Taking o rs ds = ds
 marks_after phase.Going o rs ds = ds
 marks_after (phase.Creating number) o rs ds = ds
@@ -196,13 +198,13 @@ abbrev pub begun : Execution → Machine
 begun e = record {
   execution = e;
   due = all_due e.rows;
-  phase = phase.Taking;
+  phase = phase.Starting;
   part = e.stage.left;
 }
 
 -- what is left where a task begins is its talk
 abbrev pub BeginsItsTalk : Execution → Type 0
-BeginsItsTalk e = (vs : List ℤ) → left_in phase.Taking (begun e) vs ≡ talk (record { spec = rights_at e.stage; course = course_at e }) vs
+BeginsItsTalk e = (vs : List ℤ) → left_in phase.Starting (begun e) vs ≡ talk (record { spec = rights_at e.stage; course = course_at e }) vs
 
 -- an execution that begins as a child of another, with the body of a number, has the rights that the section made and does what
 -- the creator's course says
@@ -225,6 +227,7 @@ BeginsCode c zs limit es e =
 -- the objects among which the next is found that is to be taken or given up
 abbrev pub candidates : Phase → Execution → List ObjectId
 candidates (phase.Creating number) e = map (λ x. x.0) e.stage.child.entries
+candidates phase.Starting e = objects_in e.rows
 candidates phase.Taking e = objects_in e.rows
 candidates phase.Going e = objects_in e.rows
 candidates phase.Changing e = objects_in e.rows
@@ -232,6 +235,7 @@ candidates (phase.Ending b) e = objects_in e.rows
 
 -- an object is to be taken, or to be given up
 abbrev pub is_to_move : Phase → Execution → List Bool → ℕ → Bool
+is_to_move phase.Starting e ds o = to_take (others (commuting_on (rights_at e.stage)) (due_in e.rows ds)) (rights_at e.stage) o
 is_to_move phase.Taking e ds o = to_take (due_in e.rows ds) (rights_at e.stage) o
 is_to_move phase.Going e ds o = false
 is_to_move (phase.Creating number) e ds o = for_child (made_at e) (holds_at e) o
@@ -245,6 +249,16 @@ IsNext p m o = IsLeast (is_to_move p m.execution m.due) m.execution.stage.object
 -- nothing is left to be taken or given up
 abbrev pub NoneIsNext : Phase → Machine → Type 0
 NoneIsNext p m = IsNone (is_to_move p m.execution m.due) m.execution.stage.objects
+
+-- where a task begins, the least object that is due, has a mode and is not the one on which the task commutes is taken next; where
+-- there is none, that one is; and where nothing is due, the course is told
+pub record StartsDue (m : Machine) : Type 0 where
+  pub takes : (o : ℕ) (mode : Mode) → IsNext phase.Starting m o → mode_of (rights_on (rights_at m.execution.stage) o) ≡ Some mode
+      → TakeIsNext o mode phase.Starting m
+  pub takes_own : (o : ℕ) (mode : Mode) → NoneIsNext phase.Starting m → commuting_on (rights_at m.execution.stage) ≡ Some o → due_at m o ≡ true
+      → o < m.execution.stage.objects → mode_of (rights_on (rights_at m.execution.stage) o) ≡ Some mode → TakeIsNext o mode phase.Starting m
+  pub goes_on : ((o : ℕ) → to_take (due_at m) (rights_at m.execution.stage) o ≡ false) → (vs : List ℤ) → left_in phase.Starting m vs
+      ≡ events (course_at m.execution) (rights_at m.execution.stage) (holds_at m.execution) (steps_at m) vs
 
 -- the least object that is due and has a mode is taken next, and where there is none, the course is told
 pub record TakesDue (m : Machine) : Type 0 where

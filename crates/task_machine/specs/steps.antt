@@ -8,3 +8,4 @@ pub mod Searching
 pub mod Standing
 pub mod Surrendering
 pub mod Finding
+pub mod Commuting

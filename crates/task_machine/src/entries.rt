@@ -1,13 +1,16 @@
 //! The entries of a specification: that of an object, and those from one on.
 
-ghost use Rattle.std.specs.Prelude.{◌≡◌, IfNone, IfSome, true, false};
+ghost use Rattle.std.specs.Prelude.{◌≡◌, ◌<◌, IfNone, IfSome, Some, None, true, false, length, map, slice_get};
+ghost use Rattle.jade_meaning.specs.Specification.{commuting_on, fits_commuting, may_commute, rights_on};
+ghost use Rattle.jade_meaning.specs.Spread.{spread};
+ghost use Rattle.task_machine.specs.steps.Searching.{ObjectsAscend};
 ghost use Rattle.jade_base.specs.Rights.{same_rights};
 ghost use Rattle.jade_base.specs.Specification.{IsAscending};
 ghost use Rattle.access_spec.specs.Copies.{IsSameBetween};
 ghost use Rattle.task_machine.specs.steps.Finding.{HasNoEntry, IsFreeBetween, IsNextChange, IsNextEntry, IsNotAt, IsPlaceFrom, IsPlaceOf};
 
 use crate::halves::FEW;
-use jade_base::{ObjectId, Rights, Spec};
+use jade_base::{ObjectId, Right, Rights, Spec};
 
 // The place of the first entry whose object is not below this one, found by halves, and one by one
 // among the few that are left.
@@ -125,4 +128,70 @@ pub(crate) fn next_amended(spec: &Spec, objects: u32, from: ObjectId) -> Option<
         }
     }
     None
+}
+
+// The rights on the object of an entry, among so many objects.
+fn rights_at(spec: &Spec, objects: u32, place: usize) -> (ObjectId, Rights)
+    requires { place < length spec.now.entries }
+    ensures object { slice_get (map (λ x. x.0) spec.now.entries) place ≡ Some result.0 }
+    ensures rights { result.1 ≡ rights_on (spread objects spec.now.entries) result.0.0 }
+    ensures ascend { ObjectsAscend (map (λ x. x.0) spec.now.entries) }
+{
+    let _count = spec.len();
+    let (object, rights) = spec.entry(place);
+    if object.0 < objects {
+        (object, rights)
+    } else {
+        (object, Rights::NONE)
+    }
+}
+
+/// The object on which a task with this specification commutes, if it does, among so many objects.
+/// It takes no memory.
+pub(crate) fn commuting(spec: &Spec, objects: u32) -> Option<ObjectId>
+    ensures found { IfSome result (λ object. commuting_on (spread objects spec.now.entries) ≡ Some object.0) }
+    ensures none { IfNone result (commuting_on (spread objects spec.now.entries) ≡ None) }
+    ensures within { IfSome result (λ object. object.0 < objects) }
+{
+    if !spec.may_commute() {
+        return None;
+    }
+    'entries: for place in 0..spec.len() {
+        let (object, rights) = rights_at(spec, objects, place);
+        if rights.commutes.is_there() {
+            return Some(object);
+        }
+    }
+    None
+}
+
+// Whether a task that commutes on an object may have these rights on another, or on this one.
+fn fits(own: ObjectId, object: ObjectId, rights: Rights) -> bool
+    ensures { result ≡ fits_commuting own.0 object.0 rights }
+{
+    if own.0 == object.0 {
+        !rights.reads.is_there()
+            && !rights.writes.is_there()
+            && matches!(rights.commutes, Right::Immediate)
+    } else {
+        !matches!(rights.reads, Right::Deferred)
+            && !rights.writes.is_there()
+            && !rights.commutes.is_there()
+    }
+}
+
+/// Whether a task may have this specification, among so many objects. It takes no memory.
+pub(crate) fn may_have(spec: &Spec, objects: u32) -> bool
+    ensures { result ≡ may_commute (spread objects spec.now.entries) }
+{
+    let Some(own) = commuting(spec, objects) else {
+        return true;
+    };
+    'entries: for place in 0..spec.len() {
+        let (object, rights) = rights_at(spec, objects, place);
+        if !fits(own, object, rights) {
+            return false;
+        }
+    }
+    true
 }

@@ -1,6 +1,6 @@
 //! The execution of the body of one task.
 
-ghost use Rattle.std.specs.Prelude.{◌≡◌, ◌+◌, ◌<◌, ◌≤◌, ◌^◌, [], length, map, replicate, slice_get, slice_set, Some, None, IfOk, OnOk, OnErr};
+ghost use Rattle.std.specs.Prelude.{◌≡◌, ◌+◌, ◌<◌, ◌≤◌, ◌^◌, [], length, map, replicate, slice_get, slice_set, Some, None, IfOk, IfSome, IfNone, OnOk, OnErr};
 ghost use Rattle.task_machine.specs.Stages.{copy_spread, slots_of, rights_at};
 ghost use Rattle.code_meaning.specs.Meaning.{given_slots, passed};
 ghost use Rattle.jade_base.specs.Rights.{both_rights};
@@ -12,7 +12,7 @@ ghost use Rattle.task_machine.specs.steps.Holding.{RowsAscend, row_from};
 ghost use Rattle.jade_meaning.specs.Talk.{held};
 ghost use Rattle.task_code.specs.Rules.{Valid};
 ghost use Rattle.jade_base.specs.Rights.{join};
-ghost use Rattle.jade_meaning.specs.Specification.{rights_on};
+ghost use Rattle.jade_meaning.specs.Specification.{commuting_on, rights_on};
 ghost use Rattle.jade_meaning.specs.Spread.{spread};
 ghost use Rattle.task_machine.specs.declared.section.Section.{Section};
 
@@ -21,7 +21,7 @@ use crate::holdings::Holdings;
 use crate::play;
 use crate::section::{
     Own, all_rights, commit, copied_for, declare_for_child, end_section, made_for, outside_section,
-    rights_for,
+    own_object, rights_for,
 };
 use crate::slots::{empty_slots, give_call, give_inputs};
 use access_spec::WorkingCopy;
@@ -319,6 +319,15 @@ impl<'c> Execution<'c> {
         ensures { result ≡ rights_on (rights_at self.now.stage) object.0 }
     {
         rights_for(&self.own, object)
+    }
+
+    /// The object on which the task commutes, if it does. It takes no memory.
+    pub fn own_object(&self) -> Option<ObjectId>
+        ensures found { IfSome result (λ object. commuting_on (rights_at self.now.stage) ≡ Some object.0) }
+        ensures none { IfNone result (commuting_on (rights_at self.now.stage) ≡ None) }
+        ensures within { IfSome result (λ object. object.0 < self.now.stage.objects) }
+    {
+        own_object(&self.own)
     }
 
     /// The rights on an object as a section of the task itself has changed them. It takes no memory.

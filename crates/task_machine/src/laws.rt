@@ -15,9 +15,9 @@ ghost use Rattle.task_machine.specs.Machines.{BeginsItsTalk, BeginsChild, Begins
 ghost use Rattle.task_machine.specs.Playing.{Contents, touches};
 ghost use Rattle.task_machine.specs.Stages.{Stage, ahead};
 ghost use Rattle.task_machine.specs.Telling.{Agrees, TellsAsPlayed};
-ghost use Rattle.task_machine.specs.Left.{Due, BeginsDue, TakesLeast, TellsOn, TakesTouched, GivesForChild, Enters};
+ghost use Rattle.task_machine.specs.Left.{Due, BeginsDue, StartsLeast, StartsOwn, StartsOn, TakesLeast, TellsOn, TakesTouched, GivesForChild, Enters};
 ghost use Rattle.task_machine.specs.Machines.{Machine, NoDue, IsOrdered, PlaysOn, AdvancedGoesOn};
-ghost use Rattle.task_machine.specs.Machines.{TakesDue, WantedIsTaken, GivesAndCreates, GivesAndChanges, GivesAndEnds};
+ghost use Rattle.task_machine.specs.Machines.{StartsDue, TakesDue, WantedIsTaken, GivesAndCreates, GivesAndChanges, GivesAndEnds};
 ghost use Rattle.task_machine.specs.Left.{ChangesFirst, GivesForChange, Shifts, GivesAtEnd, Resigns};
 
 use code_meaning::laws::{children_are, root_is};
@@ -30,6 +30,14 @@ pub fn tells_as_played()
 /// When a task begins, everything that it has a mode for is due.
 pub fn begins_due()
     ensures { (due : Due) (t : Task) → BeginsDue due t }
+{}
+
+/// When a task begins, what is due is taken by ascending number, but that on which the task commutes
+/// last, and then the course is told.
+pub fn starts_in_order()
+    ensures least { (due : Due) (c : Course) (spec : Specification) (h : Holds) (n o : ℕ) (m : Mode) → StartsLeast due c spec h n o m }
+    ensures own { (due : Due) (c : Course) (spec : Specification) (h : Holds) (n o : ℕ) (m : Mode) → StartsOwn due c spec h n o m }
+    ensures on { (due : Due) (c : Course) (spec : Specification) (h : Holds) (n : ℕ) → StartsOn due c spec h n }
 {}
 
 /// What is due is taken by ascending number; where nothing is left to take, the course is told; an
@@ -65,6 +73,7 @@ pub fn ends_in_order()
 /// The least object that is due is taken next, and where there is none, the course is told; an
 /// object that is touched and not held is taken next.
 pub fn takes_next()
+    ensures starts { (m : Machine) → IsOrdered m → StartsDue m }
     ensures due { (m : Machine) → IsOrdered m → TakesDue m }
     ensures wanted { (m : Machine) → IsOrdered m → NoDue m → WantedIsTaken m }
 {}

@@ -26,7 +26,7 @@ use crate::entries::{next_amended, next_entry};
 use crate::execution::Execution;
 use crate::frame::Pause;
 use crate::laws::{begins_its_course, begins_its_talk};
-use crate::next::{Phase, is_given_back, next_from};
+use crate::next::{Phase, is_given_back, next_from, own_due};
 use access_spec::mode_of;
 use jade_base::{Blame, Content, Memory, Mode, ObjectId, Right, Rights};
 use std::alloc::Global;
@@ -101,6 +101,7 @@ fn last_ask(phase: Phase) -> Ask
         Phase::Changing => Ask::Change,
         Phase::Ending(None) => Ask::End,
         Phase::Ending(Some(blame)) => Ask::Fault(blame),
+        Phase::Starting => Ask::End,
         Phase::Taking => Ask::End,
         Phase::Going => Ask::End,
     }
@@ -154,6 +155,23 @@ fn take_due(execution: &Execution, due: &[bool], from: ObjectId) -> Option<Ask>
     }
 }
 
+// What a task takes next where it begins: the object on which it commutes last.
+fn take_first(execution: &Execution, due: &[bool], from: ObjectId) -> Option<Ask>
+    requires done { IsNone (is_to_move Phase.Starting execution.now due.now) from.0 }
+    ensures asks { IfSome result (λ ask. (part : ℕ) → IsOrdered (machine execution.now due.now Phase.Starting part)
+        → Asked ask Phase.Starting (machine execution.now due.now Phase.Starting part)) }
+    ensures none { IfNone result (RunsOn Phase.Starting execution.now due.now) }
+    ensures done { IfSome result (λ ask. IsNone (is_to_move Phase.Starting execution.now due.now) (reached ask from.0)) }
+{
+    match next_from(execution, due, Phase::Starting, from) {
+        Some(object) => Some(take(execution, object)),
+        None => match own_due(execution, due) {
+            Some(object) => Some(take(execution, object)),
+            None => None,
+        },
+    }
+}
+
 // What is asked for before the code is run on.
 fn next_ask(execution: &Execution, due: &[bool], phase: Phase, from: ObjectId) -> Option<Ask>
     requires done { IsNone (is_to_move phase execution.now due.now) from.0 }
@@ -163,6 +181,7 @@ fn next_ask(execution: &Execution, due: &[bool], phase: Phase, from: ObjectId) -
     ensures done { IfSome result (λ ask. IsNone (is_to_move phase execution.now due.now) (reached ask from.0)) }
 {
     match phase {
+        Phase::Starting => take_first(execution, due, from),
         Phase::Taking => take_due(execution, due, from),
         Phase::Going => None,
         Phase::Creating(number) => Some(give(execution, due, Phase::Creating(number), from)),
@@ -247,6 +266,7 @@ fn number_of(phase: Phase) -> u32
 {
     match phase {
         Phase::Creating(number) => number,
+        Phase::Starting => 0,
         Phase::Taking => 0,
         Phase::Going => 0,
         Phase::Changing => 0,
@@ -274,6 +294,7 @@ fn mark_given(execution: &Execution, due: &mut Vec<bool>, phase: Phase, object: 
 {
     match phase {
         Phase::Changing => set_mark(execution, due, object, true),
+        Phase::Starting => {}
         Phase::Taking => {}
         Phase::Going => {}
         Phase::Creating(_) => {}
@@ -298,6 +319,7 @@ fn settle(due: &mut Vec<bool>, phase: Phase)
     ensures { due.new.items ≡ marks_in phase due.old.items }
 {
     match phase {
+        Phase::Starting => due.fill(false),
         Phase::Taking => due.fill(false),
         Phase::Going => {}
         Phase::Creating(_) => {}
@@ -371,7 +393,7 @@ fn begun<'c>(execution: Execution<'c>, due: Vec<bool>) -> Machine<'c>
     Machine {
         execution,
         due,
-        phase: Phase::Taking,
+        phase: Phase::Starting,
         from: START,
         part,
         ask: None,

@@ -1,8 +1,10 @@
 //! Which object a task takes or gives up next.
 
 ghost use Rattle.std.specs.Prelude.{◌≡◌, ◌<◌, ◌&&◌, not, length, is_some, false, slice_get, slice_index_or, Some, IfSome, IfNone};
-ghost use Rattle.jade_meaning.specs.Specification.{same_hold, yields};
-ghost use Rattle.task_machine.specs.Left.{IsLeast, IsNone};
+ghost use Rattle.jade_meaning.specs.Specification.{commuting_on, same_hold, yields};
+ghost use Rattle.task_machine.specs.Stages.{rights_at};
+ghost use Rattle.task_machine.specs.steps.Standing.{OwnIsDue, OwnIsNotDue};
+ghost use Rattle.task_machine.specs.Left.{IsLeast, IsNone, is_own, to_take};
 ghost use Rattle.task_machine.specs.Machines.{candidates, due_in, is_to_move};
 ghost use Rattle.task_machine.specs.steps.Searching.{IsFirstFrom, ObjectsAscend};
 
@@ -14,6 +16,8 @@ use jade_base::{Blame, Mode, ObjectId, Rights};
 /// What a task is about.
 #[derive(Clone, Copy, Debug, PartialEq, Eq)]
 pub enum Phase {
+    /// It begins and takes what it has a mode for, the object on which it commutes last.
+    Starting,
     /// It takes what is due.
     Taking,
     /// It runs its code.
@@ -33,6 +37,7 @@ fn count(execution: &Execution, phase: Phase) -> usize
 {
     match phase {
         Phase::Creating(_) => execution.child_spec().len(),
+        Phase::Starting => execution.rows(),
         Phase::Taking => execution.rows(),
         Phase::Going => execution.rows(),
         Phase::Changing => execution.rows(),
@@ -47,9 +52,8 @@ fn candidate(execution: &Execution, phase: Phase, place: usize) -> ObjectId
 {
     match phase {
         Phase::Creating(_) => execution.child_spec().entry(place).0,
-        Phase::Taking | Phase::Going | Phase::Changing | Phase::Ending(_) => {
-            execution.object_at(place)
-        }
+        Phase::Starting | Phase::Taking | Phase::Going | Phase::Changing | Phase::Ending(_) =>
+            execution.object_at(place),
     }
 }
 
@@ -93,18 +97,54 @@ pub(crate) fn is_given_back(hold: Option<Mode>, mode: Option<Mode>) -> bool
     }
 }
 
+// Whether an object is due, and has a mode.
+fn is_taken(execution: &Execution, due: &[bool], object: ObjectId) -> bool
+    ensures { result ≡ to_take (due_in execution.now.rows due.now) (rights_at execution.now.stage) object.0 }
+{
+    if is_due(execution, due, object) {
+        mode_of(execution.rights(object)).is_some()
+    } else {
+        false
+    }
+}
+
+// Whether an object is the one on which the task commutes.
+fn is_own(execution: &Execution, object: ObjectId) -> bool
+    ensures { result ≡ is_own (commuting_on (rights_at execution.now.stage)) object.0 }
+{
+    if !execution.rights(object).commutes.is_there() {
+        return false;
+    }
+    match execution.own_object() {
+        None => false,
+        Some(own) => own.0 == object.0,
+    }
+}
+
+// The object on which the task commutes, where it is due.
+pub(crate) fn own_due(execution: &Execution, due: &[bool]) -> Option<ObjectId>
+    ensures due { IfSome result (λ object. OwnIsDue execution.now due.now object.0) }
+    ensures not { IfNone result (OwnIsNotDue execution.now due.now) }
+{
+    match execution.own_object() {
+        None => None,
+        Some(object) => {
+            if is_taken(execution, due, object) {
+                Some(object)
+            } else {
+                None
+            }
+        }
+    }
+}
+
 // Whether an object is to be taken or given up.
 fn moves(execution: &Execution, due: &[bool], phase: Phase, object: ObjectId) -> bool
     ensures { result ≡ is_to_move phase execution.now due.now object.0 }
 {
     match phase {
-        Phase::Taking => {
-            if is_due(execution, due, object) {
-                mode_of(execution.rights(object)).is_some()
-            } else {
-                false
-            }
-        }
+        Phase::Starting => !is_own(execution, object) && is_taken(execution, due, object),
+        Phase::Taking => is_taken(execution, due, object),
         Phase::Going => false,
         Phase::Creating(_) => is_given(execution.hold(object), execution.made(object)),
         Phase::Changing => {

@@ -1,9 +1,9 @@
 //! The specification of a task, and what its sections make.
 
-ghost use Rattle.std.specs.Prelude.{◌≡◌, ◌<◌, ◌≤◌, ◌^◌, true, false, [], None, Some, replicate, slice_set, IfOk, OnOk, OnErr};
-ghost use Rattle.jade_base.specs.Rights.{both_rights, is_immediate, join, no_rights};
+ghost use Rattle.std.specs.Prelude.{◌≡◌, ◌<◌, ◌≤◌, ◌^◌, true, false, [], None, Some, replicate, slice_set, IfOk, IfSome, IfNone, OnOk, OnErr};
+ghost use Rattle.jade_base.specs.Rights.{both_rights, join, may_read, may_write, no_rights};
 ghost use Rattle.jade_base.specs.Specification.{joined_in, kept, rights_in, settled};
-ghost use Rattle.jade_meaning.specs.Specification.{rights_on, covers};
+ghost use Rattle.jade_meaning.specs.Specification.{rights_on, commuting_on, covers, is_commuting, may_commute};
 ghost use Rattle.jade_meaning.specs.Spread.{spread};
 ghost use Rattle.access_spec.specs.Copies.{copied};
 ghost use Rattle.jade_meaning.specs.Changes.{change_of};
@@ -12,7 +12,7 @@ ghost use Rattle.jade_syntax.specs.declared.tree.DeclareWord.{DeclareWord as Wor
 ghost use Rattle.task_machine.specs.steps.Owning.{copy_spread, rights_of, draft_of};
 ghost use Rattle.task_machine.specs.steps.Acting.{KeepsRights, SaidBy};
 
-use crate::entries::place_of;
+use crate::entries::{commuting, may_have, place_of};
 use access_spec::{Change, WorkingCopy};
 use jade_base::{Memory, ObjectId, Right, Rights, Spec};
 use jade_meaning::laws::spread_agrees;
@@ -111,20 +111,43 @@ pub(crate) fn made_for(own: &Own, object: ObjectId) -> Rights
     }
 }
 
-/// Whether the task has an immediate right to read an object.
+/// Whether the task may read an object now.
 pub fn may_read(own: &Own, object: usize) -> bool
-    ensures right { result ≡ is_immediate (rights_on (rights_of own.now) object).reads }
+    ensures right { result ≡ may_read (rights_on (rights_of own.now) object) }
     ensures narrow { result ≡ true → object < 2 ^ 32 }
 {
-    matches!(rights_on(own, object).reads, Right::Immediate)
+    rights_on(own, object).may_read()
 }
 
-/// Whether the task has an immediate right to write an object.
+/// Whether the task may write an object now.
 pub fn may_write(own: &Own, object: usize) -> bool
-    ensures right { result ≡ is_immediate (rights_on (rights_of own.now) object).writes }
+    ensures right { result ≡ may_write (rights_on (rights_of own.now) object) }
     ensures narrow { result ≡ true → object < 2 ^ 32 }
 {
-    matches!(rights_on(own, object).writes, Right::Immediate)
+    rights_on(own, object).may_write()
+}
+
+/// The object on which the task commutes, if it does.
+pub fn own_object(own: &Own) -> Option<ObjectId>
+    ensures found { IfSome result (λ object. commuting_on (rights_of own.now) ≡ Some object.0) }
+    ensures none { IfNone result (commuting_on (rights_of own.now) ≡ None) }
+    ensures within { IfSome result (λ object. object.0 < own.now.objects) }
+{
+    commuting(own.spec.spec(), own.objects)
+}
+
+/// Whether the task commutes on some object.
+pub fn commutes(own: &Own) -> bool
+    ensures { result ≡ is_commuting (rights_of own.now) }
+{
+    own_object(own).is_some()
+}
+
+/// Whether a task may have the rights that the section has made for a child.
+pub fn may_be_made(own: &Own) -> bool
+    ensures { result ≡ may_commute (spread own.now.objects own.now.child.entries) }
+{
+    may_have(&own.child, own.objects)
 }
 
 /// A section of a child begins.

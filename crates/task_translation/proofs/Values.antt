@@ -5,7 +5,7 @@ use Rattle.std.proofs.Math.Path.{fun_ext}
 use Rattle.std.proofs.lemmas.Int.{ints}
 use Rattle.jade_base.specs.declared.place.Pos.{Pos}
 use Rattle.jade_base.specs.declared.rights.Rights.{Rights}
-use Rattle.jade_base.specs.Rights.{is_immediate}
+use Rattle.jade_base.specs.Rights.{may_read, may_write}
 use Rattle.jade_syntax.specs.declared.tree.DeclareWord.{DeclareWord}
 use Rattle.jade_syntax.specs.declared.tree.UnaryOp.{UnaryOp}
 use Rattle.jade_syntax.specs.declared.tree.UnaryOp.TheVariants as sign
@@ -40,12 +40,12 @@ given_too g' g at m m' f h same e = ap (λ x. given x at m f) same ∙ given_sam
 pub read_same : (o c : ℕ) (at : Pos) (m : Mine) (d : Draft) (f g : Value → Course) → ((v : Value) → f v ≡ g v) → read_cell o c at (own m.spec d) f
     ≡ read_cell o c at m g
 read_same o c at m d f g h =
-    choose_same (is_immediate (rights_on m.spec o).reads) _ _ _ _ (own m.spec d) m (ap (Reads o c) (fun_ext (λ z. h (IntOf z)))) refl
+    choose_same (may_read (rights_on m.spec o)) _ _ _ _ (own m.spec d) m (ap (Reads o c) (fun_ext (λ z. h (IntOf z)))) refl
 
 pub write_same : (o c : ℕ) (z : ℤ) (at : Pos) (m : Mine) (d : Draft) (f g : On) → f (own m.spec d) ≡ g m → write_cell o c z at f (own m.spec d)
     ≡ write_cell o c z at g m
 write_same o c z at m d f g h =
-    choose_same (is_immediate (rights_on m.spec o).writes) _ _ _ _ (own m.spec d) m (ap (Writes o c z) h) refl
+    choose_same (may_write (rights_on m.spec o)) _ _ _ _ (own m.spec d) m (ap (Writes o c z) h) refl
 
 amend_same : (a : Option Rights) (spec : Specification) (o : ℕ) (at : Pos) (f g : On) (k m : Mine)
     → ((d : Draft) → f (record k { draft = d }) ≡ g (record m { draft = d })) → amend a spec o at f k ≡ amend a spec o at g m

@@ -16,6 +16,7 @@ fn kind_word(kind: FaultKind) -> &'static str {
         FaultKind::Cover => "cover",
         FaultKind::Change => "change",
         FaultKind::Limit => "limit",
+        FaultKind::Commute => "commute",
     }
 }
 

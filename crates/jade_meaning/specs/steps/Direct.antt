@@ -6,7 +6,7 @@ use Rattle.jade_base.specs.declared.report.FaultKind.{FaultKind}
 use Rattle.jade_base.specs.declared.report.FaultKind.TheVariants.{Index, Object, Right as RightFault, Change}
 use Rattle.jade_base.specs.declared.report.Blame.{Blame}
 use Rattle.jade_base.specs.declared.rights.Rights.{Rights}
-use Rattle.jade_base.specs.Rights.{is_immediate, join}
+use Rattle.jade_base.specs.Rights.{may_read, join}
 use Rattle.jade_syntax.specs.declared.tree.Item.{Item}
 use Rattle.jade_syntax.specs.declared.tree.DeclareWord.{DeclareWord}
 use Rattle.jade_syntax.specs.Abstract.{Expression, Whole, Truth, Variable, Group, Signed, Chain, Cell, Links, Last, Link, Place, Alone, Member}
@@ -52,7 +52,7 @@ member_of r z at = indexed (index_in z r.count) Object at >>= λ i. Ok (record {
 -- what a cell holds, or the fault `right`
 abbrev pub read_of : Specification → Store → (o c : ℕ) → Pos → Result Value Blame
 read_of spec store o c at =
-    if is_immediate (rights_on spec o).reads then Ok (IntOf (cell store o c)) else Err (blame_at RightFault at)
+    if may_read (rights_on spec o) then Ok (IntOf (cell store o c)) else Err (blame_at RightFault at)
 
 -- the objects that a name stands for, where it stands alone
 abbrev pub first_of : Range → ResolvedObject

@@ -3,7 +3,7 @@ use Rattle.std.specs.Prelude.{ℕ, suc, List, Option, Some, None, Result, Ok, Er
 use Rattle.jade_base.specs.declared.place.Pos.{Pos}
 use Rattle.jade_base.specs.declared.report.FaultKind.TheVariants.{Index, Right as RightFault}
 use Rattle.jade_base.specs.declared.report.Blame.{Blame}
-use Rattle.jade_base.specs.Rights.{is_immediate}
+use Rattle.jade_base.specs.Rights.{may_read}
 use Rattle.jade_syntax.specs.declared.tree.Item.{Item}
 use Rattle.jade_syntax.specs.Abstract.{Expression, Whole, Truth, Variable, Group, Signed, Chain, Cell, Links, Last, Link, Place, Alone, Member}
 use Rattle.jade_meaning.specs.declared.source.Cells.{Cells}
@@ -70,7 +70,7 @@ next_of (Answers vs) o c n = answered (slice_get vs n) o c n
 -- what a cell holds, or the fault `right`
 abbrev pub evaluate_read : Specification → Source → (o c : ℕ) → Pos → (used : ℕ) → Evaluation Value
 evaluate_read spec src o c at n =
-    if is_immediate (rights_on spec o).reads then (next_of src o c n >>> λ z k. Got (IntOf z) k) else Faults (blame_at RightFault at)
+    if may_read (rights_on spec o) then (next_of src o c n >>> λ z k. Got (IntOf z) k) else Faults (blame_at RightFault at)
 
 module _ (items : List Item) (env : Environment) (spec : Specification) (src : Source) where
   abbrev mutual

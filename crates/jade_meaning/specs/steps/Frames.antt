@@ -2,7 +2,7 @@
 use Rattle.std.specs.Prelude.{◌≡◌, ℕ, ◌-◌, List, [], ◌∷◌, map, length, drop, Option, Some, None, ℤ, if◌then◌else◌}
 use Rattle.jade_base.specs.declared.place.Pos.{Pos}
 use Rattle.jade_base.specs.declared.report.FaultKind.TheVariants.{Index, Right as RightFault}
-use Rattle.jade_base.specs.Rights.{is_immediate}
+use Rattle.jade_base.specs.Rights.{may_write}
 use Rattle.jade_syntax.specs.declared.tree.Item.{Item}
 use Rattle.jade_syntax.specs.declared.tree.Statement.{Statement}
 use Rattle.jade_syntax.specs.Abstract.{Expression, Place, Action, If, IfElse}
@@ -42,7 +42,7 @@ Tells vs (Faults b) on c = c ≡ Ends (Some b)
 -- the number that goes to a cell, or the fault `right`
 abbrev pub evaluate_write : Specification → (o c : ℕ) → ℤ → Pos → (used : ℕ) → Evaluation (ℕ × ℕ × ℤ)
 evaluate_write spec o c z at n =
-    if is_immediate (rights_on spec o).writes then Got (o, c, z) n else Faults (blame_at RightFault at)
+    if may_write (rights_on spec o) then Got (o, c, z) n else Faults (blame_at RightFault at)
 
 module _ (items : List Item) (env : Environment) (spec : Specification) (src : Source) where
   -- the cell of a store, and the number that goes there

@@ -1,9 +1,9 @@
 -- Where a statement leaves a task and what its run has noted, said at once and not as a course.
 use Rattle.std.specs.Prelude.{◌≡◌, ℕ, zero, suc, ◌-◌, List, [], ◌∷◌, ◌++◌, length, drop, Some, None, Result, Ok, Err, ℤ, pos, ◌+ℤ◌, nat_lt, if◌then◌else◌}
 use Rattle.jade_base.specs.declared.place.Pos.{Pos}
-use Rattle.jade_base.specs.declared.report.FaultKind.TheVariants.{Index, Right as RightFault, Cover}
+use Rattle.jade_base.specs.declared.report.FaultKind.TheVariants.{Index, Right as RightFault, Cover, Commute}
 use Rattle.jade_base.specs.declared.report.Blame.{Blame}
-use Rattle.jade_base.specs.Rights.{is_immediate}
+use Rattle.jade_base.specs.Rights.{may_write}
 use Rattle.jade_syntax.specs.declared.tree.DeclareWord.{DeclareWord}
 use Rattle.jade_syntax.specs.Abstract.{Name, Expression, Place, Action, Local, Assign, Store, If, IfElse, For, Withonly, With, Declare, Actions}
 use Rattle.jade_syntax.specs.Abstract.{Done as NoMore, Then}
@@ -16,11 +16,11 @@ use Rattle.jade_meaning.specs.declared.values.Value.{Value}
 use Rattle.jade_meaning.specs.declared.values.Value.TheVariants.{IntOf}
 use Rattle.jade_meaning.specs.declared.resolve.ResolvedObject.{ResolvedObject}
 use Rattle.jade_meaning.specs.Values.{whole, holds, turn_count, index_in}
-use Rattle.jade_meaning.specs.Specification.{Specification, rights_on, covers, fitted}
+use Rattle.jade_meaning.specs.Specification.{Specification, rights_on, covers, fitted, commuting_on, is_commuting, may_commute}
 use Rattle.jade_meaning.specs.Course.{Environment, Setting, Mine, NoDraft, Building, Amending, assigned, copied, drafted, working, limit_blame, none_of}
 use Rattle.jade_meaning.specs.Course.{place_of}
 use Rattle.jade_meaning.specs.Serial.{Path}
-use Rattle.jade_meaning.specs.steps.Carry.{noted, put}
+use Rattle.jade_meaning.specs.steps.Carry.{noted, put, turn_noted}
 use Rattle.jade_meaning.specs.steps.Direct.{worth, located, blame_at, indexed, drafted_with}
 use Rattle.jade_meaning.specs.steps.Tallied.{stepped, parted}
 
@@ -67,7 +67,7 @@ within before (Stops b t l) = Stops b t l
 -- a cell is written, or the fault `right`
 abbrev pub written : (o c : ℕ) → ℤ → Pos → Task → RunState → Outcome
 written o c z at t l =
-    if is_immediate (rights_on t.spec o).writes then Goes t (put o c z l) else Stops (blame_at RightFault at) t l
+    if may_write (rights_on t.spec o) then Goes t (put o c z l) else Stops (blame_at RightFault at) t l
 
 -- one turn of a loop
 abbrev pub turned_once : ℕ → ℤ → Name → (Task → RunState → Outcome) → Task → RunState → Outcome
@@ -91,15 +91,25 @@ child_task env spec = record { scope = env; spec = spec; draft = NoDraft; tally 
 abbrev pub next_path : Path → Task → Path
 next_path p t = p ++ t.tally.children ∷ []
 
+-- where a section would begin, a task that commutes has the fault `commute`
+abbrev pub unless_commuting : Pos → Task → RunState → Outcome → Outcome
+unless_commuting at t l o = if is_commuting t.spec then Stops (blame_at Commute at) t l else o
+
 -- a child is made and run, or the fault `cover`
-abbrev pub created : Setting → Path → Pos → List Name → (Path → Task → RunState → Outcome) → Task → RunState → Outcome
-created s p at names body t l =
+abbrev pub created_covered : Setting → Path → Pos → List Name → (Path → Task → RunState → Outcome) → Task → RunState → Outcome
+created_covered s p at names body t l =
     let child = fitted t.spec (drafted t.draft) in
-    let first = noted p t.tally.children t.tally.part None l in
+    let first = turn_noted (commuting_on child) (next_path p t) (noted p t.tally.children t.tally.part None l) in
     if covers t.spec child
     then Goes (record t { draft = NoDraft; tally = parted t.tally })
     (ended (next_path p t) (body (next_path p t) (child_task (copied names t.scope ++ s.given) child) first))
     else Stops (blame_at Cover at) (record t { draft = NoDraft }) l
+
+-- a child is made and run, or the fault `commute` or `cover`
+abbrev pub created : Setting → Path → Pos → List Name → (Path → Task → RunState → Outcome) → Task → RunState → Outcome
+created s p at names body t l =
+    if may_commute (fitted t.spec (drafted t.draft)) then created_covered s p at names body t l
+    else Stops (blame_at Commute at) (record t { draft = NoDraft }) l
 
 -- the end of the section of a `with`
 abbrev pub changed : Task → Task
@@ -152,10 +162,10 @@ module _ (s : Setting) where
         (perform_all p body) t l))
     perform p (Withonly at section names body) t l =
         let u = record t { draft = Building (none_of s.items) } in
-        then_on (within u (perform_all p section u l)) (created s p at names (λ q. perform_all q body))
+        unless_commuting at t l (then_on (within u (perform_all p section u l)) (created s p at names (λ q. perform_all q body)))
     perform p (With at section) t l =
         let u = record t { draft = Amending t.spec } in
-        then_on (within u (perform_all p section u l)) (λ w m. Goes (changed w) m)
+        unless_commuting at t l (then_on (within u (perform_all p section u l)) (λ w m. Goes (changed w) m))
     perform p (Declare how at o) t l = declared_on how at o t l
 
     -- statements in order, each a step

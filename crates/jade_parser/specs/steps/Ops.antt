@@ -4,7 +4,7 @@ use Rattle.jade_parser.specs.declared.Sign.{Sign}
 use Rattle.jade_parser.specs.declared.Sign.TheVariants.{EqualSign, UnequalSign, LessSign, LessEqualSign}
 use Rattle.jade_parser.specs.declared.Sign.TheVariants.{GreaterSign, GreaterEqualSign, PlusSign, MinusSign}
 use Rattle.jade_parser.specs.declared.Sign.TheVariants.{TimesSign, OverSign, PercentSign, NotSign, RdWord}
-use Rattle.jade_parser.specs.declared.Sign.TheVariants.{WrWord, RdWrWord, DfRdWord, DfWrWord, DfRdWrWord}
+use Rattle.jade_parser.specs.declared.Sign.TheVariants.{WrWord, RdWrWord, DfRdWord, DfWrWord, DfRdWrWord, CmWord}
 use Rattle.jade_parser.specs.declared.Sign.TheVariants.{NoRdWord, NoWrWord, NoRdWrWord}
 use Rattle.jade_syntax.specs.declared.tree.Relation.{Relation}
 use Rattle.jade_syntax.specs.declared.tree.Relation.TheVariants.{Equal, Unequal, Less, LessEqual, Greater, GreaterEqual}
@@ -15,7 +15,7 @@ use Rattle.jade_syntax.specs.declared.tree.ProductOp.TheVariants.{Times, Over, R
 use Rattle.jade_syntax.specs.declared.tree.UnaryOp.{UnaryOp}
 use Rattle.jade_syntax.specs.declared.tree.UnaryOp.TheVariants.{Negative, Not}
 use Rattle.jade_syntax.specs.declared.tree.DeclareWord.{DeclareWord}
-use Rattle.jade_syntax.specs.declared.tree.DeclareWord.TheVariants.{Rd, Wr, RdWr, DfRd, DfWr, DfRdWr, NoRd, NoWr, NoRdWr}
+use Rattle.jade_syntax.specs.declared.tree.DeclareWord.TheVariants.{Rd, Wr, RdWr, DfRd, DfWr, DfRdWr, Cm, NoRd, NoWr, NoRdWr}
 
 -- the operator of a sum
 abbrev pub sum_of : Sign → Option SumOp
@@ -54,6 +54,7 @@ declare_of RdWrWord = Some RdWr
 declare_of DfRdWord = Some DfRd
 declare_of DfWrWord = Some DfWr
 declare_of DfRdWrWord = Some DfRdWr
+declare_of CmWord = Some Cm
 declare_of NoRdWord = Some NoRd
 declare_of NoWrWord = Some NoWr
 declare_of NoRdWrWord = Some NoRdWr

@@ -4,11 +4,11 @@ use Rattle.jade_run.specs.declared.answer.Ready.{Ready}
 use Rattle.jade_run.specs.declared.answer.Ready.TheVariants.{Program, Answered}
 use Rattle.jade_run.specs.declared.status.Status.{Status}
 use Rattle.jade_run.specs.declared.status.Status.TheVariants.{Refused, Numbers}
-use Rattle.jade_run.specs.Outcome.{IsGood, IsAnswered, input_count}
+use Rattle.jade_run.specs.Outcome.{IsGood, IsAnswered, TurnLists, input_count}
 
--- what a text comes to under whatever limit, which is a refusal or a word on the count of numbers
+-- what a text comes to under whatever limit and turn lists, which is a refusal or a word on the count of numbers
 pub record IsSettled (bytes : List ℕ) (numbers : List ℤ) (text : List ℕ) (status : Status) : Type 0 where
-  pub answered : (limit : ℕ) → IsAnswered bytes numbers limit text status
+  pub answered : (limit : ℕ) (turns : TurnLists) → IsAnswered bytes numbers limit turns text status
   pub unrun : (status ≡ Refused) ⊎ (status ≡ Numbers)
 
 -- the program of the text, with a number for each of its inputs, or what the text comes to without one

@@ -3,9 +3,8 @@ use Rattle.std.specs.Prelude.{◌≡◌, ◌<◌, ℕ, Bool, false, List, [], ma
 use Rattle.std.specs.Mem.Slots.Ownership.{Filled}
 use Rattle.object_shelf.specs.Views.{ObjectView}
 use Rattle.task_roll.specs.declared.note.PartNote.{PartNote}
-use Rattle.schedule_core.specs.Mirror.{CoreShows}
 use Rattle.schedule_core.specs.Plain.{Reached}
-use Rattle.schedule_core.specs.Queued.{EntriesAreOwned}
+use Rattle.schedule_core.specs.Soundness.{EntriesAreOwned, ReportsAreSerial}
 use Rattle.jade_meaning.specs.Plan.{RunPlan}
 use Rattle.object_table.specs.Tallies.{TallyView}
 use Rattle.object_table.specs.Views.{shelf_of, core_notes}
@@ -21,6 +20,12 @@ abbrev pub cells_in : Slot → List ℤ
 cells_in (slot.Object x) = or_none x.home
 cells_in slot.Away = []
 cells_in (slot.Roll r) = []
+
+-- the turns on the object in a slot
+abbrev pub turns_at : Slot → List (List ℕ)
+turns_at (slot.Object x) = x.turns
+turns_at slot.Away = []
+turns_at (slot.Roll r) = []
 
 -- the notes in a slot
 abbrev pub notes_in : Slot → List PartNote
@@ -46,5 +51,5 @@ pub record LastSlots (key : RunPlan) (xs : List Slot) (y : Slot) : Type 0 where
 
 -- what is true of every core of a plan at its end
 pub record EndLaws (key : RunPlan) : Type 0 where
-  pub shows : CoreShows key.program key.numbers key.limit
+  pub reports : ReportsAreSerial key.program key.numbers key.limit
   pub owned : EntriesAreOwned key.program key.numbers key.limit

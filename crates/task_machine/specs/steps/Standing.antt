@@ -6,7 +6,7 @@ use Rattle.jade_base.specs.declared.report.Blame.{Blame}
 use Rattle.jade_base.specs.declared.rights.Mode.{Mode}
 use Rattle.jade_base.specs.declared.rights.Rights.{Rights}
 use Rattle.jade_base.specs.Rights.{mode_of}
-use Rattle.jade_meaning.specs.Specification.{rights_on}
+use Rattle.jade_meaning.specs.Specification.{rights_on, commuting_on}
 use Rattle.jade_meaning.specs.Course.{Ends}
 use Rattle.task_machine.specs.declared.holdings.Row.{Row}
 use Rattle.task_machine.specs.declared.frame.Pause.{Pause}
@@ -19,13 +19,14 @@ use Rattle.code_meaning.specs.Meaning.{Children}
 use Rattle.task_machine.specs.Playing.{played}
 use Rattle.task_machine.specs.Stages.{rights_at, ahead}
 use Rattle.task_machine.specs.Executions.{Execution, IsSameTask, created_by, has_row, held_by, objects_in, without_content, work_left}
-use Rattle.task_machine.specs.Machines.{Machine, IsOrdered, NoDue, IsCreated, IsNext, NoneIsNext, TakeIsNext, course_at, is_to_move, amended_at, holds_at}
-use Rattle.task_machine.specs.Left.{IsNone, has_mode}
+use Rattle.task_machine.specs.Machines.{Machine, IsOrdered, NoDue, IsCreated, IsNext, NoneIsNext, TakeIsNext, course_at, is_to_move, amended_at, holds_at, due_in}
+use Rattle.task_machine.specs.Left.{IsNone, has_mode, to_take}
 use Rattle.jade_meaning.specs.Talk.{taken_anew}
 use Rattle.task_machine.specs.Asks.{Asking, number_of}
 
 -- the task is to give something up, if it is held, and to do what comes after it
 abbrev pub gives_up : Phase → Bool
+gives_up phase.Starting = false
 gives_up phase.Taking = false
 gives_up phase.Going = false
 gives_up (phase.Creating number) = true
@@ -43,6 +44,7 @@ pub record HasRows (entries : List (ObjectId × Rights)) (rows : List Row) : Typ
 
 -- what is known in a phase
 abbrev pub Knows : Phase → Machine → Type 0
+Knows phase.Starting m = Unit {0}
 Knows phase.Taking m = Unit {0}
 Knows phase.Going m = NoDue m
 Knows (phase.Creating number) m =
@@ -108,6 +110,7 @@ pub record IsFresh (e : Execution) : Type 0 where
 
 -- the marks once nothing is left to be taken
 abbrev pub marks_in : Phase → List Bool → List Bool
+marks_in phase.Starting ds = replicate (length ds) false
 marks_in phase.Taking ds = replicate (length ds) false
 marks_in phase.Going ds = ds
 marks_in (phase.Creating number) ds = ds
@@ -116,11 +119,23 @@ marks_in (phase.Ending b) ds = ds
 
 -- the code is to be run on: nothing is left to be taken, or nothing was
 abbrev pub RunsOn : Phase → Execution → List Bool → Type 0
+RunsOn phase.Starting e ds = (o : ℕ) → to_take (due_in e.rows ds) (rights_at e.stage) o ≡ false
 RunsOn phase.Taking e ds = IsNone (is_to_move phase.Taking e ds) e.stage.objects
 RunsOn phase.Going e ds = Unit {0}
 RunsOn (phase.Creating number) e ds = ⊥
 RunsOn phase.Changing e ds = ⊥
 RunsOn (phase.Ending b) e ds = ⊥
+
+-- the object on which the task commutes is to be taken
+pub record OwnIsDue (e : Execution) (ds : List Bool) (o : ℕ) : Type 0 where
+  pub own : commuting_on (rights_at e.stage) ≡ Some o
+  pub due : due_in e.rows ds o ≡ true
+  pub mode : has_mode (rights_at e.stage) o ≡ true
+  pub within : o < e.stage.objects
+
+-- it is not, or there is none
+abbrev pub OwnIsNotDue : Execution → List Bool → Type 0
+OwnIsNotDue e ds = (o : ℕ) → commuting_on (rights_at e.stage) ≡ Some o → to_take (due_in e.rows ds) (rights_at e.stage) o ≡ false
 
 -- what a task is about once it has come to a pause
 abbrev pub phase_of : Pause → Phase
@@ -141,6 +156,7 @@ abbrev pub last_ask : Phase → Ask
 last_ask (phase.Creating number) = ask.Create
 last_ask phase.Changing = ask.Change
 last_ask (phase.Ending b) = end_ask b
+last_ask phase.Starting = ask.End
 last_ask phase.Taking = ask.End
 last_ask phase.Going = ask.End
 

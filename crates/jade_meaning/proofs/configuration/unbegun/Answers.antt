@@ -28,7 +28,7 @@ returns c =
       spec = c.in_ok-same.same;
       holds = c.in_ok-holds.holds;
       part = 0;
-      pending = c.tell.new.events;
+      pending = c.tell_start.new.events;
       newborn = c.nobody.result;
       stage = Going;
     } in
@@ -41,4 +41,4 @@ returns c =
     ∙ ap (λ x. mine env x c.absent.result c.start.result) c.in_ok-rights.ensures ∙ ap (λ x. mine env spec x c.start.result) c.absent.ensures
     ∙ ap (λ x. mine env spec NoDraft x) c.start.ensures)
     c.in_ok-same.ensures (c.in_ok-holds.ensures ∙ start_is spec) refl
-    (λ w. c.in_ok-tell.ensures w ∙ ap (λ (xs : List PendingEvent). map (event_of w) xs ++ start_takes spec) none) refl vs
+    (λ w. c.in_ok-tell_start.ensures w ∙ ap (λ (xs : List PendingEvent). map (event_of w) xs ++ start_takes spec) none) refl vs

@@ -1,4 +1,4 @@
-use Rattle.jade_meaning.proofs.Talks.{talk_follows_serial}
+use Rattle.jade_meaning.proofs.Telling.{talk_follows_serial}
 use Rattle.jade_meaning.proofs.laws.talk_follows_serial.Goals as goal
 
 pub returns : goal.returns

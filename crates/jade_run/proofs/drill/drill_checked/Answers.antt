@@ -8,7 +8,8 @@ use Rattle.jade_syntax.specs.Limits.{within_limits}
 use Rattle.jade_meaning.specs.Answer.{Answer, answer}
 use Rattle.jade_meaning.specs.Report.{report}
 use Rattle.jade_meaning.specs.ReportAnswer.{report_answer, ReportTells}
-use Rattle.jade_meaning.specs.Serial.{serial_run}
+use Rattle.jade_meaning.specs.Turns.{marks_by, turns_in}
+use Rattle.jade_run.specs.Outcome.{TurnLists}
 use Rattle.jade_run.specs.declared.status.Status.{Status}
 use Rattle.jade_run.specs.steps.Drilling.{ShowsSum}
 use Rattle.jade_run.proofs.Running.{reported}
@@ -16,36 +17,41 @@ use Rattle.jade_run.proofs.Totals.{few_after}
 use Rattle.jade_run.proofs.drill.drill_checked.Goals as goal
 
 -- what tells the answer of a report by a sum tells the program's so
-told : (r : Report) (p q s : CheckedProgram) (tasks limit : ℕ) (text : List ℕ) (status : Status) → r ≡ report (program p.program) [] limit → q ≡ p → s ≡ q →
-    ReportTells (program p.program) [] limit → ShowsSum (program s.program) tasks (report_answer limit r) text status →
-    ShowsSum (program p.program) tasks (answer (program p.program) [] limit) text status
-told r p q s tasks limit text status e f g t h =
+told : (r : Report) (p q s : CheckedProgram) (tasks limit : ℕ) (turns : TurnLists) (text : List ℕ) (status : Status)
+    → r ≡ report (program p.program) [] limit turns → q ≡ p → s ≡ q →
+    ReportTells (program p.program) [] limit turns → ShowsSum (program s.program) tasks (report_answer limit r) text status →
+    ShowsSum (program p.program) tasks (answer (program p.program) [] limit turns) text status
+told r p q s tasks limit turns text status e f g t h =
     let P : Answer → Type 0 = λ a. ShowsSum (program p.program) tasks a text status in
     let Q : CheckedProgram → Type 0 = λ x. ShowsSum (program x.program) tasks (report_answer limit r) text status in
     subst P (ap (report_answer limit) e ∙ t.same) (subst Q (g ∙ f) h)
 
 -- a run of a program within the limits has few cells
-few : (r : Report) (p q s : CheckedProgram) (limit : ℕ) → r ≡ report (program p.program) [] limit → q ≡ p → s ≡ q → within_limits s.program.items ≡ true →
+few : (r : Report) (p q s : CheckedProgram) (limit : ℕ) (turns : TurnLists) → r ≡ report (program p.program) [] limit turns → q ≡ p → s ≡ q → within_limits s.program.items ≡ true →
     sum_by (length {A = ℤ}) r.objects ≤ 1048576
-few r p q s limit e f g h =
+few r p q s limit turns e f g h =
     let P : Report → Type 0 = λ x. sum_by (length {A = ℤ}) x.objects ≤ 1048576 in
     let Q : CheckedProgram → Type 0 = λ x. within_limits x.program.items ≡ true in
-    subst P (sym e) (few_after p.program.items (serial_run (program p.program) [] limit) (subst Q (g ∙ f) h))
+    subst P (sym e) (few_after p.program.items (marks_by (program p.program) [] limit turns) (subst Q (g ∙ f) h))
 
 pub sum_of_run-requires : goal.sum_of_run-requires
 sum_of_run-requires g c =
     let plan = c.in_ok-ran.ran.plan in
-    let all = report (program plan.program) plan.numbers plan.limit in
+    let turns = turns_in c.in_ok-ran.ran.report.turns in
+    let all = report (program plan.program) plan.numbers plan.limit turns in
     record {
-      few = few all c.args.checked c.in_ok-compiled.compiled c.checked-seen.result.now 4294967295
-          (reported all plan c.args.checked c.in_ok-compiled.compiled [] 4294967295 refl c.in_ok-ran.ensures c.in_ok-compiled.ensures)
+      few = few all c.args.checked c.in_ok-compiled.compiled c.checked-seen.result.now 4294967295 turns
+          (reported all plan c.args.checked c.in_ok-compiled.compiled [] 4294967295 turns refl c.in_ok-ran.ensures c.in_ok-compiled.ensures)
           c.in_ok-compiled.ensures c.checked-seen.ensures c.program-program.ensures.limits;
     }
 
 pub returns-clause-answer : goal.returns-clause-answer
 returns-clause-answer g c =
     let plan = c.in_ok-ran.ran.plan in
-    let all = report (program plan.program) plan.numbers plan.limit in
-    told all c.args.checked c.in_ok-compiled.compiled c.checked-seen.result.now c.args.tasks 4294967295 _ _
-    (reported all plan c.args.checked c.in_ok-compiled.compiled [] 4294967295 refl c.in_ok-ran.ensures c.in_ok-compiled.ensures)
-    c.in_ok-compiled.ensures c.checked-seen.ensures (c.report_tells.ensures (program c.args.checked.program) [] 4294967295) c.in_ok-answer.ensures
+    let turns = turns_in c.in_ok-ran.ran.report.turns in
+    let all = report (program plan.program) plan.numbers plan.limit turns in (
+      turns,
+      told all c.args.checked c.in_ok-compiled.compiled c.checked-seen.result.now c.args.tasks 4294967295 turns _ _
+          (reported all plan c.args.checked c.in_ok-compiled.compiled [] 4294967295 turns refl c.in_ok-ran.ensures c.in_ok-compiled.ensures)
+          c.in_ok-compiled.ensures c.checked-seen.ensures (c.report_tells.ensures (program c.args.checked.program) [] 4294967295 turns) c.in_ok-answer.ensures,
+    )

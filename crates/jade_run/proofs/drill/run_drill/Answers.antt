@@ -1,4 +1,7 @@
 use Rattle.std.proofs.Common.{[], ◌∙◌, sym}
+use Rattle.jade_syntax.specs.Image.{program}
+use Rattle.jade_meaning.specs.Turns.{in_order}
+use Rattle.jade_run.proofs.Plain.{one_answer}
 use Rattle.jade_run.proofs.Drilling.{settled_drilled, sum_drilled}
 use Rattle.jade_run.proofs.Running.{program_ready, answered_ready}
 use Rattle.jade_run.proofs.Witnessing.{drill_saw, settled_saw}
@@ -8,7 +11,9 @@ pub returns-in-Program-clause-answer : goal.returns-in-Program-clause-answer
 returns-in-Program-clause-answer g c =
     let ready = program_ready c.deref.result.now [] c.in_ok-ready.ready c.in-Program.checked c.in-Program.is c.in_ok-ready.ensures in
     sum_drilled c.args.tasks c.deref.result.now c.in-Program.checked.program c.drill_checked.result (c.deref.ensures.value ∙ c.in_ok-text.ensures.text)
-    ready.0 (sym ready.1) c.drill_checked.ensures.answer
+    ready.0 (sym ready.1) (λ good turns.
+    one_answer c.without_cm.ensures c.runs_plainly.ensures (program c.in-Program.checked.program) [] 4294967295 turns in_order
+    (c.drills_are_plain.ensures c.args.tasks c.requires.amount.1 c.in-Program.checked.program good)) c.drill_checked.ensures.answer
 
 pub returns-in-Program-clause-saw : goal.returns-in-Program-clause-saw
 returns-in-Program-clause-saw g c =

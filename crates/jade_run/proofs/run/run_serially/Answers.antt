@@ -3,16 +3,17 @@ use Rattle.std.proofs.Common.{◌≡◌, ℕ, subst, List}
 use Rattle.jade_syntax.specs.CheckedProgram.{CheckedProgram}
 use Rattle.jade_syntax.specs.Image.{program}
 use Rattle.jade_meaning.specs.Answer.{Answer, answer}
+use Rattle.jade_meaning.specs.Turns.{in_order}
 use Rattle.jade_run.specs.declared.status.Status.{Status}
 use Rattle.jade_run.specs.Outcome.{Shows}
 use Rattle.jade_run.proofs.run.run_serially.Goals as goal
 
 -- what shows the answer of the program that was compiled shows that of the program
 shown : (p q r : CheckedProgram) (a : Answer) (ns : List ℤ) (limit : ℕ) (text : List ℕ) (status : Status) → q ≡ p → r ≡ q
-    → a ≡ answer (program q.program) ns limit → Shows (program r.program) a text status
-    → Shows (program p.program) (answer (program p.program) ns limit) text status
+    → a ≡ answer (program q.program) ns limit in_order → Shows (program r.program) a text status
+    → Shows (program p.program) (answer (program p.program) ns limit in_order) text status
 shown p q r a ns limit text status e d t h =
-    subst (λ (x : CheckedProgram). Shows (program x.program) (answer (program x.program) ns limit) text status) e
+    subst (λ (x : CheckedProgram). Shows (program x.program) (answer (program x.program) ns limit in_order) text status) e
     (subst (λ b. Shows (program q.program) b text status) t (subst (λ (x : CheckedProgram). Shows (program x.program) a text status) d h))
 
 pub returns : goal.returns

@@ -1,4 +1,5 @@
-use Rattle.jade_run.proofs.Calls.{answered_in}
+use Rattle.jade_meaning.specs.Turns.{in_order}
+use Rattle.jade_run.proofs.Calls.{answered_by}
 use Rattle.jade_run.proofs.Running.{program_ready, answered_ready}
 use Rattle.jade_run.proofs.Witnessing.{program_saw, settled_saw}
 use Rattle.jade_run.proofs.run.run_text.Goals as goal
@@ -6,7 +7,7 @@ use Rattle.jade_run.proofs.run.run_text.Goals as goal
 pub returns-in-Program-clause-answer : goal.returns-in-Program-clause-answer
 returns-in-Program-clause-answer g c =
     let ready = program_ready c.args.text.now c.args.numbers.now c.in_ok-ready.ready c.in-Program.checked c.in-Program.is c.in_ok-ready.ensures in
-    answered_in c.args.text.now c.args.numbers.now c.args.limit c.in-Program.checked.program c.run_by_workers.result ready.0 ready.1
+    answered_by c.args.text.now c.args.numbers.now c.args.limit c.in-Program.checked.program c.run_by_workers.result ready.0 ready.1
     c.run_by_workers.ensures.answer
 
 pub returns-in-Program-clause-saw : goal.returns-in-Program-clause-saw
@@ -21,5 +22,8 @@ returns-in-Answered-clause-saw g c =
     (answered_ready c.args.text.now c.args.numbers.now c.in_ok-ready.ready c.in-Answered.answer c.in-Answered.is c.in_ok-ready.ensures)
 
 pub returns-in-Answered-clause-answer : goal.returns-in-Answered-clause-answer
-returns-in-Answered-clause-answer g c =
-    (answered_ready c.args.text.now c.args.numbers.now c.in_ok-ready.ready c.in-Answered.answer c.in-Answered.is c.in_ok-ready.ensures).answered c.args.limit
+returns-in-Answered-clause-answer g c = (
+  in_order,
+  (answered_ready c.args.text.now c.args.numbers.now c.in_ok-ready.ready c.in-Answered.answer c.in-Answered.is c.in_ok-ready.ensures).answered c.args.limit
+      in_order,
+)

@@ -3,6 +3,6 @@ use Rattle.object_table.proofs.finish.end_laws.Goals as goal
 
 pub returns : goal.returns
 returns c = λ (key : RunPlan). record {
-  shows = c.core_shows.ensures key.program key.numbers key.limit;
+  reports = c.reports_are_serial.ensures key.program key.numbers key.limit;
   owned = c.entries_are_owned.ensures key.program key.numbers key.limit;
 }

@@ -47,7 +47,7 @@ returns-in_ok-path_of-in-Some c =
     fault_answered (abstracted c.args.compiled.now.program) c.decoded-code.result.now c.args.numbers.now c.args.limit c.decoded-code.ensures.code
     c.keeps_rules.ensures (c.decoded-code.ensures.follows c.args.limit) (c.requires.given ∙ inputs_many c.args.compiled.now.program.items)
     (record { waiting = c.new.result; level = c.in_ok-root.field-0 }) c.new.ensures.items c.in_ok-root.ensures (contents_of c.in_ok-held.held) zero
-    (c.stopping_agrees.ensures (abstracted c.args.compiled.now.program) c.args.numbers.now c.args.limit) c.in_ok-path_of-in-Some.field-0 b end
+    (c.stops_in_order.ensures (abstracted c.args.compiled.now.program) c.args.numbers.now c.args.limit) c.in_ok-path_of-in-Some.field-0 b end
 
 pub returns-in_ok-cells_of-in-None : goal.returns-in_ok-cells_of-in-None
 returns-in_ok-cells_of-in-None c =
@@ -58,5 +58,5 @@ returns-in_ok-cells_of-in-None c =
     ∙ whole_answered (abstracted c.args.compiled.now.program) c.decoded-code.result.now c.args.numbers.now c.args.limit c.decoded-code.ensures.code
     c.keeps_rules.ensures (c.decoded-code.ensures.follows c.args.limit) (c.requires.given ∙ inputs_many c.args.compiled.now.program.items)
     (record { waiting = c.new.result; level = c.in_ok-root.field-0 }) c.new.ensures.items c.in_ok-root.ensures (contents_of c.in_ok-held.held) zero
-    (c.stopping_agrees.ensures (abstracted c.args.compiled.now.program) c.args.numbers.now c.args.limit) (contents_of c.run.new.held)
+    (c.stops_in_order.ensures (abstracted c.args.compiled.now.program) c.args.numbers.now c.args.limit) (contents_of c.run.new.held)
     c.objects-objects.result many end

@@ -10,14 +10,23 @@ returns-in-Creating-clause-ascend c =
     subst (λ p. ObjectsAscend (candidates p c.args.execution.now)) (sym c.in-Creating.is)
     (entries_ascend c.args.execution.now.stage.child.entries (subst (λ s. IsAscending s.entries) c.child_spec.ensures c.len.ensures.ascending))
 
+pub returns-in-Starting-clause-count : goal.returns-in-Starting-clause-count
+returns-in-Starting-clause-count c =
+    subst (λ p. c.rows.result ≡ length (candidates p c.args.execution.now)) (sym c.in-Starting.is)
+    (c.rows.ensures.count ∙ rows_count c.args.execution.now.rows)
+
+pub returns-in-Starting-clause-ascend : goal.returns-in-Starting-clause-ascend
+returns-in-Starting-clause-ascend c =
+    subst (λ p. ObjectsAscend (candidates p c.args.execution.now)) (sym c.in-Starting.is) (rows_ascend c.args.execution.now.rows c.rows.ensures.ascend)
+
 pub returns-in-Taking-clause-count : goal.returns-in-Taking-clause-count
 returns-in-Taking-clause-count c =
-    subst (λ p. c.rows.result ≡ length (candidates p c.args.execution.now)) (sym c.in-Taking.is)
-    (c.rows.ensures.count ∙ rows_count c.args.execution.now.rows)
+    subst (λ p. c.rows-in-Taking.result ≡ length (candidates p c.args.execution.now)) (sym c.in-Taking.is)
+    (c.rows-in-Taking.ensures.count ∙ rows_count c.args.execution.now.rows)
 
 pub returns-in-Taking-clause-ascend : goal.returns-in-Taking-clause-ascend
 returns-in-Taking-clause-ascend c =
-    subst (λ p. ObjectsAscend (candidates p c.args.execution.now)) (sym c.in-Taking.is) (rows_ascend c.args.execution.now.rows c.rows.ensures.ascend)
+    subst (λ p. ObjectsAscend (candidates p c.args.execution.now)) (sym c.in-Taking.is) (rows_ascend c.args.execution.now.rows c.rows-in-Taking.ensures.ascend)
 
 pub returns-in-Going-clause-count : goal.returns-in-Going-clause-count
 returns-in-Going-clause-count c =

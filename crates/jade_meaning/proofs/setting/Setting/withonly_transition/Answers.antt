@@ -1,13 +1,29 @@
-use Rattle.std.proofs.Common.{refl}
+use Rattle.std.proofs.Common.{refl, ap, sym, ◌∙◌, map, Some}
+use Rattle.jade_base.specs.declared.report.Blame.{Blame}
+use Rattle.jade_syntax.specs.Image.{block}
 use Rattle.jade_meaning.specs.steps.Perform.{shown}
+use Rattle.jade_meaning.specs.steps.Frames.{frames_on}
 use Rattle.jade_meaning.specs.declared.frames.Running.{Running}
-use Rattle.jade_meaning.specs.Course.{Building, none_of}
-use Rattle.jade_meaning.proofs.Framing.{section_goes}
+use Rattle.jade_meaning.specs.Course.{Building, Ends, On, none_of, scoped, run_all, create, finish}
+use Rattle.jade_meaning.proofs.Framing.{section_goes, section_opens, section_bars}
 use Rattle.jade_meaning.proofs.setting.Setting.withonly_transition.Goals as goal
+
+pub returns-then-is_commuting : goal.returns-then-is_commuting
+returns-then-is_commuting c =
+    let s = shown c.args.self.now in
+    let r = c.args.run.now in
+    let on : On = scoped (run_all s (block c.args.section.now)) (create s c.args.at (map (λ n. n.name) c.args.names.now)
+    (run_all s (block c.args.body.now) finish) (frames_on s r.frames.items)) in
+    λ vs. section_bars s vs r c.args.at (Building (none_of c.args.self.now.items)) on (sym c.is_commuting.ensures ∙ c.if-is_commuting.true)
+    ∙ ap (λ (b : Blame). Ends (Some b)) (sym c.blame_at.ensures)
 
 pub returns : goal.returns
 returns c =
     let s = shown c.args.self.now in
-    let u : Running = record { task = c.begin_building.new.task; frames = c.push.new.self; used = c.args.run.now.used } in
-    λ vs. section_goes s vs c.args.run.now c.args.section.now _ (Building (none_of c.args.self.now.items)) u c.enter.new.run c.in_ok-begin_building.ensures
+    let r = c.args.run.now in
+    let on : On = scoped (run_all s (block c.args.section.now)) (create s c.args.at (map (λ n. n.name) c.args.names.now)
+    (run_all s (block c.args.body.now) finish) (frames_on s r.frames.items)) in
+    let u : Running = record { task = c.begin_building.new.task; frames = c.push.new.self; used = r.used } in
+    λ vs. section_opens s vs r c.args.at (Building (none_of c.args.self.now.items)) on (sym c.is_commuting.ensures ∙ c.if-is_commuting.false)
+    ∙ section_goes s vs r c.args.section.now _ (Building (none_of c.args.self.now.items)) u c.enter.new.run c.in_ok-begin_building.ensures
     c.in_ok-push.ensures.items refl (c.in_ok-enter.ensures.0 s) c.in_ok-enter.ensures.1 c.in_ok-enter.ensures.2

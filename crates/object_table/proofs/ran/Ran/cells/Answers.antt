@@ -10,10 +10,10 @@ pub returns-in-Some-clause-told : goal.returns-in-Some-clause-told
 returns-in-Some-clause-told c =
     let P : RanView → Type 0 = λ r. report_answer c.args.limit r.report ≡ Cells c.self.inside.objects in
     let left : left_after c.args.limit c.self.inside.notes ≡ Some c.in-Some.field-0 = search rules in
-    subst P c.self.view_is (tells_cells c.args.limit c.in-Some.field-0 c.self.inside.objects c.self.inside.notes left)
+    subst P c.self.view_is (tells_cells c.args.limit c.in-Some.field-0 c.self.inside.objects c.self.inside.turns c.self.inside.notes left)
 
 pub returns-in-None-clause-told : goal.returns-in-None-clause-told
 returns-in-None-clause-told c =
     let P : RanView → Type 0 = λ r. IsFault (report_answer c.args.limit r.report) in
     let left : left_after c.args.limit c.self.inside.notes ≡ None = search rules in
-    subst P c.self.view_is (tells_fault c.args.limit c.self.inside.objects c.self.inside.notes left)
+    subst P c.self.view_is (tells_fault c.args.limit c.self.inside.objects c.self.inside.turns c.self.inside.notes left)

@@ -1,0 +1,4 @@
+use Rattle.schedule_core.proofs.laws.held_turns.Goals as goal
+
+pub returns : goal.returns
+returns c = λ p ns limit. (c.core_is_sound.ensures p ns limit).turns_held

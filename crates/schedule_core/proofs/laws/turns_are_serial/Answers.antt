@@ -1,0 +1,4 @@
+use Rattle.schedule_core.proofs.laws.turns_are_serial.Goals as goal
+
+pub returns : goal.returns
+returns c = λ p ns limit. (c.core_is_sound.ensures p ns limit).turns
