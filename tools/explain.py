@@ -35,6 +35,7 @@ FAULTS = {
     "object": "The family has no member of this number; members are numbered from 0.",
     "right": "The task has no immediate right to this access: declare it in its withonly, or make it immediate by a with.",
     "cover": "The child declares a right that its creator does not have itself, or has given up.",
+    "commute": "A task that declares cm declares beside it only reads of other objects, creates no task, and does not change its rights.",
     "change": "The with asks for a right that the task does not have: it was not declared, or was given up.",
     "limit": "One step more than LIMIT would be begun; a step is a statement or a turn of a loop.",
 }
