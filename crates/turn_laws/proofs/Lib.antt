@@ -1,0 +1,5 @@
+mod Arranging
+mod Spends
+mod Running
+mod Takes
+mod Stages
