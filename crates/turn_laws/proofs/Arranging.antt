@@ -1,5 +1,5 @@
 -- Arrangements of a group: what they name, and how many.
-use Rattle.std.proofs.Common.{◌≡◌, ℕ, suc, Bool, true, false, ◌&&◌, ◌||◌, List, [], ◌∷◌, ◌++◌, map, length, refl, sym, ap, ◌∙◌, subst, append-nil, ◌⊎◌, inl, inr}
+use Rattle.std.proofs.Common.{◌≡◌, suc, Bool, true, false, ◌&&◌, ◌||◌, List, [], ◌∷◌, ◌++◌, map, length, refl, sym, ap, ◌∙◌, subst, append-nil}
 use Rattle.std.specs.Prelude.{if◌then◌else◌}
 use Rattle.jade_meaning.specs.Serial.{Path, same_path}
 use Rattle.jade_meaning.specs.Turns.{Member, unnamed, arranged}
@@ -118,8 +118,8 @@ arranges_arranged (p ∷ ps) (m ∷ g) = go (is_named p (m ∷ g)) refl (λ x. a
         let z = arranged ps (f.front ++ f.back) in
         let strange : Every (Strange q) f.front = subst (λ x. Every (Strange x) f.front) (sym (same_path_is q p f.same)) f.strange in
         let now : arranges (q ∷ paths z) whole ≡ true =
-            ap (λ b. b && arranges (paths z) (unnamed q whole)) (named_there q f.front f.back f.here (same_self q))
-            ∙ ap (arranges (paths z)) (unnamed_here q f.front f.back f.here strange (same_self q)) ∙ k (f.front ++ f.back) in
+        ap (λ b. b && arranges (paths z) (unnamed q whole)) (named_there q f.front f.back f.here (same_self q))
+        ∙ ap (arranges (paths z)) (unnamed_here q f.front f.back f.here strange (same_self q)) ∙ k (f.front ++ f.back) in
         let order : arranged (p ∷ ps) whole ≡ f.here ∷ z = arranged_ahead p ps f.front f.back f.here f.strange f.same in
         subst (λ w. arranges (paths (arranged (p ∷ ps) w)) w ≡ true) (sym f.is) (subst (λ x. arranges (paths x) whole ≡ true) (sym order) now)
 

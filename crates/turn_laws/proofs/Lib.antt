@@ -3,3 +3,5 @@ mod Spends
 mod Running
 mod Takes
 mod Stages
+mod Turning
+mod Examples

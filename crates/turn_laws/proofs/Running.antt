@@ -1,5 +1,5 @@
 -- Where each settling finds its arrangement among the next entries, the run is that in which the same lists are priorities.
-use Rattle.std.proofs.Common.{◌≡◌, ◌≢◌, ℕ, suc, ◌≤◌, Bool, true, false, List, [], ◌∷◌, ◌++◌, length, take, drop, refl, sym, ap, ◌∙◌, subst, Option, Some, None, arith, append-nil, append_assoc, ◌⊎◌, inl, inr}
+use Rattle.std.proofs.Common.{◌≡◌, ◌≢◌, ℕ, suc, Bool, true, false, List, [], ◌∷◌, ◌++◌, length, take, drop, refl, sym, ap, ◌∙◌, subst, Option, Some, None, arith, append-nil, append_assoc, ◌⊎◌, inl, inr}
 use Rattle.std.specs.Prelude.{ℤ, nat_eq, if◌then◌else◌}
 use Rattle.std.proofs.lemmas.List.{take-append-drop}
 use Rattle.std.proofs.lemmas.Bool.Decides.{eqb_tells}
@@ -8,8 +8,8 @@ use Rattle.jade_syntax.specs.Objects.{sizes}
 use Rattle.jade_meaning.specs.Specification.{Specification, objects, commuting_on}
 use Rattle.jade_meaning.specs.Course.{Course, Reads, Writes, Steps, Creates, Changes, Ends, root_spec, root_course}
 use Rattle.jade_meaning.specs.Serial.{Mark, Path, DidRead, DidWrite, DidCreate, DidEnd, after, cell, with_cell, zeros}
-use Rattle.jade_meaning.specs.Turns.{Member, World, Ran, at_path, group, others, arranged, turns_taken, settle, settled, settle_all, first, entered, run, whole_run}
-use Rattle.jade_meaning.specs.Turns.{touched_at_once, made_touchable, turns_on, turn_of, marks_by, Full}
+use Rattle.jade_meaning.specs.Turns.{Member, World, Ran, at_path, group, others, arranged, turns_taken, settle, settled, settle_all, first, entered, run}
+use Rattle.jade_meaning.specs.Turns.{touched_at_once, made_touchable, turns_on, Full}
 use Rattle.jade_meaning.specs.Laws.{Every}
 use Rattle.jade_meaning.proofs.Groups.{Strange, every_append, every_arranged, every_group, every_others, group_of, arranged_skip}
 use Rattle.jade_meaning.proofs.Filling.{From, Within, Out, Off, Nothing, ran_of, turns_both, taken_elsewhere, others_not, every_with, every_two, far_on, first_both, create_on, create_shape}
@@ -104,11 +104,11 @@ module _ (U : Lists) where
         same = λ pre h1 h2 e.
             let one : a ≡ f.ran = A.same pre h1 (λ o. every_with (Off N) (Off NA) (λ z g y n. g y (ia y n)) (pre o) (h2 o)) e in
             let free = λ (o : ℕ). every_two (Free o w.waiting) (Off N) (Free o f.ran.world.waiting)
-                (λ z s g. A.out.keeps (λ m. m.object ≡ o → Strange z m) s (λ m n i. g m.path (ia m.path n))) (pre o) (h1 o) (h2 o) in
+            (λ z s g. A.out.keeps (λ m. m.object ≡ o → Strange z m) s (λ m n i. g m.path (ia m.path n))) (pre o) (h1 o) (h2 o) in
             let two : k f.ran.world ≡ l.ran = K.same (λ o. pre o ++ taken o)
-                (λ o. every_append (Free o f.ran.world.waiting) (pre o) (taken o) (free o) (A.out.apart o))
-                (λ o. every_append (Off NK) (pre o) (taken o) (every_with (Off N) (Off NK) (λ z g y n. g y (ik y n)) (pre o) (h2 o)) (offs o))
-                (λ o. e o ∙ ap (λ z. pre o ++ z) (A.lists o) ∙ sym (append_assoc (pre o) (taken o) (f.left o))) in
+            (λ o. every_append (Free o f.ran.world.waiting) (pre o) (taken o) (free o) (A.out.apart o))
+            (λ o. every_append (Off NK) (pre o) (taken o) (every_with (Off N) (Off NK) (λ z g y n. g y (ik y n)) (pre o) (h2 o)) (offs o))
+            (λ o. e o ∙ ap (λ z. pre o ++ z) (A.lists o) ∙ sym (append_assoc (pre o) (taken o) (f.left o))) in
             ap (λ (r : Ran). first r.marks (k r.world)) one ∙ ap (first f.ran.marks) two;
       })
 
@@ -186,7 +186,7 @@ module _ (U : Lists) where
       lists_at o a (inl e) =
           let rest = λ (z : ℕ). turns_on z (settle (λ z. now) x w) in
           let split : left x ≡ rest x ++ drop (length g) (left x) =
-              sym (take-append-drop (length g) (left x)) ∙ ap (λ l. l ++ drop (length g) (left x)) (sym (named a)) in
+          sym (take-append-drop (length g) (left x)) ∙ ap (λ l. l ++ drop (length g) (left x)) (sym (named a)) in
           ap left e.1 ∙ split ∙ ap (λ z. rest z ++ drop (length g) (left z)) (sym e.1)
           ∙ ap (λ b. rest o ++ (if b then drop (length g) (left o) else left o)) (sym e.0)
       lists_at o a (inr e) =
@@ -312,8 +312,8 @@ spends_as_it_runs p ns limit T r h =
     let c = root_course p ns limit in
     let w : World = record { store = zeros (sizes p.items); waiting = [] } in
     let all = then_follows T w T (Within root 0) Nothing (Within root 0) (run_spending root spec c 0 0 w T) (spend_all (objects spec)) (run T root spec c 0 0 w)
-        (settle_all T (objects spec)) (λ z i. i) (λ z i. absurd i) (λ z i y j. absurd j) tt (run_follows T c root spec 0 0 w T tt)
-        (λ f out. all_follows T (objects spec) f.ran.world f.left) r h in
+    (settle_all T (objects spec)) (λ z i. i) (λ z i. absurd i) (λ z i y j. absurd j) tt (run_follows T c root spec 0 0 w T tt)
+    (λ f out. all_follows T (objects spec) f.ran.world f.left) r h in
     record { ran = sym (all.same (λ o. []) (λ o. tt) (λ o. tt) (λ o. refl)); lists = all.lists }
 
 -- lists that are used up are full
@@ -324,5 +324,7 @@ used_up_full p ns limit T h = go (whole_run_spending p ns limit T) refl h.all
     go None e l = absurd l
     go (Some r) e l =
         let s = spends_as_it_runs p ns limit T r e in
-        record { same = λ o. ap (λ (z : Ran). turns_on o z.marks) (sym s.ran) ∙ sym (append-nil (turns_on o r.ran.marks))
-            ∙ ap (λ z. turns_on o r.ran.marks ++ z) (sym (l o)) ∙ sym (s.lists o) }
+        record {
+          same = λ o. ap (λ (z : Ran). turns_on o z.marks) (sym s.ran) ∙ sym (append-nil (turns_on o r.ran.marks))
+              ∙ ap (λ z. turns_on o r.ran.marks ++ z) (sym (l o)) ∙ sym (s.lists o);
+        }

@@ -1,16 +1,16 @@
 -- By turn lists that name the turns that a run takes, one after another, each settling finds its arrangement.
-use Rattle.std.proofs.Common.{◌≡◌, ◌≢◌, ℕ, suc, Bool, true, false, List, [], ◌∷◌, ◌++◌, length, take, drop, refl, sym, ap, ◌∙◌, subst, Option, Some, None, append-nil, append_assoc, ◌⊎◌, inl, inr}
+use Rattle.std.proofs.Common.{◌≡◌, ◌≢◌, ℕ, suc, true, false, List, [], ◌∷◌, ◌++◌, length, take, drop, refl, sym, ap, ◌∙◌, subst, Option, Some, None, append-nil, append_assoc, ◌⊎◌, inl, inr}
 use Rattle.std.specs.Prelude.{ℤ, nat_eq, if◌then◌else◌}
 use Rattle.std.specs.List.{cons_option}
 use Rattle.std.proofs.Math.Path.{fun_ext}
 use Rattle.std.proofs.Math.Seq.{take-append_seam, drop-append_seam}
 use Rattle.std.proofs.lemmas.Bool.Decides.{eqb_tells}
-use Rattle.std.proofs.lemmas.Bool.{ne_eqb, eq-eqb}
+use Rattle.std.proofs.lemmas.Bool.{eq-eqb}
 use Rattle.jade_syntax.specs.Abstract.{AbstractProgram}
 use Rattle.jade_syntax.specs.Objects.{sizes}
 use Rattle.jade_meaning.specs.Specification.{Specification, objects, commuting_on}
 use Rattle.jade_meaning.specs.Course.{Course, Reads, Writes, Steps, Creates, Changes, Ends, root_spec, root_course}
-use Rattle.jade_meaning.specs.Serial.{Mark, Path, DidRead, DidWrite, DidCreate, DidEnd, after, cell, with_cell, zeros}
+use Rattle.jade_meaning.specs.Serial.{Mark, Path, DidRead, DidWrite, DidCreate, after, cell, with_cell, zeros}
 use Rattle.jade_meaning.specs.Turns.{Member, World, Ran, at_path, group, others, arranged, turn, turns_taken, settle, settled, settle_all, first, entered, run, whole_run}
 use Rattle.jade_meaning.specs.Turns.{touched_at_once, made_touchable, turns_on, turn_of, marks_by, Full}
 use Rattle.jade_meaning.specs.Laws.{Every}
@@ -61,12 +61,12 @@ module _ (T : Lists) where
       let ms = arranged (T o) g in
       let left = before (settle T o w) post in
       let own : left o ≡ paths ms ++ post o =
-          ap (λ l. l ++ post o) (taken_paths o ms w.store (every_arranged (λ m. m.object ≡ o) (T o) g (group_of o w.waiting))) in
+      ap (λ l. l ++ post o) (taken_paths o ms w.store (every_arranged (λ m. m.object ≡ o) (T o) g (group_of o w.waiting))) in
       let many : length (paths ms) ≡ length g = as_many (paths ms) g (arranges_arranged (T o) g) in
       let now : take (length g) (left o) ≡ paths ms =
-          ap (take (length g)) own ∙ ap (λ n. take n (paths ms ++ post o)) (sym many) ∙ take-append_seam (paths ms) (post o) in
+      ap (take (length g)) own ∙ ap (λ n. take n (paths ms ++ post o)) (sym many) ∙ take-append_seam (paths ms) (post o) in
       let back : drop (length g) (left o) ≡ post o =
-          ap (drop (length g)) own ∙ ap (λ n. drop n (paths ms ++ post o)) (sym many) ∙ drop-append_seam (paths ms) (post o) in
+      ap (drop (length g)) own ∙ ap (λ n. drop n (paths ms ++ post o)) (sym many) ∙ drop-append_seam (paths ms) (post o) in
       let later : taken_from o (length g) left ≡ post = fun_ext (λ x. at x (eqb_tells x o) back) in
       let l = taken_from o (length g) left in
       ap (λ ps. if arranges ps g then Some (by (arranged ps g) l) else None) now
@@ -132,7 +132,7 @@ module _ (T : Lists) where
       let i = entered (commuting_on child) q child body (λ x. run T q child body 0 0 x) s.world in
       let rest = run T p spec on (suc k) 0 i.world in
       let next = λ (x : World) (l : Lists). and_then (begun (commuting_on child) q child body (λ y m. run_spending q child body 0 0 y m) x l)
-          (λ y m. run_spending p spec on (suc k) 0 y m) in
+      (λ y m. run_spending p spec on (suc k) 0 y m) in
       shape (run_spending p spec (Creates child body on) k n w) _ _ (create_shape T T T p spec child body on k n w)
       (mark_spends (λ l. and_then (spend_all (touched_at_once child) w l) next) m (first s.marks (create_on T T T p spec child body on k s.world)) (λ x. refl)
       (then_spends (spend_all (touched_at_once child) w) s next (first i.marks rest) (all_spends (touched_at_once child) w)
@@ -154,8 +154,8 @@ full_used_up p ns limit T h =
     let w : World = record { store = zeros (sizes p.items); waiting = [] } in
     let r = run T root spec (root_course p ns limit) 0 0 w in
     let spends = then_spends (run_spending root spec (root_course p ns limit) 0 0 w) r (spend_all (objects spec)) (settle_all T (objects spec) r.world)
-        (run_spends T (root_course p ns limit) root spec 0 0 w) (all_spends T (objects spec) r.world) in
+    (run_spends T (root_course p ns limit) root spec 0 0 w) (all_spends T (objects spec) r.world) in
     let lists : T ≡ before (marks_by p ns limit T) (λ o. []) = fun_ext (λ o. sym (h.same o) ∙ sym (append-nil (turns_on o (marks_by p ns limit T)))) in
     let done : whole_run_spending p ns limit T ≡ Some (record { ran = whole_run T p ns limit; left = λ o. [] }) =
-        ap (whole_run_spending p ns limit) lists ∙ spends (λ o. []) in
+    ap (whole_run_spending p ns limit) lists ∙ spends (λ o. []) in
     record { all = subst LeavesNothing (sym done) (λ o. refl) }

@@ -1,19 +1,18 @@
 -- What the run has at the path of a task: a task that commutes has its turn first, and no other has one.
-use Rattle.std.proofs.Common.{◌≡◌, ◌≢◌, ℕ, zero, suc, ◌+◌, ◌≤◌, ◌<◌, Bool, true, false, ◌&&◌, List, [], ◌∷◌, ◌++◌, map, refl, sym, ap, ◌∙◌, subst, Option, Some, None, arith, append-nil, append_assoc, ◌⊎◌, inl, inr}
-use Rattle.std.specs.Prelude.{ℤ, nat_eq, if◌then◌else◌}
+use Rattle.std.proofs.Common.{◌≡◌, ℕ, zero, suc, ◌+◌, Bool, true, false, List, [], ◌∷◌, ◌++◌, map, refl, sym, ap, ◌∙◌, subst, Option, Some, None, arith, append-nil, ◌⊎◌, inl, inr}
+use Rattle.std.specs.Prelude.{ℤ, if◌then◌else◌}
 use Rattle.std.specs.List.{filter_map, cons_option}
 use Rattle.std.proofs.lemmas.List.Elements.{filter_map-append}
-use Rattle.std.proofs.lemmas.Bool.{ne_eqb, eq-eqb}
-use Rattle.jade_meaning.specs.Specification.{Specification, rights_on, commuting_on}
+use Rattle.jade_meaning.specs.Specification.{Specification, commuting_on}
 use Rattle.jade_meaning.specs.Course.{Course, Reads, Writes, Steps, Creates, Changes, Ends}
 use Rattle.jade_meaning.specs.Proper.{Proper, proper_read, proper_write, proper_step, proper_create, proper_change, proper_end}
-use Rattle.jade_meaning.specs.Serial.{Mark, Path, Store, Deed, DidTurn, DidRead, DidWrite, DidCreate, DidEnd, serial, own, same_path, deeds_at, after, cell, with_cell}
-use Rattle.jade_meaning.specs.Turns.{Member, World, Ran, below, at_path, is_of, group, others, named, unnamed, arranged, turn, turns_taken, seen_by, bared, joined}
-use Rattle.jade_meaning.specs.Turns.{settle, settled, settle_all, first, entered, run, touched_at_once, made_touchable}
-use Rattle.jade_meaning.specs.Laws.{Every, but_turn, child_path}
-use Rattle.jade_meaning.proofs.Groups.{every_append, every_arranged, every_group, every_others}
-use Rattle.jade_meaning.proofs.Filling.{Off, Nothing, From, Within, ran_of, same_self, same_front, every_with, far_on, first_both, create_on, create_shape}
-use Rattle.turn_laws.specs.Told.{HasNoTurn, BeginsByTurn, TurnIsFirst}
+use Rattle.jade_meaning.specs.Serial.{Mark, Path, Store, Deed, DidTurn, DidRead, DidWrite, DidEnd, serial, own, same_path, deeds_at, after, cell, with_cell}
+use Rattle.jade_meaning.specs.Turns.{Member, World, Ran, below, at_path, is_of, group, others, named, unnamed, arranged, turn, turns_taken, seen_by, bared}
+use Rattle.jade_meaning.specs.Turns.{settle, settled, settle_all, first}
+use Rattle.jade_meaning.specs.Laws.{Every, but_turn}
+use Rattle.jade_meaning.proofs.Groups.{every_arranged, every_group, every_others}
+use Rattle.jade_meaning.proofs.Filling.{ran_of}
+use Rattle.turn_laws.specs.Told.{HasNoTurn, BeginsByTurn}
 
 -- deeds without a turn
 no_turn_both : (a b : List Deed) → HasNoTurn a → HasNoTurn b → HasNoTurn (a ++ b)
@@ -28,14 +27,14 @@ begins_both o a b h g = record {
 pub at_both : (q : Path) (a b : List Mark) → deeds_at q (a ++ b) ≡ deeds_at q a ++ deeds_at q b
 at_both q a b = filter_map-append _ a b
 
-at_off : (q : Path) (m : Mark) (ms : List Mark) → same_path m.path q ≡ false → deeds_at q (m ∷ ms) ≡ deeds_at q ms
+pub at_off : (q : Path) (m : Mark) (ms : List Mark) → same_path m.path q ≡ false → deeds_at q (m ∷ ms) ≡ deeds_at q ms
 at_off q m ms e = ap (λ b. cons_option (if b then Some m.deed else None) (deeds_at q ms)) e
 
-at_on : (q : Path) (m : Mark) (ms : List Mark) → same_path m.path q ≡ true → deeds_at q (m ∷ ms) ≡ m.deed ∷ deeds_at q ms
+pub at_on : (q : Path) (m : Mark) (ms : List Mark) → same_path m.path q ≡ true → deeds_at q (m ∷ ms) ≡ m.deed ∷ deeds_at q ms
 at_on q m ms e = ap (λ b. cons_option (if b then Some m.deed else None) (deeds_at q ms)) e
 
 -- a course in which no task is created and no right changes
-abbrev Flat : Course → Type 0
+abbrev pub Flat : Course → Type 0
 Flat (Reads o c on) = (v : ℤ) → Flat (on v)
 Flat (Writes o c v on) = Flat on
 Flat (Steps on) = Flat on
@@ -43,7 +42,7 @@ Flat (Creates child body on) = ⊥
 Flat (Changes new on) = ⊥
 Flat (Ends b) = Unit {0}
 
-flat_of : {spec : Specification} {c : Course} → Proper spec c → (o : ℕ) → commuting_on spec ≡ Some o → Flat c
+pub flat_of : {spec : Specification} {c : Course} → Proper spec c → (o : ℕ) → commuting_on spec ≡ Some o → Flat c
 flat_of (proper_read i f) o e = λ v. flat_of (f v) o e
 flat_of (proper_write i f) o e = flat_of f o e
 flat_of (proper_step f) o e = flat_of f o e
@@ -51,7 +50,7 @@ flat_of (proper_create none a b d f g) o e = absurd (let z : Some o ≡ None = s
 flat_of (proper_change none m f) o e = absurd (let z : Some o ≡ None = sym e ∙ none in cc)
 flat_of proper_end o e = tt
 
-flat_bared : (c : Course) → Flat c → (n : ℕ) → Flat (bared c n).course
+pub flat_bared : (c : Course) → Flat c → (n : ℕ) → Flat (bared c n).course
 flat_bared (Steps on) h n = flat_bared on h (suc n)
 flat_bared (Reads o c on) h n = h
 flat_bared (Writes o c v on) h n = h
@@ -75,7 +74,7 @@ flat_off (Creates child body on) h p q e k n s = absurd h
 flat_off (Changes new on) h p q e k n s = absurd h
 flat_off (Ends b) h p q e k n s = at_off q (below p (own k (DidEnd b n))) [] (own_path p q false e)
 
-more_deeds : (d : Deed) (ds es : List Deed) → but_turn d ≡ Some d → es ≡ d ∷ ds → HasNoTurn ds → HasNoTurn es
+pub more_deeds : (d : Deed) (ds es : List Deed) → but_turn d ≡ Some d → es ≡ d ∷ ds → HasNoTurn ds → HasNoTurn es
 more_deeds d ds es i e h =
     subst HasNoTurn (sym e) (record { same = ap (λ x. cons_option x (filter_map but_turn ds)) i ∙ ap (λ x. d ∷ x) h.same })
 
@@ -102,7 +101,7 @@ abbrev pub counted : Path → List Member → ℕ
 counted q [] = 0
 counted q (m ∷ ms) = one_at q m + counted q ms
 
-counted_both : (q : Path) (a b : List Member) → counted q (a ++ b) ≡ counted q a + counted q b
+pub counted_both : (q : Path) (a b : List Member) → counted q (a ++ b) ≡ counted q a + counted q b
 counted_both q [] b = omega arith
 counted_both q (m ∷ a) b = join (one_at q m) (counted q (a ++ b)) (counted q a) (counted q b) (counted_both q a b)
   where
@@ -141,17 +140,14 @@ counted_group q o (m ∷ ms) = go (is_of o m) (counted_group q o ms)
     go false e = back (one_at q m) (counted q (group o ms)) (counted q (others o ms)) (counted q ms) e
 
 -- who has the path waits for the object
-abbrev At : Path → ℕ → Member → Type 0
+abbrev pub At : Path → ℕ → Member → Type 0
 At q o m = same_path m.path q ≡ true → m.object ≡ o
 
 abbrev pub Quiet : Member → Type 0
 Quiet m = Flat m.course
 
--- what is counted of the first member and of those behind
-record Count (q : Path) (m : Member) (n k : ℕ) : Type 0 where
-  pub rest : n ≡ k
-
-seen : (q : Path) (m : Member) (b : Bool) → same_path m.path q ≡ b → one_at q m ≡ (if b then 1 else 0)
+-- what is counted of a member
+pub seen : (q : Path) (m : Member) (b : Bool) → same_path m.path q ≡ b → one_at q m ≡ (if b then 1 else 0)
 seen q m b e = ap (λ x. if x then 1 else 0) e
 
 sum_none : (x n : ℕ) → x + n ≡ 0 → (x ≡ 0) × (n ≡ 0)
@@ -162,7 +158,7 @@ sum_one zero n e = inr (refl, omega arith)
 sum_one (suc zero) n e = inl (refl, omega arith)
 sum_one (suc (suc x)) n e = absurd (omega arith)
 
-none_at : (q : Path) (o : ℕ) (ms : List Member) → counted q ms ≡ 0 → Every (At q o) ms
+pub none_at : (q : Path) (o : ℕ) (ms : List Member) → counted q ms ≡ 0 → Every (At q o) ms
 none_at q o [] e = tt
 none_at q o (m ∷ ms) e =
     let s = sum_none (one_at q m) (counted q ms) e in
@@ -183,31 +179,33 @@ turn_on q o m s h e a =
 
 taken_none : (q : Path) (ms : List Member) (s : Store) → Every Quiet ms → counted q ms ≡ 0 → deeds_at q (turns_taken ms s) ≡ []
 taken_none q [] s h e = refl
-taken_none q (m ∷ ms) s h e = go (same_path m.path q) refl (sum_none (one_at q m) (counted q ms) e)
+taken_none q (m ∷ ms) s h e =
+    go (same_path m.path q) refl (sum_none (one_at q m) (counted q ms) e) (λ i. taken_none q ms (after (turn m s) s) h.1 i)
   where
-    go : (b : Bool) → same_path m.path q ≡ b → (one_at q m ≡ 0) × (counted q ms ≡ 0) → deeds_at q (turn m s ++ turns_taken ms (after (turn m s) s)) ≡ []
-    go true i z = absurd (let y : 1 ≡ 0 = sym (seen q m true i) ∙ z.0 in cc)
-    go false i z =
-        at_both q (turn m s) (turns_taken ms (after (turn m s) s)) ∙ ap (λ x. x ++ deeds_at q (turns_taken ms (after (turn m s) s))) (turn_off q m s h.0 i)
-        ∙ taken_none q ms (after (turn m s) s) h.1 z.1
+    more : List Mark
+    more = turns_taken ms (after (turn m s) s)
+
+    go : (b : Bool) → same_path m.path q ≡ b → (one_at q m ≡ 0) × (counted q ms ≡ 0) → (counted q ms ≡ 0 → deeds_at q more ≡ [])
+        → deeds_at q (turn m s ++ more) ≡ []
+    go true i z k = absurd (let y : 1 ≡ 0 = sym (seen q m true i) ∙ z.0 in cc)
+    go false i z k = at_both q (turn m s) more ∙ ap (λ x. x ++ deeds_at q more) (turn_off q m s h.0 i) ∙ k z.1
 
 taken_one : (q : Path) (o : ℕ) (ms : List Member) (s : Store) → Every Quiet ms → Every (At q o) ms → counted q ms ≡ 1 → BeginsByTurn o (deeds_at q (turns_taken ms s))
-taken_one q o [] s h a e = absurd (cc)
-taken_one q o (m ∷ ms) s h a e = go (same_path m.path q) refl (sum_one (one_at q m) (counted q ms) e)
+taken_one q o [] s h a e = absurd (let z : 0 ≡ 1 = e in cc)
+taken_one q o (m ∷ ms) s h a e =
+    go (same_path m.path q) refl (sum_one (one_at q m) (counted q ms) e) (taken_none q ms (after (turn m s) s) h.1)
+    (λ i. taken_one q o ms (after (turn m s) s) h.1 a.1 i)
   where
     more : List Mark
     more = turns_taken ms (after (turn m s) s)
 
     go : (b : Bool) → same_path m.path q ≡ b → ((one_at q m ≡ 1) × (counted q ms ≡ 0)) ⊎ ((one_at q m ≡ 0) × (counted q ms ≡ 1))
-        → BeginsByTurn o (deeds_at q (turn m s ++ more))
-    go true i (inl z) =
-        subst (BeginsByTurn o) (sym (at_both q (turn m s) more ∙ ap (λ x. deeds_at q (turn m s) ++ x) (taken_none q ms (after (turn m s) s) h.1 z.1) ∙ append-nil _))
-        (turn_on q o m s h.0 i a.0)
-    go true i (inr z) = absurd (let y : 1 ≡ 0 = sym (seen q m true i) ∙ z.0 in cc)
-    go false i (inl z) = absurd (let y : 0 ≡ 1 = sym (seen q m false i) ∙ z.0 in cc)
-    go false i (inr z) =
-        subst (BeginsByTurn o) (sym (at_both q (turn m s) more ∙ ap (λ x. x ++ deeds_at q more) (turn_off q m s h.0 i)))
-        (taken_one q o ms (after (turn m s) s) h.1 a.1 z.1)
+        → (counted q ms ≡ 0 → deeds_at q more ≡ []) → (counted q ms ≡ 1 → BeginsByTurn o (deeds_at q more)) → BeginsByTurn o (deeds_at q (turn m s ++ more))
+    go true i (inl z) f g =
+        subst (BeginsByTurn o) (sym (at_both q (turn m s) more ∙ ap (λ x. deeds_at q (turn m s) ++ x) (f z.1) ∙ append-nil _)) (turn_on q o m s h.0 i a.0)
+    go true i (inr z) f g = absurd (let y : 1 ≡ 0 = sym (seen q m true i) ∙ z.0 in cc)
+    go false i (inl z) f g = absurd (let y : 0 ≡ 1 = sym (seen q m false i) ∙ z.0 in cc)
+    go false i (inr z) f g = subst (BeginsByTurn o) (sym (at_both q (turn m s) more ∙ ap (λ x. x ++ deeds_at q more) (turn_off q m s h.0 i))) (g z.1)
 
 -- who has not had its turn yet, and who has had it
 pub record Waits (q : Path) (o : ℕ) (ds : List Deed) (ws : List Member) : Type 0 where
@@ -219,13 +217,13 @@ pub record Had (q : Path) (o : ℕ) (ds : List Deed) (ws : List Member) : Type 0
   pub begins : BeginsByTurn o ds
   pub gone : counted q ws ≡ 0
 
-pub record Ran' (q : Path) (ds : List Deed) (ws : List Member) : Type 0 where
+pub record Plainly (q : Path) (ds : List Deed) (ws : List Member) : Type 0 where
   pub plain : HasNoTurn ds
   pub gone : counted q ws ≡ 0
 
 -- a task at a path that commutes on an object, or on none, with its deeds so far
 abbrev pub Stage : Path → Option ℕ → List Deed → List Member → Type 0
-Stage q None ds ws = Ran' q ds ws
+Stage q None ds ws = Plainly q ds ws
 Stage q (Some o) ds ws = Waits q o ds ws ⊎ Had q o ds ws
 
 -- a piece of a run that begins no task at a path
@@ -234,7 +232,7 @@ pub record Keeps (q : Path) (w : World) (r : Ran) : Type 0 where
   pub one : (o : ℕ) → counted q w.waiting ≡ 1 → Every (At q o) w.waiting → Stage q (Some o) (deeds_at q r.marks) r.world.waiting
 
 -- stages go on
-goes_on : (q : Path) (x : Option ℕ) (ds : List Deed) (w : World) (r : Ran) → Keeps q w r → Stage q x ds w.waiting → Stage q x (ds ++ deeds_at q r.marks) r.world.waiting
+pub goes_on : (q : Path) (x : Option ℕ) (ds : List Deed) (w : World) (r : Ran) → Keeps q w r → Stage q x ds w.waiting → Stage q x (ds ++ deeds_at q r.marks) r.world.waiting
 goes_on q None ds w r k s =
     let n = k.none s.gone in
     record { plain = no_turn_both ds (deeds_at q r.marks) s.plain (subst HasNoTurn (sym n.0) (record { same = refl })); gone = n.1 }
@@ -244,20 +242,20 @@ goes_on q (Some o) ds w r k (inr s) =
     let n = k.none s.gone in
     inr (record { begins = begins_both o ds (deeds_at q r.marks) s.begins (subst HasNoTurn (sym n.0) (record { same = refl })); gone = n.1 })
 
-then_keeps : (q : Path) (w : World) (a r : Ran) → Keeps q w a → Keeps q a.world r → Keeps q w (first a.marks r)
+pub then_keeps : (q : Path) (w : World) (a r : Ran) → Keeps q w a → Keeps q a.world r → Keeps q w (first a.marks r)
 then_keeps q w a r h k = record {
   none = λ e. let n = h.none e in let m = k.none n.1 in
       (at_both q a.marks r.marks ∙ ap (λ x. x ++ deeds_at q r.marks) n.0 ∙ m.0, m.1);
   one = λ o e f. subst (λ l. Stage q (Some o) l r.world.waiting) (sym (at_both q a.marks r.marks)) (goes_on q (Some o) (deeds_at q a.marks) a.world r k (h.one o e f));
 }
 
-mark_keeps : (q : Path) (w : World) (m : Mark) (r : Ran) → same_path m.path q ≡ false → Keeps q w r → Keeps q w (first (m ∷ []) r)
+pub mark_keeps : (q : Path) (w : World) (m : Mark) (r : Ran) → same_path m.path q ≡ false → Keeps q w r → Keeps q w (first (m ∷ []) r)
 mark_keeps q w m r e k = record {
   none = λ i. let n = k.none i in (at_off q m r.marks e ∙ n.0, n.1);
   one = λ o i f. subst (λ l. Stage q (Some o) l r.world.waiting) (sym (at_off q m r.marks e)) (k.one o i f);
 }
 
-still_keeps : (q : Path) (w : World) (r : Ran) → deeds_at q r.marks ≡ [] → counted q r.world.waiting ≡ counted q w.waiting
+pub still_keeps : (q : Path) (w : World) (r : Ran) → deeds_at q r.marks ≡ [] → counted q r.world.waiting ≡ counted q w.waiting
     → ((o : ℕ) → Every (At q o) w.waiting → Every (At q o) r.world.waiting) → Keeps q w r
 still_keeps q w r e n a = record {
   none = λ i. (e, n ∙ i);
@@ -265,7 +263,7 @@ still_keeps q w r e n a = record {
 }
 
 module _ (T : ℕ → List Path) where
-  settle_keeps : (o : ℕ) (w : World) → Every Quiet w.waiting → (q : Path) → Keeps q w (ran_of T o w)
+  pub settle_keeps : (o : ℕ) (w : World) → Every Quiet w.waiting → (q : Path) → Keeps q w (ran_of T o w)
   settle_keeps o w h q = record {
     none = λ e.
         let s = sum_none (counted q g) (counted q rest) (counted_group q o w.waiting ∙ e) in
@@ -299,7 +297,7 @@ module _ (T : ℕ → List Path) where
             at = every_others (At q x) o w.waiting f;
           })
 
-  all_quiet : (os : List ℕ) (w : World) → Every Quiet w.waiting → Every Quiet (settle_all T os w).world.waiting
+  pub all_quiet : (os : List ℕ) (w : World) → Every Quiet w.waiting → Every Quiet (settle_all T os w).world.waiting
   all_quiet [] w h = h
   all_quiet (o ∷ os) w h = all_quiet os (settled T o w) (every_others Quiet o w.waiting h)
 

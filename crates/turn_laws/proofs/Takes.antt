@@ -1,8 +1,8 @@
 -- The events of a task tell of its turn at its first takes alone.
-use Rattle.std.proofs.Common.{◌≡◌, ◌≢◌, ℕ, zero, suc, ◌+◌, ◌<◌, ◌≤◌, Bool, true, false, not, ◌&&◌, ◌||◌, List, [], ◌∷◌, ◌++◌, map, length, refl, sym, ap, ◌∙◌, subst, Option, Some, None, arith, append-nil}
+use Rattle.std.proofs.Common.{◌≡◌, ◌≢◌, ℕ, zero, suc, ◌+◌, Bool, true, false, not, ◌&&◌, ◌||◌, List, [], ◌∷◌, ◌++◌, length, refl, sym, ap, ◌∙◌, subst, Option, Some, None, arith, append-nil}
 use Rattle.std.proofs.Common.{◌⊎◌, inl, inr, get_or-set_same, get_or-set_other}
-use Rattle.std.specs.Prelude.{ℤ, is_none, nat_eq, nat_lt, slice_index_or, slice_set, replicate, if◌then◌else◌}
-use Rattle.std.specs.List.{filter_map, flat_map}
+use Rattle.std.specs.Prelude.{ℤ, is_none, nat_eq, nat_lt, replicate, if◌then◌else◌}
+use Rattle.std.specs.List.{flat_map}
 use Rattle.std.proofs.lemmas.List.Elements.{filter_map-append}
 use Rattle.std.proofs.lemmas.List.{get_or_past, set_past}
 use Rattle.std.proofs.lemmas.Grind.{flat_map-append}
@@ -14,16 +14,16 @@ use Rattle.jade_base.specs.declared.rights.Rights.{Rights}
 use Rattle.jade_base.specs.declared.rights.Mode.{Mode}
 use Rattle.jade_base.specs.declared.rights.Mode.TheVariants.{Reading, Writing, Commuting}
 use Rattle.jade_base.specs.Rights.{no_rights, both_rights, is_immediate, is_there, same_right, may_write, mode_of, has_rights, same_rights}
-use Rattle.jade_meaning.specs.Specification.{Specification, rights_on, numbers, objects, commuting_among, commuting_on, may_commute, allows_commuting, fits_commuting, all_fit}
-use Rattle.jade_meaning.specs.Course.{Course, Reads, Writes, Steps, Creates, Changes, Ends}
+use Rattle.jade_meaning.specs.Specification.{Specification, rights_on, objects, commuting_among, commuting_on, may_commute, allows_commuting, fits_commuting, all_fit}
+use Rattle.jade_meaning.specs.Course.{Course}
 use Rattle.jade_meaning.specs.Proper.{Proper, NoMore, proper_read, proper_write, proper_step, proper_create, proper_change, proper_end}
-use Rattle.jade_meaning.specs.Talk.{Task, Event, Enter, Enroll, Take, TouchRead, TouchWrite, Wants, Give, Leave, Shift, Resign, Holds, held, when, take_in, first_take, touched}
+use Rattle.jade_meaning.specs.Talk.{Task, Event, Enter, Enroll, TouchRead, TouchWrite, Wants, Give, Leave, Resign, Holds, held, when, take_in, first_take, touched}
 use Rattle.jade_meaning.specs.Talk.{start_holds, without, own_last, start_takes, creation_gives, enters, kept, change_gives, shift, shifts, taken_anew, change_takes, changed, end_gives, end_leaves, events, talk}
-use Rattle.jade_meaning.specs.Serial.{Deed, DidTurn, DidRead, DidWrite, DidCreate, DidEnd}
+use Rattle.jade_meaning.specs.Serial.{Deed, DidTurn, DidRead, DidWrite, DidCreate}
 use Rattle.jade_meaning.specs.Laws.{deed_of, deeds}
 use Rattle.jade_meaning.proofs.Soles.{fit_at, own_write}
 use Rattle.jade_meaning.proofs.Uncommuted.{less_false, none_commutes, none_from}
-use Rattle.turn_laws.specs.Told.{told_of, told, turn_in}
+use Rattle.turn_laws.specs.Told.{told_of, told}
 
 -- events that tell of no turn
 abbrev pub Turnless : List Event → Type 0
@@ -118,15 +118,15 @@ held_touched spec h x k o e = at (eqb_tells x o) (nat_lt x (length h)) refl
     at : ((nat_eq x o ≡ true) × (x ≡ o)) ⊎ ((nat_eq x o ≡ false) × (x ≢ o)) → (b : Bool) → nat_lt x (length h) ≡ b → Turnless (take_in (mode_of (rights_on spec o)) o)
     at (inl i) true l =
         let now : held (touched spec h x) o ≡ mode_of (rights_on spec o) =
-            ap (held (touched spec h x)) (sym i.1) ∙ get_or-set_same h x (mode_of (rights_on spec x)) None (ltb-true x (length h) l)
-            ∙ ap (λ z. mode_of (rights_on spec z)) i.1 in
+        ap (held (touched spec h x)) (sym i.1) ∙ get_or-set_same h x (mode_of (rights_on spec x)) None (ltb-true x (length h) l)
+        ∙ ap (λ z. mode_of (rights_on spec z)) i.1 in
         none_take (mode_of (rights_on spec o)) o (sym (ap is_none now) ∙ e)
     at (inl i) false l =
         let now : held (touched spec h x) o ≡ held h o =
-            ap (λ (z : Holds). held z o) (set_past h x (mode_of (rights_on spec x)) (ltb-false x (length h) l)) in
+        ap (λ (z : Holds). held z o) (set_past h x (mode_of (rights_on spec x)) (ltb-false x (length h) l)) in
         k o (sym (ap is_none now) ∙ e)
     at (inr i) b l =
-        let now : held (touched spec h x) o ≡ held h o = get_or-set_other h x o (mode_of (rights_on spec x)) None (λ j. i.1 j) in
+        let now : held (touched spec h x) o ≡ held h o = get_or-set_other h x o (mode_of (rights_on spec x)) None (λ j. i.1 (sym j)) in
         k o (sym (ap is_none now) ∙ e)
 
 -- a task that does not commute, or one that commutes and holds its object
@@ -198,13 +198,14 @@ own_now spec o e fit = go (nat_lt o (length spec)) refl
     go true l =
         let z : 0 + o ≡ o = omega arith in
         let here : fits_commuting o o (rights_on spec o) ≡ true =
-            subst (λ i. fits_commuting o i (rights_on spec i) ≡ true) z (fit_at o spec (length spec) 0 o fit (ltb-true o (length spec) l)) in
+        subst (λ i. fits_commuting o i (rights_on spec i) ≡ true) z (fit_at o spec (length spec) 0 o fit (ltb-true o (length spec) l)) in
         let a = rights_on spec o in
         last (not (is_there a.reads)) (not (is_there a.writes)) (is_immediate a.commutes) (sym (ap (own_or o a) (eq-eqb o o refl)) ∙ here)
       where
         own_or : ℕ → Rights → Bool → Bool
-        own_or o a b = if b then not (is_there a.reads) && not (is_there a.writes) && is_immediate a.commutes
-        else (not (same_right a.reads Deferred) && not (is_there a.writes) && not (is_there a.commutes))
+        own_or o a b =
+            if b then not (is_there a.reads) && not (is_there a.writes) && is_immediate a.commutes
+            else (not (same_right a.reads Deferred) && not (is_there a.writes) && not (is_there a.commutes))
     go false l =
         let n : rights_on spec o ≡ no_rights = get_or_past spec o no_rights (ltb-false o (length spec) l) in
         absurd (let z : false ≡ true = sym (ap (λ (a : Rights). is_there a.commutes) n) ∙ among_there spec (objects spec) o e in cc)
@@ -221,7 +222,7 @@ other_take spec o x fit ne = plain_take (rights_on spec x) x (go (is_immediate (
     go false e = e
     go true e =
         let w : may_write (rights_on spec x) ≡ true =
-            ap (λ b. is_immediate (rights_on spec x).writes || b) e ∙ or_true (is_immediate (rights_on spec x).writes) in
+        ap (λ b. is_immediate (rights_on spec x).writes || b) e ∙ or_true (is_immediate (rights_on spec x).writes) in
         absurd (ne (own_write o spec fit x w))
 
 others_turnless : (spec : Specification) (o : ℕ) → all_fit o spec (objects spec) ≡ true → (os : List ℕ)
