@@ -72,10 +72,25 @@ def else_if(place):
         return "There is no `else if`: the second `if` stands in the braces of the `else`, as in `else { if .. { } }`."
 
 
+def odd_closing(place):
+    """The first brace that begins its line and stands in another column than the line of the brace that it closes."""
+    columns, opened = {}, []
+    for token in place.tokens:
+        is_first = token.line not in columns
+        columns.setdefault(token.line, token.column)
+        if token.text == "{":
+            opened.append(token)
+        elif token.text == "}" and opened:
+            begin = opened.pop()
+            if is_first and token.column != columns[begin.line]:
+                return f"; the `}}` of {at(token)} closes the `{{` of {at(begin)}, and stands in another column than that line begins in"
+    return ""
+
+
 def open_at_end(place):
     opened = brackets_open(place.tokens, place.at)
     if place.found.kind == "end" and opened:
-        return f"The text ends, and the `{opened[-1].text}` of {at(opened[-1])} is not closed."
+        return f"The text ends, and the `{opened[-1].text}` of {at(opened[-1])} is not closed{odd_closing(place)}."
     if place.found.kind == "end" and "main" in place.expected:
         return "The text ends before its `main { }`."
 
