@@ -2,3 +2,5 @@ mod OnePlay
 mod WhatIsLeft
 mod ByPlace
 mod PlainContents
+mod Creations
+mod Counting

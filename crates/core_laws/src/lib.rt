@@ -15,6 +15,7 @@ ghost use Rattle.schedule_core.specs.Soundness.{and_then};
 ghost use Rattle.core_laws.specs.ByPlace.{ContentsByPlace};
 ghost use Rattle.core_laws.specs.OnePlay.{PicksDecide};
 ghost use Rattle.core_laws.specs.PlainContents.{PlainContents};
+ghost use Rattle.core_laws.specs.Room.{ChildrenAreFew};
 ghost use Rattle.core_laws.specs.WhatIsLeft.{SomeIsLeft, WhatIsLeft};
 
 /// Picks decide a schedule: the states that the same picks reach by as many events have the same
@@ -53,4 +54,12 @@ pub fn plain_contents()
     jade_meaning::laws::runs_plainly();
     some_is_left();
     contents_by_place();
+}
+
+/// A live task has made no more children than it may begin steps, and fewer where it is to make one
+/// next. So the number of its children has room wherever the limit has.
+pub fn children_are_few()
+    ensures { (p : Program) (ns : List ℤ) (limit : ℕ) → ChildrenAreFew p ns limit }
+{
+    jade_meaning::laws::more_answers();
 }
