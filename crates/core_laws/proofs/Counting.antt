@@ -179,7 +179,7 @@ front (suc n) [] e h = absurd h
 front zero (x ∷ es) e h = ap (λ (y : Event). y ∷ []) h
 front (suc n) (x ∷ es) e h = ap (λ (ys : List Event). x ∷ ys) (front n es e h)
 
-in_front : (P : Event → Type 0) (n : ℕ) (es : List Event) (e : Event) → Every P es → First (drop n es) (λ x. x ≡ e) → P e
+pub in_front : (P : Event → Type 0) (n : ℕ) (es : List Event) (e : Event) → Every P es → First (drop n es) (λ x. x ≡ e) → P e
 in_front P zero [] e a h = absurd h
 in_front P (suc n) [] e a h = absurd h
 in_front P zero (x ∷ es) e a h = subst P h a.0
@@ -234,7 +234,7 @@ went_on all e s q h c =
     record { few = c.few; made = omega (arith, a, b, d) }
 
 -- of live tasks
-every_at : (P : Seat → Type 0) (xs : List Seat) (i : ℕ) (x : Seat) → slice_get xs i ≡ Some x → Every P xs → P x
+pub every_at : (P : Seat → Type 0) (xs : List Seat) (i : ℕ) (x : Seat) → slice_get xs i ≡ Some x → Every P xs → P x
 every_at P [] i x e h = absurd (cc)
 every_at P (y ∷ xs) zero x e h = subst P (some_is y x e) h.0
   where
@@ -242,12 +242,12 @@ every_at P (y ∷ xs) zero x e h = subst P (some_is y x e) h.0
     some_is a b e = cc
 every_at P (y ∷ xs) (suc i) x e h = every_at P xs i x e h.1
 
-every_take : (P : Seat → Type 0) (n : ℕ) (xs : List Seat) → Every P xs → Every P (take n xs)
+pub every_take : (P : Seat → Type 0) (n : ℕ) (xs : List Seat) → Every P xs → Every P (take n xs)
 every_take P zero xs h = tt
 every_take P (suc n) [] h = tt
 every_take P (suc n) (x ∷ xs) h = (h.0, every_take P n xs h.1)
 
-every_drop : (P : Seat → Type 0) (n : ℕ) (xs : List Seat) → Every P xs → Every P (drop n xs)
+pub every_drop : (P : Seat → Type 0) (n : ℕ) (xs : List Seat) → Every P xs → Every P (drop n xs)
 every_drop P zero xs h = h
 every_drop P (suc n) [] h = tt
 every_drop P (suc n) (x ∷ xs) h = every_drop P n xs h.1

@@ -1,6 +1,7 @@
 mod OnePlay
 mod WhatIsLeft
 mod ByPlace
-mod PlainContents
 mod Creations
 mod Counting
+mod Uncommuting
+mod PlainContents

@@ -46,12 +46,15 @@ pub fn contents_by_place()
 }
 
 /// For a program in which the word `cm` does not stand what is left and the contents are those of the
-/// plain serial run.
+/// plain serial run, and no live task has a right to commute.
 pub fn plain_contents()
     ensures { (p : Program) (ns : List ℤ) (limit : ℕ) → uses_cm (program p) ≡ false → PlainContents p ns limit }
 {
+    jade_meaning::laws::keeps();
     jade_meaning::laws::without_cm();
     jade_meaning::laws::runs_plainly();
+    schedule_core::laws::entries_have_rights();
+    schedule_core::laws::tasks_are_serial();
     some_is_left();
     contents_by_place();
 }
