@@ -39,6 +39,35 @@ main {
 }
 """ % (20 * TURNS)
 
+# 64 coarse tasks that count, each on an object of its own, and behind each one that adds its counts to one object.
+HISTOGRAM = """objects part[64] : 64;
+object total : 64;
+main {
+    for i in 0 .. 64 {
+        withonly { rd_wr(part[i]); } do (i) {
+            for t in 0 .. %d {
+                part[i][(7 * t + i) %% 64] = part[i][(7 * t + i) %% 64] + 1;
+            }
+        }
+        withonly { %s(total); rd(part[i]); } do (i) {
+            for c in 0 .. 64 {
+                total[c] = total[c] + part[i][c];
+            }
+        }
+    }
+}
+"""
+
+TINY = """object total : 1;
+main {
+    for i in 0 .. 10000 {
+        withonly { cm(total); } do (i) {
+            total[0] = total[0] + i;
+        }
+    }
+}
+"""
+
 def timed(words, given="", threads=None):
     '''What a process wrote, the time that passed and the processor time that it took.'''
     env = dict(os.environ, OMP_NUM_THREADS=str(threads)) if threads else None
@@ -95,3 +124,10 @@ for name, text, words in (
 
 alone, idle = best_of([(run(1), LONG), (run(4), LONG)], PROCESSOR)
 print("one task: 1 worker %.3f s, 4 workers %.3f s of processor time, ratio %.2f" % (alone, idle, idle / alone))
+
+for word in ("cm", "rd_wr"):
+    times = best_of([(run(workers), HISTOGRAM % (TURNS, word)) for workers in (1, 2, 4)], ELAPSED)
+    print("histogram with %s: run 1 %.3f s, run 2 %.3f s, run 4 %.3f s, %.2f times as fast" % (word, *times, times[0] / times[2]))
+
+one, four = best_of([(run(1), TINY), (run(4), TINY)], ELAPSED)
+print("10,000 tiny commuting tasks: run 1 %.3f s, run 4 %.3f s, ratio %.2f" % (one, four, four / one))
