@@ -5,3 +5,4 @@ mod Creations
 mod Counting
 mod Uncommuting
 mod PlainContents
+mod KeyOrder
