@@ -6,3 +6,4 @@ mod Counting
 mod Uncommuting
 mod PlainContents
 mod KeyOrder
+mod LeftOrder

@@ -4,3 +4,4 @@ pub mod ByPlace
 pub mod PlainContents
 pub mod Room
 pub mod KeyOrder
+pub mod LeftOrder

@@ -15,6 +15,7 @@ ghost use Rattle.schedule_core.specs.Remains.{Remains};
 ghost use Rattle.schedule_core.specs.Soundness.{and_then};
 ghost use Rattle.core_laws.specs.ByPlace.{ContentsByPlace};
 ghost use Rattle.core_laws.specs.KeyOrder.{WorksStandByKey};
+ghost use Rattle.core_laws.specs.LeftOrder.{SomeLeftInOrder};
 ghost use Rattle.core_laws.specs.OnePlay.{PicksDecide};
 ghost use Rattle.core_laws.specs.PlainContents.{PlainContents};
 ghost use Rattle.core_laws.specs.Room.{ChildrenAreFew};
@@ -75,4 +76,14 @@ pub fn works_stand_by_key()
     ensures { (p : AbstractProgram) (ns : List ℤ) (limit : ℕ) (turns : ℕ → List Path) → WorksStandByKey p ns limit turns }
 {
     jade_meaning::laws::keeps();
+}
+
+/// A work that is left to a live task, or to one that it has yet to bring about, stands in the meaning
+/// before those left to tasks later on the roll, unless both are of tasks that commute on the object.
+pub fn left_in_order()
+    ensures { (p : Program) (ns : List ℤ) (limit : ℕ) → SomeLeftInOrder p ns limit }
+{
+    jade_meaning::laws::keeps();
+    schedule_core::laws::in_serial_order();
+    works_stand_by_key();
 }
