@@ -1,5 +1,5 @@
 -- How many children a task has made, by the events that it has told.
-use Rattle.std.proofs.Common.{◌≡◌, ℕ, zero, suc, ◌≤◌, ◌<◌, ◌+◌, Bool, true, false, List, [], ◌∷◌, ◌++◌, take, drop, Option, Some, None, refl, sym, ap, ◌∙◌, subst, arith}
+use Rattle.std.proofs.Common.{◌≡◌, ℕ, zero, suc, ◌≤◌, ◌+◌, Bool, true, false, List, [], ◌∷◌, ◌++◌, take, drop, Option, Some, None, refl, sym, ap, ◌∙◌, subst, arith}
 use Rattle.std.specs.Prelude.{ℤ, slice_get, if◌then◌else◌}
 use Rattle.std.specs.List.{flat_map}
 use Rattle.jade_base.specs.declared.rights.Rights.{Rights}
@@ -11,8 +11,8 @@ use Rattle.jade_meaning.specs.declared.walker.Act.TheVariants as act
 use Rattle.jade_meaning.specs.Course.{Course, Reads, Writes, Steps, Creates, Changes, Ends}
 use Rattle.jade_meaning.specs.Laws.{Every, Extends, same_events, answered, one_more}
 use Rattle.jade_meaning.specs.Specification.{Specification, rights_on, objects, commuting_on}
-use Rattle.jade_meaning.specs.Talk.{Task, Event, Enter, Enroll, Take, TouchRead, TouchWrite, Wants, Give, Leave, Shift, Resign, Holds, talk, events, held}
-use Rattle.jade_meaning.specs.Talk.{when, take_in, first_take, start_holds, start_takes, own_last, creation_gives, enters, kept, given_back, change_gives, shift, shifts, taken_anew, change_takes, changed, end_gives, end_leaves, touched}
+use Rattle.jade_meaning.specs.Talk.{Task, Event, Enter, Enroll, Take, TouchRead, TouchWrite, Wants, Give, Leave, Shift, Resign, Holds, talk, events}
+use Rattle.jade_meaning.specs.Talk.{when, take_in, first_take, start_holds, start_takes, own_last, creation_gives, enters, kept, change_gives, shift, shifts, change_takes, changed, end_gives, end_leaves, touched}
 use Rattle.jade_meaning.specs.Walk.{upcoming, First, act_of, task_of, moved}
 use Rattle.jade_meaning.specs.Walks.{Walk}
 use Rattle.object_shelf.specs.Views.{ObjectView}
@@ -271,7 +271,7 @@ module _ (more_answers : (t : Task) (vs ws : List ℤ) → Extends (talk t vs) (
       subst (Every (Counted all)) (sym d.0) (done, tt)
   step_counted (Enroll t n) s ss new after h d c =
       let born : Few all all t.course =
-          in_front (Born all) s.walker.done (talk (task_of s.walker) s.walker.answers) (Enroll t n) (talk_told all all (task_of s.walker) c.few s.walker.answers).born h in
+      in_front (Born all) s.walker.done (talk (task_of s.walker) s.walker.answers) (Enroll t n) (talk_told all all (task_of s.walker) c.few s.walker.answers).born h in
       let a = one_further s.walker (Enroll t n) h in
       let b = c.made in
       let kid : Counted all (record { path = s.path ++ s.children ∷ []; walker = d.0; children = 0 }) = record {

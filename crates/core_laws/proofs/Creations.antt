@@ -1,5 +1,5 @@
 -- A task creates no more children than it may begin steps. One induction over the statements.
-use Rattle.std.proofs.Common.{◌≡◌, ℕ, zero, suc, ◌<◌, ◌+◌, Bool, true, false, List, [], ◌∷◌, ◌++◌, refl, sym, ap, ◌∙◌, subst, Option, Some, None, arith, length}
+use Rattle.std.proofs.Common.{◌≡◌, ℕ, zero, suc, ◌<◌, ◌+◌, Bool, true, false, List, ◌++◌, refl, sym, subst, Option, Some, None, arith}
 use Rattle.std.proofs.lemmas.Bool.{ltb-true}
 use Rattle.std.specs.Prelude.{ℤ, pos, ◌+ℤ◌, nat_lt, slice_set}
 use Rattle.jade_base.specs.declared.place.Pos.{Pos}
@@ -121,7 +121,7 @@ module _ (all : ℕ) where
       let child = fitted m.spec (drafted m.draft) in
       let begun = child_start (copied names m.env ++ s.given) child in
       let made : Few all (suc (c + r)) (Creates child (body begun) (on (record m { draft = NoDraft }))) =
-          few_create (from_none body b begun refl) (h (record m { draft = NoDraft }) r e) in
+      few_create (from_none body b begun refl) (h (record m { draft = NoDraft }) r e) in
       choose_few (suc c + r) (may_commute child) (create_covered s at names child body on) _ m
       (λ may. choose_few (suc c + r) (covers m.spec child) _ _ m
       (λ q. subst (λ n. Few all n (Creates child (body begun) (on (record m { draft = NoDraft })))) (suc_first c r) made) few_end) few_end

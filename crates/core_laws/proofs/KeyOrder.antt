@@ -1,19 +1,19 @@
 -- The works on an object stand in the serial order of their parts, but those of tasks that commute on it: one induction over a run.
 use Rattle.std.proofs.Common.{◌≡◌, ◌≢◌, ℕ, zero, suc, ◌<◌, Bool, true, false, List, [], ◌∷◌, ◌++◌, Option, Some, None, refl, sym, ap, ◌∙◌, subst, arith, append-nil, append_assoc, le_refl, lt-suc_self, ◌⊎◌, inl, inr}
 use Rattle.std.specs.Prelude.{ℤ, nat_eq, slice_get, if◌then◌else◌}
-use Rattle.std.specs.List.{filter_map, cons_option}
+use Rattle.std.specs.List.{cons_option}
 use Rattle.std.proofs.lemmas.Bool.Decides.{eqb_tells}
 use Rattle.std.proofs.lemmas.Bool.{eq-eqb}
 use Rattle.std.proofs.lemmas.List.Elements.{filter_map-append}
 use Rattle.jade_base.specs.Places.{is_before, key}
 use Rattle.jade_syntax.specs.Abstract.{AbstractProgram}
 use Rattle.jade_syntax.specs.Objects.{sizes}
-use Rattle.jade_meaning.specs.Course.{Course, Reads, Writes, Steps, Creates, Changes, Ends, root_spec, root_course}
+use Rattle.jade_meaning.specs.Course.{Course, root_spec, root_course}
 use Rattle.jade_meaning.specs.Laws.{Every}
 use Rattle.jade_meaning.specs.Proper.{Proper, proper_read, proper_write, proper_step, proper_create, proper_change, proper_end}
 use Rattle.jade_meaning.specs.Serial.{Path, Store, Mark, Deed, DidTurn, DidRead, DidWrite, DidCreate, DidEnd, after, cell, with_cell, zeros}
 use Rattle.jade_meaning.specs.Specification.{Specification, rights_on, objects, commuting_on, allows_commuting}
-use Rattle.jade_meaning.specs.Turns.{Member, World, Ran, at_path, bared, group, others, arranged, turn, turns_taken, settle, settled, settle_all, entered, run, touched_at_once, made_touchable, marks_by, seen_by, kept_from}
+use Rattle.jade_meaning.specs.Turns.{Member, World, at_path, bared, group, others, arranged, turn, turns_taken, settle, settled, settle_all, entered, run, touched_at_once, made_touchable, marks_by, seen_by, kept_from}
 use Rattle.jade_meaning.proofs.Filling.{others_not}
 use Rattle.schedule_core.specs.Works.{Work, Wrote, Turned, work_on, works_on}
 use Rattle.schedule_core.proofs.Ascending.{asym, through}
@@ -207,7 +207,7 @@ module _ (o : ℕ) where
       let new = works_on o d in
       let one = taken ws new c q g.0.0 g.0.1 own there ms h in
       let rest = every_by (λ (m : Member). Ready ws c m × (m.object ≡ o)) (λ (m : Member). Ready (ws ++ new) c m × (m.object ≡ o))
-          (λ m k. (ready_more ws new c q g.0.0 g.0.1 own there m k.0, k.1)) qs g.1 in
+      (λ m k. (ready_more ws new c q g.0.0 g.0.1 own there m k.0, k.1)) qs g.1 in
       subst (λ (x : List Work). State x ms c) (glue o ws d (turns_taken qs (after d s))) (all_taken qs (after d s) (ws ++ new) ms c one rest)
 
   module _ (t : ℕ → List Path) where
@@ -220,14 +220,14 @@ module _ (o : ℕ) where
         go : ((nat_eq x o ≡ true) × (x ≡ o)) ⊎ ((nat_eq x o ≡ false) × (x ≢ o)) → State (ws ++ works_on o (settle t x w)) (others x w.waiting) c
         go (inl e) =
             let each = every_arranged (λ (q : Member). Ready ws c q × (q.object ≡ o)) (t x) (group x w.waiting)
-                (every_two (Ready ws c) (λ (q : Member). q.object ≡ o) (group x w.waiting) (every_group (Ready ws c) x w.waiting h.ready)
-                (every_by (λ (q : Member). q.object ≡ x) (λ (q : Member). q.object ≡ o) (λ q k. k ∙ e.1) (group x w.waiting) (group_of x w.waiting))) in
+            (every_two (Ready ws c) (λ (q : Member). q.object ≡ o) (group x w.waiting) (every_group (Ready ws c) x w.waiting h.ready)
+            (every_by (λ (q : Member). q.object ≡ x) (λ (q : Member). q.object ≡ o) (λ q k. k ∙ e.1) (group x w.waiting) (group_of x w.waiting))) in
             fewer _ (all_taken (arranged (t x) (group x w.waiting)) w.store ws w.waiting c h each)
         go (inr e) =
             let each = every_arranged (Elsewhere o) (t x) (group x w.waiting)
-                (every_two (λ (q : Member). q.object ≢ o) Sole (group x w.waiting)
-                (every_by (λ (q : Member). q.object ≡ x) (λ (q : Member). q.object ≢ o) (λ q k i. e.1 (sym k ∙ i)) (group x w.waiting) (group_of x w.waiting))
-                (every_by (Ready ws c) Sole (λ q k. k.ok.0) (group x w.waiting) (every_group (Ready ws c) x w.waiting h.ready))) in
+            (every_two (λ (q : Member). q.object ≢ o) Sole (group x w.waiting)
+            (every_by (λ (q : Member). q.object ≡ x) (λ (q : Member). q.object ≢ o) (λ q k i. e.1 (sym k ∙ i)) (group x w.waiting) (group_of x w.waiting))
+            (every_by (Ready ws c) Sole (λ q k. k.ok.0) (group x w.waiting) (every_group (Ready ws c) x w.waiting h.ready))) in
             let none = no_works o (settle t x w) (taken_leaves o (arranged (t x) (group x w.waiting)) w.store each) in
             fewer _ (subst (λ (z : List Work). State z w.waiting c) (sym (append-nil ws) ∙ ap (λ (z : List Work). ws ++ z) (sym none)) h)
 
@@ -258,11 +258,14 @@ module _ (o : ℕ) where
     joins ws ms q c d ok lt le s r = record {
       sorted = r.sorted;
       low = r.low;
-      ready = every_append (Ready ws d) ms (q ∷ []) r.ready (record {
-        ok = ok;
-        early = asym (key q.path 0) d le;
-        pending = λ e. every_by (λ (w : Work). is_before c (key_of_work w) ≡ false) (Yields q.path ws) (λ w i. inl (no_later c (key q.path 0) (key_of_work w) lt i)) ws s.low;
-      }, tt);
+      ready = every_append (Ready ws d) ms (q ∷ []) r.ready (
+        record {
+          ok = ok;
+          early = asym (key q.path 0) d le;
+          pending = λ e. every_by (λ (w : Work). is_before c (key_of_work w) ≡ false) (Yields q.path ws) (λ w i. inl (no_later c (key q.path 0) (key_of_work w) lt i)) ws s.low;
+        },
+        tt,
+      );
     }
 
     no_work_last : (ms : List Mark) (m : Mark) → work_on o m.deed m.path m.children ≡ None → works_on o (ms ++ m ∷ []) ≡ works_on o ms

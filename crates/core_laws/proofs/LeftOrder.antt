@@ -1,7 +1,7 @@
 -- The works that are left stand in the order of the live tasks to which they are left, but those of tasks that commute.
-use Rattle.std.proofs.Common.{◌≡◌, ℕ, zero, suc, ◌<◌, ◌≤◌, ◌+◌, Bool, true, false, not, List, [], ◌∷◌, ◌++◌, length, Option, Some, None, refl, sym, ap, ◌∙◌, subst, arith, append-nil, append_assoc, ◌⊎◌, inl, inr}
+use Rattle.std.proofs.Common.{◌≡◌, ℕ, zero, suc, ◌<◌, ◌≤◌, ◌+◌, Bool, true, false, not, List, [], ◌∷◌, ◌++◌, length, Option, Some, None, refl, sym, ap, ◌∙◌, subst, arith, append-nil, append_assoc, inl, inr}
 use Rattle.std.specs.Prelude.{ℤ, nat_eq, nat_lt, slice_get, if◌then◌else◌}
-use Rattle.std.specs.List.{filter_map, cons_option}
+use Rattle.std.specs.List.{cons_option}
 use Rattle.std.proofs.lemmas.Bool.{ltb-true, ltb-false}
 use Rattle.jade_base.specs.Places.{is_before, key}
 use Rattle.jade_syntax.specs.declared.tree.Program.{Program}
@@ -13,7 +13,6 @@ use Rattle.jade_meaning.specs.Laws.{Every}
 use Rattle.jade_meaning.specs.Proper.{Proper}
 use Rattle.jade_meaning.specs.Serial.{Path, Mark, Deed, DidTurn, DidRead, DidWrite, DidCreate, DidEnd, zeros}
 use Rattle.jade_meaning.specs.Turns.{marks_by}
-use Rattle.object_shelf.specs.Order.{stands_before}
 use Rattle.object_shelf.specs.Views.{ObjectView}
 use Rattle.task_roll.specs.declared.note.PartNote.{PartNote}
 use Rattle.schedule_core.specs.declared.steps.Seat.{Seat}
@@ -33,9 +32,8 @@ use Rattle.schedule_core.proofs.Mirrors.{Kept, kept}
 use Rattle.schedule_core.proofs.Order.{Earlier, earlier}
 use Rattle.schedule_core.proofs.OwnParts.{own_later, alone_in}
 use Rattle.schedule_core.proofs.Running.{every_by}
-use Rattle.schedule_core.proofs.Unborn.{own_within}
 use Rattle.core_laws.specs.KeyOrder.{task_of_work, key_of_work, TakesTurn, MayPrecede, WorksStandByKey}
-use Rattle.core_laws.specs.LeftOrder.{IsLeftTo, IsLeftToOne, Owned, LeftInOrder, SomeLeftInOrder}
+use Rattle.core_laws.specs.LeftOrder.{Owned, LeftInOrder, SomeLeftInOrder}
 use Rattle.core_laws.proofs.WhatIsLeft.{what_is_left}
 
 -- what an earlier task has yet to do has the lesser key
@@ -196,12 +194,12 @@ module _ (keeps : (p : AbstractProgram) (ns : List ℤ) (limit : ℕ) → Proper
           let wi = subst (λ (z : List Work). slice_get z (length gone + i) ≡ Some w) (sym first_is) (behind_at gone later i w at_i) in
           let yj = subst (λ (z : List Work). slice_get z (length gone + j) ≡ Some y) (sym first_is) (behind_at gone later j y at_j) in
           let away : NotFrom s.path s.children t.path =
-              λ q is f. apart_at seats x.state.roll x.shown.seated going_on.apart b a t s at_t at_s before t.path
-              (record { rest = []; is = sym (append-nil t.path); from = tt }) (record { rest = q; is = is; from = f }) in
+          λ q is f. apart_at seats x.state.roll x.shown.seated going_on.apart b a t s at_t at_s before t.path
+          (record { rest = []; is = sym (append-nil t.path); from = tt }) (record { rest = q; is = is; from = f }) in
           let ahead = earlier t.path s.path (serial.tasks k seats ss notes r b a t s at_t at_s before) in
           let keys = first_key t.path s.path ahead s.children away ly.child ly.rest lw.child lw.rest lw.from in
           let sooner : is_before (key_of_work y) (key_of_work w) ≡ true =
-              subst (λ (z : Path). is_before z (key_of_work w) ≡ true) (sym ly.key) (subst (λ (z : Path). is_before (t.path ++ (ly.child ∷ ly.rest)) z ≡ true) (sym lw.key) keys) in
+          subst (λ (z : Path). is_before z (key_of_work w) ≡ true) (sym ly.key) (subst (λ (z : Path). is_before (t.path ++ (ly.child ∷ ly.rest)) z ≡ true) (sym lw.key) keys) in
           decide w y all sooner ((by_key (program p) ns limit (and_then ss rest)).order o (length gone + i) (length gone + j) w y wi yj (omega (arith, lt)));
     }
       where

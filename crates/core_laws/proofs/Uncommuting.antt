@@ -9,16 +9,15 @@ use Rattle.jade_syntax.specs.declared.tree.Program.{Program}
 use Rattle.jade_syntax.specs.Abstract.{AbstractProgram}
 use Rattle.jade_syntax.specs.Image.{program}
 use Rattle.jade_syntax.specs.Objects.{sizes}
-use Rattle.jade_meaning.specs.Course.{Course, Reads, Writes, Steps, Creates, Changes, Ends, root_spec, root_course}
-use Rattle.jade_meaning.specs.Laws.{Every, CreatesPlain, NoneCommutes, child_path, root_task}
+use Rattle.jade_meaning.specs.Course.{Course, root_spec, root_course}
+use Rattle.jade_meaning.specs.Laws.{Every, CreatesPlain, NoneCommutes, root_task}
 use Rattle.jade_meaning.specs.Proper.{NoMore, Proper, proper_read, proper_write, proper_step, proper_create, proper_change, proper_end}
 use Rattle.jade_meaning.specs.Serial.{Path, Mark}
 use Rattle.jade_meaning.specs.Specification.{Specification, rights_on, objects, commuting_on}
 use Rattle.jade_meaning.specs.Talk.{Task, Event, Enter, Enroll, Take, TouchRead, TouchWrite, Wants, Give, Leave, Shift, Resign, Holds, talk, events}
 use Rattle.jade_meaning.specs.Talk.{when, take_in, first_take, start_holds, start_takes, own_last, creation_gives, enters, kept, change_gives, shift, shifts, change_takes, changed, end_gives, end_leaves, touched}
 use Rattle.jade_meaning.specs.Turns.{marks_by}
-use Rattle.jade_meaning.specs.Walk.{upcoming, First, task_of, moved}
-use Rattle.jade_meaning.specs.Walks.{Walk}
+use Rattle.jade_meaning.specs.Walk.{upcoming, First, task_of}
 use Rattle.jade_meaning.proofs.Groups.{every_append, every_back}
 use Rattle.jade_meaning.proofs.Uncommuted.{none_commutes}
 use Rattle.object_shelf.specs.declared.queue.Entry.{Entry}
@@ -27,8 +26,8 @@ use Rattle.object_shelf.specs.Views.{ObjectView}
 use Rattle.task_roll.specs.declared.note.PartNote.{PartNote}
 use Rattle.schedule_core.specs.declared.steps.Seat.{Seat}
 use Rattle.schedule_core.specs.ByNumber.{shelf_at}
-use Rattle.schedule_core.specs.EntryRights.{rights_then, rights_after, rights_now, if_some, rights_of, EntriesHaveRights}
-use Rattle.schedule_core.specs.Plain.{Reached, begins, goes_on, Does, seat_after}
+use Rattle.schedule_core.specs.EntryRights.{rights_after, rights_now, if_some, rights_of, EntriesHaveRights}
+use Rattle.schedule_core.specs.Plain.{Reached, begins, goes_on, Does}
 use Rattle.schedule_core.specs.Serially.{IsTask, is_root, is_created, events_done, TasksAreSerial}
 use Rattle.schedule_core.specs.Soundness.{and_then}
 use Rattle.core_laws.proofs.Counting.{in_front, every_at, every_take, every_drop}
@@ -131,7 +130,7 @@ keeps_on (Resign b n) s ss new after h d c = subst (Every Keeps) (sym d.0) tt
 keeps_on (Wants o k) s ss new after h d c = subst (Every Keeps) (sym d.0) (c, tt)
 keeps_on (Enroll t n) s ss new after h d c =
     let born : Proper t.spec t.course =
-        in_front (Fine (Plain (task_of s.walker).spec)) s.walker.done (talk (task_of s.walker) s.walker.answers) (Enroll t n) (talk_fine (task_of s.walker) c s.walker.answers) h in
+    in_front (Fine (Plain (task_of s.walker).spec)) s.walker.done (talk (task_of s.walker) s.walker.answers) (Enroll t n) (talk_fine (task_of s.walker) c s.walker.answers) h in
     subst (Every Keeps) (sym d.2) (subst (λ (u : Task). Proper u.spec u.course) (sym d.1.task) born, (c, tt))
 
 all_keep : (keeps : (p : AbstractProgram) (ns : List ℤ) (limit : ℕ) → Proper (root_spec p) (root_course p ns limit)) (p : Program) (ns : List ℤ) (limit k : ℕ)
@@ -199,8 +198,8 @@ entry_plain keeps p ns limit rights tasks none k roll ss notes r i s live o e th
     let t = task_of s.walker in
     let lists = and_then ss (λ o. []) in
     let plain : Plain t.spec =
-        task_plain (marks_by (program p) ns limit lists) (root_task (program p) ns limit) s.path t (tasks.task k roll ss notes r (λ o. []) i s live) (none lists).each
-        (both_plain (length (sizes p.items))) in
+    task_plain (marks_by (program p) ns limit lists) (root_task (program p) ns limit) s.path t (tasks.task k roll ss notes r (λ o. []) i s live) (none lists).each
+    (both_plain (length (sizes p.items))) in
     let proper = every_at Keeps roll i s live (all_keep keeps p ns limit k roll ss notes r) in
     let fine = first_events (Fine (Plain t.spec)) s.walker.done (talk t s.walker.answers) (talk_fine t proper s.walker.answers) in
     let now = after_plain (Plain t.spec) plain o (events_done s.walker) (rights_on t.spec o) fine (plain o) in

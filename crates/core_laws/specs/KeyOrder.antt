@@ -1,8 +1,6 @@
 -- In which order the works on an object stand.
 use Rattle.std.specs.Prelude.{◌≡◌, ◌<◌, ◌⊎◌, ℕ, false, List, [], ◌∷◌, Some, ℤ, slice_get}
 use Rattle.jade_base.specs.Places.{is_before, key}
-use Rattle.jade_syntax.specs.declared.tree.Program.{Program}
-use Rattle.jade_syntax.specs.Image.{program}
 use Rattle.jade_syntax.specs.Abstract.{AbstractProgram}
 use Rattle.jade_meaning.specs.Serial.{Path}
 use Rattle.jade_meaning.specs.Turns.{marks_by}

@@ -99,7 +99,8 @@ pub(crate) const SEEN: Schedule = Schedule {
 };
 
 /// What a first task does depends on whether a second one that commutes with it went before.
-const COUNTED: &str = "object x : 1; main { withonly { cm(x); } do () { for i in 0 .. x[0] { x[0] = 5; } } withonly { cm(x); } do () { x[0] = 1; } }";
+const COUNTED: &str =
+    "object x : 1; main { withonly { cm(x); } do () { for i in 0 .. x[0] { x[0] = 5; } } withonly { cm(x); } do () { x[0] = 1; } }";
 
 /// In the order of creation it has 18 events.
 pub(crate) const CREATED_FIRST: Schedule = Schedule {
