@@ -106,7 +106,7 @@ def after_main(place):
     if place.expected == {"end"} and place.is_found(*ITEM_WORDS):
         return "Inputs and objects are declared before `main`, and nothing stands after its `}`."
     if place.expected == {"end"}:
-        return f"Nothing stands after `main`, which the `}}` of {at(place.before)} closes: perhaps that is one `}}` too many."
+        return f"Nothing stands after `main`, which the `}}` of {at(place.before)} closes: perhaps one `}}` is too many."
 
 
 def before_main(place):
@@ -256,7 +256,7 @@ def body_without_braces(place):
 
 def semicolon(place):
     if ";" in place.expected and (place.found.line > place.before.line or place.is_found("}") or place.found.kind in ("word", "name")):
-        return f"A `;` is missing after {place.before.told()} in {at(place.before)}."
+        return f"It seems that a `;` is missing after {place.before.told()} in {at(place.before)}."
 
 
 MISTAKES = (
