@@ -4,13 +4,23 @@
     explain.py PROGRAM WORDS < FILE
 
 First stands what the program writes, as it writes it. Where that is a fault or a refusal, the line of
-the text follows with a mark under the place, and one sentence on the cause. `./jade explain WORDS`
-calls this. It ends with the program's status. It proves nothing: what it shows is read off the
-program's answer.
+the text follows with a mark under the place, what the word means, and what more there is to tell: of a
+refused token what could stand there and which usual mistake it may be (mistakes.py), of a name what it
+stands for (names.py), of a fault the values (serial_run.py, which runs the program again, and is believed
+only where it comes to the same fault). Refused words and a wrong count of numbers are explained too.
+`./jade explain WORDS` calls this. It ends with the program's status. It proves nothing.
 """
 import re
-import subprocess
 import sys
+
+import mistakes
+import names
+from jade_text import tokens_of
+from programs import run
+from serial_run import first_fault, uses_cm
+
+# A text nests 64 brackets at most, and an expression has 256 tokens: so deep is what reads it.
+DEPTH = 20_000
 
 # What each word of a refusal means.
 REFUSALS = {
@@ -18,7 +28,7 @@ REFUSALS = {
     "byte": "No token begins with this byte, or it is the 65th byte of a word, which has at most 64.",
     "number": "A number is 0 or begins with 1 to 9, is at most 9223372036854775807, and no letter or _ follows it.",
     "deep": "This bracket would be the 65th that is open at once; at most 64 may be.",
-    "token": "No program goes on with this token after what stands before it; at the end, something is missing.",
+    "token": "No program goes on with this token after what stands before it.",
     "long": "This is the 257th token of one expression; give a part of it to a local first.",
     "name": "This name is not declared here: a task's body sees the items and the names of its do list alone.",
     "twice": "This name is declared already where it stands; all names share one space.",
@@ -35,9 +45,20 @@ FAULTS = {
     "object": "The family has no member of this number; members are numbered from 0.",
     "right": "The task has no immediate right to this access: declare it in its withonly, or make it immediate by a with.",
     "cover": "The child declares a right that its creator does not have itself, or has given up.",
+    "commute": "A task that declares cm declares beside it only reads of other objects, creates no task, and does not change its rights.",
     "change": "The with asks for a right that the task does not have: it was not declared, or was given up.",
-    "limit": "One step more than LIMIT would be begun; a step is a statement or a turn of a loop.",
+    "limit": "One step more than LIMIT would be begun, and a larger LIMIT allows it; a step is a statement or a turn of a loop.",
 }
+
+# The words of each command, and the most that those may be which are numbers from 1 on.
+FORMS = {
+    "run": ("WORKERS", "LIMIT", "NUMBER*"),
+    "serial": ("LIMIT", "NUMBER*"),
+    "check": (),
+    "show": (),
+    "drill": ("TASKS", "WORKERS"),
+}
+MOSTS = {"WORKERS": 64, "LIMIT": 4294967295, "TASKS": 10000}
 
 # How much of a long line is shown on either side of the place, in bytes.
 WINDOW = 60
@@ -57,33 +78,112 @@ def line_with_mark(text, line, column):
     return f"{margin}{cut_before}{shown[0]}{shown[1]}{cut_after}\n{' ' * (len(margin) - 2)}| {blank}^\n"
 
 
-def explanation(text, answer):
-    """What is added to an answer: nothing, where it is neither a fault nor a refusal."""
+def at_place(text, line, column):
+    """The number of the byte at a place."""
+    return sum(len(it) + 1 for it in text.split(b"\n")[: line - 1]) + column - 1
+
+
+def more_of_refusal(text, word, line, column):
+    """What more is told of a refused place."""
+    if word == "token":
+        return mistakes.of_token(text, line, column)
+    if word == "byte":
+        return mistakes.of_byte(text, at_place(text, line, column))
+    if word == "number":
+        return mistakes.of_number(text, at_place(text, line, column))
+    if word in ("name", "twice", "kind", "assign", "size"):
+        return names.of_place(text, word, line, column)
+    return None
+
+
+def same_fault(text, words, place, word, path):
+    """The fault as a run here finds it, where that is the same one; none for a run whose updates may come in another order."""
+    limit, *numbers = words[2:] if words[0] == "run" else words[1:]
+    if words[0] == "run" and uses_cm(text):
+        return None
+    fault = first_fault(text, [int(number) for number in numbers], int(limit))
+    if fault and (fault.kind, fault.task.path, fault.token and fault.token.place) == (word, path, place):
+        return fault
+    return None
+
+
+def why_fault(text, words, place, word, path):
+    """What is told of a fault."""
+    fault = same_fault(text, words, place, word, path)
+    whose = "main" if path == "0" else f"the task {path}"
+    if not fault:
+        return f"{FAULTS[word]} It is the first fault in serial order, in {whose}."
+    return f"{FAULTS[word]} {fault.told}. It is the first fault in serial order, in {fault.task.told()}."
+
+
+def is_count(word, most):
+    return re.fullmatch(r"[1-9][0-9]*", word) is not None and int(word[:20]) <= most and len(word) < 20
+
+
+def why_word(name, word, most):
+    """What is wrong with a word that is a number from 1 to the most, or nothing."""
+    return None if is_count(word, most) else f"{name} is a number from 1 to {most}, and not `{word}`."
+
+
+def why_usage(words):
+    """What is wrong with words that are refused."""
+    if not words or words[0] not in FORMS:
+        told = f"`{words[0]}` is no command" if words else "A command is missing"
+        return f"{told}; the commands are {', '.join(FORMS)}."
+    form = FORMS[words[0]]
+    wanted = [name for name in form if name != "NUMBER*"]
+    for name, word in zip(wanted, words[1:]):
+        told = why_word(name, word, MOSTS[name])
+        if told:
+            return told
+    if len(words) - 1 < len(wanted):
+        return f"{wanted[len(words) - 1]} is missing: the words are `{' '.join((words[0], *form))}`."
+    if len(form) == len(wanted):
+        return f"`{words[len(wanted) + 1]}` is one word too many: the words are `{' '.join((words[0], *form))}`."
+    for word in words[len(wanted) + 1 :]:
+        if not re.fullmatch(r"0|-?[1-9][0-9]*", word) or not -(2**63) <= int(word[:30]) < 2**63:
+            return f"A NUMBER is an int of 64 bits, written without needless signs and zeros, and not `{word}`."
+    return "There are at most 64 NUMBERs."
+
+
+def why_numbers(text):
+    """Which numbers a program wants."""
+    tokens = tokens_of(text)
+    inputs = [f"`{name.text}`" for word, name in zip(tokens, tokens[1:]) if word.text == "input" and word.kind == "word"]
+    return f"One NUMBER is given for each input, after LIMIT: {', '.join(inputs)}." if inputs else "The program has no inputs."
+
+
+def explanation(text, words, answer):
+    """What is added to an answer: nothing, where there is nothing to explain."""
     fault = re.fullmatch(r"fault (?:([0-9]+):([0-9]+) )?([a-z]+) task ([0-9.]+)\n", answer)
     refusal = re.fullmatch(r"refused ([0-9]+):([0-9]+) ([a-z]+)\n", answer)
-    if refusal:
-        line, column, word = refusal.groups()
-        why = REFUSALS[word]
-    elif fault:
-        line, column, word, task = fault.groups()
-        whose = "main" if task == "0" else f"the task {task}"
-        why = f"{FAULTS[word]} It is the first fault in serial order, in {whose}."
-    else:
+    if answer == "usage\n":
+        return f"usage: {why_usage(words)}\n"
+    if answer.startswith("numbers: "):
+        return f"numbers: {why_numbers(text)}\n"
+    if not fault and not refusal:
         return ""
-    place = line_with_mark(text, int(line), int(column)) if line and word != "text" else ""
-    return f"{place}{word}: {why}\n"
+    line, column, word = (refusal or fault).groups()[:3]
+    place = (int(line), int(column)) if line else None
+    if refusal:
+        more = more_of_refusal(text, word, *place)
+        why = more if more and word == "token" else f"{REFUSALS[word]} {more or ''}".rstrip()
+    else:
+        why = why_fault(text, words, place, word, fault[4])
+    shown = line_with_mark(text, *place) if place and word != "text" else ""
+    return f"{shown}{word}: {why}\n"
 
 
 def main():
+    sys.setrecursionlimit(DEPTH)
     program, *words = sys.argv[1:]
     text = sys.stdin.buffer.read()
-    ran = subprocess.run([program, *words], input=text, stdout=subprocess.PIPE)
-    sys.stdout.buffer.write(ran.stdout)
-    if ran.returncode in (1, 2):
-        answer = ran.stdout.decode("ascii", "replace")
-        sys.stdout.buffer.write(explanation(text, answer).encode())
+    ran = run([program, *words], text)
+    sys.stdout.buffer.write(ran.written)
+    if ran.status in (1, 2, 3, 4):
+        sys.stdout.buffer.write(explanation(text, words, ran.text).encode())
     sys.stdout.buffer.flush()
-    return ran.returncode
+    return ran.status
 
 
 if __name__ == "__main__":

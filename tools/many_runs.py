@@ -7,9 +7,9 @@ The program has 200 tasks on three objects, each of which reads one and changes 
 waits for others. No task may be lost: each run must end, with the text of `serial`. The last line says how many
 runs there were; the script ends with 1 at the first run that differs.
 """
-import os
-import subprocess
 import sys
+
+from programs import built, run
 
 PROGRAM = """objects few[3] : 2;
 main {
@@ -24,19 +24,17 @@ main {
 LIMIT = "100000"
 
 
-def run(jade, words):
-    done = subprocess.run([jade, *words, LIMIT], input=PROGRAM.encode(), capture_output=True, timeout=60)
-    return done.returncode, done.stdout.decode()
+def answer(jade, words):
+    return run([jade, *words, LIMIT], PROGRAM, seconds=60, is_quiet=True).answer
 
 
 def main():
     runs = int(sys.argv[1]) if len(sys.argv) > 1 else 1000
     workers = sys.argv[2] if len(sys.argv) > 2 else "64"
-    top = os.path.dirname(os.path.dirname(os.path.abspath(__file__)))
-    jade = sys.argv[3] if len(sys.argv) > 3 else os.path.join(top, "crates/jade/out/jade")
-    wanted = run(jade, ["serial"])
+    jade = sys.argv[3] if len(sys.argv) > 3 else built()
+    wanted = answer(jade, ["serial"])
     for number in range(runs):
-        got = run(jade, ["run", workers])
+        got = answer(jade, ["run", workers])
         if got != wanted:
             print(f"serial: {wanted}\nrun {workers}: {got}\nmany_runs: run {number} differs")
             return 1

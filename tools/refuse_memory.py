@@ -18,7 +18,7 @@ import subprocess
 import sys
 import tempfile
 
-TOP = pathlib.Path(__file__).resolve().parent.parent
+from programs import built, run
 
 LIBRARY = r"""
 typedef unsigned long size;
@@ -100,18 +100,18 @@ def library(folder):
     return None
 
 
-def run(jade, made, number, words, text):
+def run_refused(jade, made, number, words, text):
     """Status, text and whether an allocation was refused."""
     told = dict(os.environ, LD_PRELOAD=str(made), REFUSED_ALLOCATION=str(number))
-    done = subprocess.run([jade, *words], input=text.encode(), capture_output=True, timeout=60, env=told)
-    return done.returncode, done.stdout.decode(), b"refused" in done.stderr
+    done = run([jade, *words], text, seconds=60, told=told, is_quiet=True)
+    return *done.answer, b"refused" in done.errors
 
 
 def refuse_all(jade, made, words, text, wanted):
     """Refuses each allocation of a run; whether it always ended as it must."""
     ends = {0: 0, 7: 0}
     for number in range(1, 100_000):
-        status, written, was_refused = run(jade, made, number, words, text)
+        status, written, was_refused = run_refused(jade, made, number, words, text)
         if (status, written) not in ((0, wanted), (7, "")):
             print(f"{' '.join(words)}: with allocation {number} refused it ends with {status} and writes {written!r}")
             return False
@@ -123,7 +123,7 @@ def refuse_all(jade, made, words, text, wanted):
 
 
 def main():
-    jade = sys.argv[1] if len(sys.argv) > 1 else str(TOP / "crates/jade/out/jade")
+    jade = sys.argv[1] if len(sys.argv) > 1 else built()
     with tempfile.TemporaryDirectory() as folder:
         made = library(pathlib.Path(folder))
         if made is None:

@@ -10,10 +10,10 @@ and a limit stops some of them; the others end well. Each is run by `serial` and
 text and status must be the same. The first program that
 differs is printed with both answers, and the script ends with 1.
 """
-import os
 import random
-import subprocess
 import sys
+
+from programs import built, run
 
 
 class Maker:
@@ -163,24 +163,22 @@ class Maker:
             self.put(at, f"with {{ {' '.join(words)} }} cont;")
 
 
-def run(jade, words, text):
-    done = subprocess.run([jade, *words], input=text.encode(), capture_output=True, timeout=60)
-    return done.returncode, done.stdout.decode()
+def answer(jade, words, text):
+    return run([jade, *words], text, seconds=60, is_quiet=True).answer
 
 
 def main():
     count = int(sys.argv[1]) if len(sys.argv) > 1 else 300
     seed = int(sys.argv[2]) if len(sys.argv) > 2 else 1
-    top = os.path.dirname(os.path.dirname(os.path.abspath(__file__)))
-    jade = sys.argv[3] if len(sys.argv) > 3 else os.path.join(top, "crates/jade/out/jade")
+    jade = sys.argv[3] if len(sys.argv) > 3 else built()
     ends, refused = {}, 0
     for number in range(count):
         maker = Maker(number, seed)
         text, limit = maker.program(), maker.limit()
-        wanted = run(jade, ["serial", limit], text)
+        wanted = answer(jade, ["serial", limit], text)
         ends[wanted[0]] = ends.get(wanted[0], 0) + 1
         workers = str(number % 8 + 1)
-        got = run(jade, ["run", workers, limit], text)
+        got = answer(jade, ["run", workers, limit], text)
         if got != wanted:
             print(text)
             print(f"serial {limit}: {wanted}")

@@ -5,7 +5,7 @@ The lines are those of a serial run, in which each task runs whole where it is c
     object NUMBER NAME             the name of an object
     create PATH STEPS CHILD LINE   a task creates a child, whose withonly stands in this line
     declares CHILD OBJECT RIGHTS   what the child declares
-    take PATH STEPS OBJECT MODE    it takes an object, for reading or for writing
+    take PATH STEPS OBJECT MODE    it takes an object, for reading, writing or commuting
     give PATH STEPS OBJECT         it gives an object back
     change PATH STEPS              its rights change by a with
     shift PATH OBJECT RIGHTS       what they change to
@@ -18,7 +18,12 @@ Where all runs as soon as it may, on any number of workers, what counts is not t
 moment is how many steps lie on the longest chain before it, and beside it how many waits lie there since
 the last step. A line of the text comes after all that its task has to wait for, so that one reading gives
 the moment of each.
+
+Tasks that commute on an object wait for one another too, one at a time but in no order: that is no arrow,
+and the chain leaves it out.
 """
+
+MODES = ("writing", "reading", "commuting")
 
 
 class Source:
@@ -56,7 +61,9 @@ class Entry:
 
     def conflicts(self, mode):
         """Whether it keeps a later entry from being taken in this mode."""
-        return self.changes() or (mode == "writing" and bool(self.rights) and not self.version)
+        if "cm" in self.rights:
+            return mode != "commuting"
+        return self.changes() or (mode != "reading" and bool(self.rights) and not self.version)
 
 
 class Task:
@@ -66,7 +73,11 @@ class Task:
         self.path, self.line, self.created, self.creator = path, line, moment, creator
         self.known = len(creator.waits) if creator else 0
         self.steps, self.moment, self.asks, self.entries, self.waits = 0, moment, [], {}, {}
-        self.boxes, self.group = [], None
+        self.boxes, self.group, self.declared = [], None, {}
+
+    def commutes_on(self):
+        """The object that it updates in any order with others, if it does."""
+        return next((number for number, rights in self.declared.items() if "cm" in rights), None)
 
     def has_waited(self, source):
         """Whether it is known to come after this: it or a creator of it has waited for that."""
@@ -133,7 +144,9 @@ class Tasks:
         task = self.by_path[path]
         above = self.entry(task.creator, number)
         version = above.version and not above.changes()
-        task.entries[number] = Entry(set(rights.split(",")), version)
+        # A commuting update is told by no word or by its own.
+        task.declared[number] = set((rights or "cm").split(","))
+        task.entries[number] = Entry(set(task.declared[number]), version)
 
     def read_take(self, path, steps, number, mode):
         task = self.go_on(path, steps, ("take", number, mode))
@@ -145,9 +158,9 @@ class Tasks:
         task.asks[-1] += (others,)
         self.arrive(task, number, others, news)
         if mode == "reading" and not entry.version:
-            before = entry.conflicts("writing")
+            before = [entry.conflicts(mode) for mode in MODES]
             entry.version = True
-            self.release(task, number, entry, before, False, False)
+            self.release(task, number, entry, before, False)
 
     def is_above(self, other, task):
         """Whether one is the other, or an ancestor of it."""
@@ -198,10 +211,10 @@ class Tasks:
         elif arrow.source.moment < source.moment:
             arrow.source, arrow.objects = source, [number]
 
-    def release(self, task, number, entry, for_writing, for_reading, is_end):
+    def release(self, task, number, entry, conflicted, is_end):
         """An entry has changed: where it kept others from a take before and does no more, from here on."""
         source = Source(task, task.moment, len(task.asks) - 1, is_end)
-        for mode, before in (("writing", for_writing), ("reading", for_reading)):
+        for mode, before in zip(MODES, conflicted):
             if before and not entry.conflicts(mode):
                 front = self.front.setdefault((number, mode), {})
                 for other in entry.waited:
@@ -210,9 +223,9 @@ class Tasks:
 
     def shift(self, task, number, rights, is_end):
         entry = self.entry(task, number)
-        before = entry.conflicts("writing"), entry.conflicts("reading")
+        before = [entry.conflicts(mode) for mode in MODES]
         entry.rights = rights
-        self.release(task, number, entry, *before, is_end)
+        self.release(task, number, entry, before, is_end)
 
     def read_give(self, path, steps, number):
         task = self.go_on(path, steps, ("give", number))
@@ -248,13 +261,33 @@ class Tasks:
     def chain(self):
         return max(task.moment[0] for task in self.tasks)
 
+    def commuting(self):
+        """By object: the tasks that update it in any order, in the order of their creation."""
+        found = {}
+        for task in self.tasks:
+            if task.commutes_on() is not None:
+                found.setdefault(task.commutes_on(), []).append(task)
+        return found
+
+    def by_line(self):
+        """By the line of their `withonly`, the tasks in the order of their creation; `main` has the line 0."""
+        found = {}
+        for task in self.tasks:
+            found.setdefault(task.line, []).append(task)
+        return found
+
     def verdict(self):
         """The numbers, as a line."""
         most = self.sum() / self.chain() if self.chain() else 1
         return (
-            f"{len(self.tasks)} tasks; sum of steps {self.sum()}; longest chain {self.chain()}; quotient "
+            f"{counted(len(self.tasks), 'task')}; sum of steps {self.sum()}; longest chain {self.chain()}; quotient "
             f"{most:.2f}: no number of workers gains more than that"
         )
+
+
+def counted(number, what):
+    """A number with its noun."""
+    return f"{number} {what}" + ("" if number == 1 else "s")
 
 
 def told(task):

@@ -1,7 +1,7 @@
 #!/usr/bin/env python3
 """Draws what each task of a program did when, in one run.
 
-    timeline.py PROGRAM TASK_GRAPH TIME_LINE WORKERS LIMIT NUMBER* < FILE > PICTURE.svg
+    timeline.py svg|page PROGRAM TASK_GRAPH TIME_LINE WORKERS LIMIT NUMBER* < FILE > PICTURE
 
 PROGRAM is the proved program; it runs the text first, and a fault or a refusal is told on standard error
 as `explain` tells it, with its status, and no picture is written. TIME_LINE, the program of
@@ -12,23 +12,29 @@ crates/time_line, runs it again and prints, in the order of the notes:
     LABEL = NUMBER*                an object and its cells
 
 ASK counts from 0 for each task, and TIME is in nanoseconds. TASK_GRAPH, the program of crates/task_graph,
-tells what these asks are. `./jade timeline WORKERS LIMIT NUMBER*` calls this. docs/GUIDE.md says how to read
-the picture. It proves nothing.
+tells what these asks are. Up to 60 tasks have each a row of their own; of more, those of one `withonly` share one,
+which shows how many of them ran at a time, and how many waited. `./jade timeline WORKERS LIMIT NUMBER*` and `./jade
+page timeline ..` call this. docs/GUIDE.md says how to read the picture. It proves nothing.
 
 What is drawn follows from the notes so: A task can't have an object that it asks for before the last of
 those that keep it from the object comes to the ask by which it lets go; until then it waits. The worker
 that notes the next ask of the task had it in hand then; it is drawn as running from the time at which it
-could go on and this worker had come to the last ask of what it did before. In between it is ready.
+could go on and this worker had come to the last ask of what it did before. In between it is ready. A task that
+commutes waits, too, until the one that had the object last before it has let go of it.
 """
+import bisect
 import sys
 
-from graph import MOST_TASKS, lines_of, refuse, run
-from picture import LINE, Picture, short, width
-from task_lines import Tasks, told
+from graph import MOST_TASKS, groups_of, lines_of, refuse
+from page import page
+from picture import LINE, Picture, most_at_once, shares, short, steps_of, width
+from programs import run
+from task_lines import Tasks, counted, told
 
-# The width of the time and the most of the names to its left, the heights of a row and of the busy share,
-# and the room above.
-WIDE, NAMES, ROW, SHARE, TOP = 860, 170, 18, 56, 62
+# The width of the time and the most of the names to its left, the heights of a row, of the busy share and of
+# the row of a line with how many of its tasks wait and run, and the room above.
+WIDE, NAMES, ROW, SHARE, TOP = 860, 210, 18, 56, 62
+GROUP, WAITING, RUNNING = 46, 14, 24
 
 COLOURS = {"runs": "#8fbfc0", "waits": "#f5c26b", "ready": "#d9dce3"}
 
@@ -57,7 +63,7 @@ class Times:
         # By task and ask: when it was come to, and when the task had what it asked for at the soonest; by
         # path, when a task was created.
         self.came = {(tasks.by_path[path], int(ask)): int(time) - first for path, ask, time, _ in notes}
-        self.had, self.created = {}, {"0": 0}
+        self.had, self.created, self.let_go = {}, {"0": 0}, self.times_of_commuting()
         for task, ask in tasks.asks:
             self.had[task, ask] = self.had_at(task, ask)
             if task.asks[ask][0] == "create":
@@ -69,11 +75,25 @@ class Times:
             self.go_on(tasks.by_path[path], int(ask), worker, free.get(worker, 0))
             free[worker] = self.came[tasks.by_path[path], int(ask)]
 
+    def times_of_commuting(self):
+        """By object, when tasks that update it in any order let go of it, in the order of these times."""
+        found = {}
+        for number, group in self.tasks.commuting().items():
+            asks = [(task, at) for task in group for at, ask in enumerate(task.asks) if ask[:2] == ("give", number)]
+            found[number] = sorted(self.came[it] for it in asks if it in self.came)
+        return found
+
     def had_at(self, task, ask):
         """When a task had what it asked for: at once, but where others keep it from an object."""
         what = task.asks[ask]
         sources = what[3] if what[0] == "take" else []
-        return max([self.came[task, ask]] + [self.had[source.task, source.ask] for source in sources])
+        had = max([self.came[task, ask]] + [self.had[source.task, source.ask] for source in sources])
+        if what[0] == "take" and what[2] == "commuting" and (task, ask + 1) in self.came:
+            times = self.let_go.get(what[1], [])
+            before = bisect.bisect_right(times, self.came[task, ask + 1])
+            # The last that let go before this one went on; its own time is later.
+            had = max([had] + times[max(0, before - 1) : before])
+        return had
 
     def go_on(self, task, ask, worker, free):
         """A worker comes with a task to an ask; what the task did since its last one."""
@@ -103,23 +123,14 @@ class Times:
     def of(self, kind):
         return [bar for bar in self.bars if bar.kind == kind]
 
-    def busy(self):
-        """How many workers have a task, from each time on."""
-        changes = sorted([(bar.begin, 1) for bar in self.of("runs")] + [(bar.end, -1) for bar in self.of("runs")])
-        count, found = 0, []
-        for time, more in changes:
-            count += more
-            found.append((time, count))
-        return found
-
     def verdict(self):
         """The numbers, as a line."""
         ran, waited = (sum(bar.end - bar.begin for bar in self.of(kind)) for kind in ("runs", "waits"))
         share = 100 * ran / max(1, self.over * self.workers)
-        workers = f"{self.workers} worker" + ("" if self.workers == 1 else "s")
+        workers = counted(self.workers, "worker")
         return (
-            f"{len(self.tasks.tasks)} tasks by {workers} in {spelled(self.over)}; the workers had tasks for {share:.0f} % "
-            f"of the time; the tasks waited {spelled(waited)} in all"
+            f"{counted(len(self.tasks.tasks), 'task')} by {workers} in {spelled(self.over)}; the workers had tasks for {share:.0f} % "
+            f"of the time; the waits of all tasks added up are {spelled(waited)}"
         )
 
 
@@ -141,66 +152,97 @@ def round_step(time):
 
 
 class TimePicture:
-    """The picture of the times."""
+    """The picture of the times: what all forms of it have, and a row for each task."""
 
     def __init__(self, times, words):
         self.times, self.picture = times, Picture()
-        tasks = times.tasks.tasks
-        self.left = 20 + min(NAMES, max(width(name) for name in [self.name(task) for task in tasks] + ["worker 64"]) + 14)
+        self.rows = self.names()
+        self.left = 20 + min(NAMES, max(width(name) for name in [*self.rows.values(), *self.more_names()]) + 14)
         self.crew = TOP + SHARE + 30
         self.above = self.crew + times.workers * ROW + 12
-        self.rows = {task: self.above + place * ROW for place, task in enumerate(tasks)}
-        self.below = self.above + len(tasks) * ROW
+        self.below = self.above + len(self.rows) * self.row()
         self.picture.text(20, 24, f"What each task did when: ./jade timeline {' '.join(words)}", size=14, bold=True)
         self.picture.text(20, 44, times.verdict())
 
-    def name(self, task):
-        return told(task) + (f" line {task.line}" if task.line else "")
+    def row(self):
+        """The height of a row."""
+        return ROW
+
+    def names(self):
+        """By what has a row, how it is called."""
+        return {task: told(task) + (f" line {task.line}" if task.line else "") for task in self.times.tasks.tasks}
+
+    def more_names(self):
+        """What else stands at the left."""
+        return ["worker 64"]
 
     def x(self, time):
         return self.left + WIDE * time / max(1, self.times.over)
 
-    def svg(self):
+    def draw(self):
         self.draw_share()
         self.draw_ticks()
         for worker in range(self.times.workers):
             self.picture.text(20, self.crew + worker * ROW + 13, f"worker {worker + 1}", "#555")
-        for task, y in self.rows.items():
-            self.picture.text(20, y + 13, short(self.name(task), self.left - 26))
-        for bar in self.times.bars:
-            self.draw(bar)
+            self.draw_worker(worker + 1, self.crew + worker * ROW)
+        self.draw_rows()
         for place, (kind, text) in enumerate(LEGEND):
             y = self.below + 16 + place * (LINE + 3)
             self.picture.box(20, y, 22, 11, COLOURS[kind])
             self.picture.text(50, y + 10, f"{kind}: {text}", "#555")
-        return self.picture.svg()
+        return self.picture
 
-    def draw(self, bar):
-        """A bar in the row of its task; a run also in that of its worker."""
-        label = self.times.tasks.names[bar.number] if bar.kind == "waits" else ""
-        if bar.kind == "runs":
-            self.draw_bar(bar, self.crew + (bar.worker - 1) * ROW, told(bar.task))
-            label = str(bar.worker)
-        self.draw_bar(bar, self.rows[bar.task], label)
+    def draw_worker(self, worker, y):
+        """The runs of a worker; those of less than a point that follow each other are drawn as one."""
+        small = []
+        for bar in sorted((bar for bar in self.times.of("runs") if bar.worker == worker), key=lambda bar: bar.begin):
+            if small and self.x(bar.begin) - self.x(small[-1].end) > 0.5 or self.x(bar.end) - self.x(bar.begin) > 1:
+                self.draw_small(small, y)
+                small = []
+            if self.x(bar.end) - self.x(bar.begin) > 1:
+                self.draw_bar(bar, y, told(bar.task))
+            else:
+                small.append(bar)
+        self.draw_small(small, y)
+
+    def draw_small(self, bars, y):
+        if bars:
+            tip = f"{counted(len(bars), 'run')} by worker {bars[0].worker}, from {spelled(bars[0].begin)} on"
+            x, end = self.x(bars[0].begin), self.x(bars[-1].end)
+            self.picture.box(x, y + 2, end - x, ROW - 4, COLOURS["runs"], tip=tip, of=told(bars[0].task) if len(bars) == 1 else "")
+
+    def draw_rows(self):
+        places = {task: self.above + place * ROW for place, task in enumerate(self.rows)}
+        for task, y in places.items():
+            self.picture.text(20, y + 13, short(self.rows[task], self.left - 26))
+        for bar in self.times.bars:
+            label = self.times.tasks.names[bar.number] if bar.kind == "waits" else str(bar.worker or "")
+            self.draw_bar(bar, places[bar.task], label)
 
     def draw_bar(self, bar, y, label):
-        x, wide = self.x(bar.begin), max(0.7, self.x(bar.end) - self.x(bar.begin))
+        """A bar, and in it its label, where it has room for that."""
+        x, wide = self.x(bar.begin), self.x(bar.end) - self.x(bar.begin)
         what = {"runs": f"runs by worker {bar.worker}", "waits": f"waits for {label}", "ready": "is ready"}[bar.kind]
         tip = f"{told(bar.task)} {what} for {spelled(bar.end - bar.begin)}, from {spelled(bar.begin)} on"
-        self.picture.box(x, y + 2, wide - 0.6 if wide > 3 else wide, ROW - 4, COLOURS[bar.kind], tip=tip)
+        self.picture.box(x, y + 2, wide, ROW - 4, COLOURS[bar.kind], "white" if wide > 3 else "none", 0.5, tip, told(bar.task))
         if label and width(label) + 8 < wide:
             self.picture.text(x + 4, y + 13, label)
 
     def draw_share(self):
         """How many workers have a task."""
         times, bottom = self.times, TOP + SHARE
-        way = f"M{self.left:.1f} {bottom}"
-        for time, count in times.busy():
-            way += f" H{self.x(time):.1f} V{bottom - SHARE * count / times.workers:.1f}"
+        runs = [(WIDE * bar.begin / max(1, times.over), WIDE * bar.end / max(1, times.over)) for bar in times.of("runs")]
         self.picture.box(self.left, TOP, WIDE, SHARE, "#f3f4f7", "#ccd")
-        self.picture.shapes.append(f'<path d="{way} V{bottom} Z" fill="#8fbfc0"/>')
+        self.draw_area(shares(runs, WIDE), bottom, SHARE / times.workers, COLOURS["runs"])
         self.picture.text(self.left - 8, TOP + 10, f"{times.workers} busy", "#555", anchor="end")
         self.picture.text(self.left - 8, bottom, "0 busy", "#555", anchor="end")
+
+    def draw_area(self, found, bottom, unit, colour, tip=""):
+        """How many there are, over the time: so many units upwards."""
+        way = f"M{self.left:.1f} {bottom:.1f}"
+        for band, share in steps_of(found):
+            way += f" H{self.left + band:.1f} V{bottom - unit * share:.1f}"
+        self.picture.path(f"{way} H{self.left + len(found):.1f} V{bottom:.1f} Z", "none", 0, tip=tip, fill=colour)
 
     def draw_ticks(self):
         """The times, with a line downwards for each."""
@@ -211,21 +253,62 @@ class TimePicture:
         self.picture.reach(self.left + WIDE + 30, self.below)
 
 
+class TimeLines(TimePicture):
+    """The picture of many tasks: a row for each line of a `withonly`."""
+
+    def row(self):
+        return GROUP
+
+    def names(self):
+        self.groups = dict(groups_of(self.times.tasks))
+        return {name: f"{name}: {counted(len(group), 'task')}" for name, group in self.groups.items()}
+
+    def more_names(self):
+        return ["up to 100 wait or are ready"]
+
+    def draw_rows(self):
+        line_of = {task: name for name, group in self.groups.items() for task in group}
+        spans = {}
+        for bar in self.times.bars:
+            span = (WIDE * bar.begin / max(1, self.times.over), WIDE * bar.end / max(1, self.times.over))
+            spans.setdefault((line_of[bar.task], bar.kind), []).append(span)
+        for place, (name, text) in enumerate(self.rows.items()):
+            self.draw_line(name, text, self.above + place * GROUP, spans)
+
+    def draw_line(self, name, text, y, spans):
+        """How many of the tasks of a line wait or are ready at a time, and below how many run."""
+        of = {kind: spans.get((name, kind), []) for kind in ("runs", "waits", "ready")}
+        runs, waits, both = (shares(it, WIDE) for it in (of["runs"], of["waits"], of["waits"] + of["ready"]))
+        most, idle = most_at_once(of["runs"]), most_at_once(of["waits"] + of["ready"])
+        tip = f"{text}; at a time up to {most} run, up to {most_at_once(of['waits'])} wait, up to {idle} wait or are ready"
+        self.picture.box(self.left, y + 2, WIDE, GROUP - 4, "#fbfbfc", "#eef", 1, tip, name)
+        middle, bottom = y + 2 + WAITING, y + GROUP - 4
+        if max(both) > 0:
+            self.draw_area(both, middle, WAITING / max(both), COLOURS["ready"], tip)
+            self.draw_area(waits, middle, WAITING / max(both), COLOURS["waits"], tip)
+        self.draw_area(runs, bottom, RUNNING / self.times.workers, COLOURS["runs"], tip)
+        self.picture.text(20, y + 13, short(text, self.left - 26), bold=True)
+        self.picture.text(20, y + 13 + LINE, short(f"up to {idle} wait or are ready", self.left - 26), "#555")
+        self.picture.text(20, y + 13 + 2 * LINE, short(f"up to {most} run", self.left - 26), "#555")
+
+
+def drawn(times, words):
+    """The picture of the times."""
+    return (TimePicture if len(times.tasks.tasks) <= MOST_TASKS else TimeLines)(times, words).draw()
+
+
 def main():
-    program, task_graph, time_line, *words = sys.argv[1:]
+    form, program, task_graph, time_line, *words = sys.argv[1:]
     text = sys.stdin.buffer.read()
     status = refuse(program, ["run", *words], text)
     if status:
         return status
     ran = run([time_line, *words], text)
-    if ran.returncode:
-        sys.exit(f"jade: the times could not be told (status {ran.returncode})")
+    if ran.status:
+        sys.exit(f"jade: the times could not be told (status {ran.status})")
     tasks = Tasks(lines_of(task_graph, words[1:], text))
-    times = Times(tasks, ran.stdout.decode("ascii").splitlines(), int(words[0]))
-    if len(tasks.tasks) > MOST_TASKS:
-        sys.stderr.write(f"{times.verdict()}\nmore than {MOST_TASKS} tasks are not drawn\n")
-        return 0
-    sys.stdout.buffer.write(TimePicture(times, words).svg().encode())
+    picture = drawn(Times(tasks, ran.text.splitlines(), int(words[0])), words)
+    sys.stdout.buffer.write((page(picture, tasks) if form == "page" else picture.svg()).encode())
     return 0
 
 

@@ -3,11 +3,12 @@
 
 ghost use Rattle.std.specs.Prelude.{◌≡◌};
 
+use bstr::ByteSlice;
 use jade_base::Memory;
 use std::alloc::{AllocError, AllocFailed, Global};
 use std::io;
 use std::num::ParseIntError;
-use std::str::Utf8Error;
+use std::str::{self, Utf8Error};
 
 /// Why the cases could not be run to their end.
 #[derive(Clone, Copy, Debug, PartialEq, Eq)]
@@ -83,27 +84,27 @@ impl CaseText {
         }
     }
 
-    /// Puts a line last.
-    pub fn put(&mut self, line: &str) -> Result<(), Stop> {
-        if let Some(rest) = line.strip_prefix("* ") {
+    /// Puts a line last, whatever its bytes are.
+    pub fn put(&mut self, line: &[u8]) -> Result<(), Stop> {
+        if let Some(rest) = line.strip_prefix(b"* ") {
             return self.repeat(rest);
         }
         if !self.is_joined {
             self.bytes.push(b'\n')?;
         }
         self.is_joined = false;
-        self.bytes.extend_from_slice(line.as_bytes())?;
+        self.bytes.extend_from_slice(line)?;
         Ok(())
     }
 
     // Puts so many times a piece last.
-    fn repeat(&mut self, rest: &str) -> Result<(), Stop> {
-        let Some((count, piece)) = rest.split_once(' ') else {
+    fn repeat(&mut self, rest: &[u8]) -> Result<(), Stop> {
+        let Some((count, piece)) = rest.split_once_str(b" ") else {
             return Err(Stop::Line);
         };
-        let count = count.parse::<u32>()?;
+        let count = str::from_utf8(count)?.parse::<u32>()?;
         for _ in 0..count {
-            self.bytes.extend_from_slice(piece.as_bytes())?;
+            self.bytes.extend_from_slice(piece)?;
         }
         self.is_joined = true;
         Ok(())
@@ -130,10 +131,19 @@ pub struct CaseLines<'t> {
 /// The cases of a text. Each begins with a line that begins with the mark, and the lines up to the next
 /// such line are its text.
 pub fn cases_of<'t>(alloc: Global, text: &'t str, mark: &str) -> Result<Vec<CaseLines<'t>>, Stop> {
+    cases_in(alloc, text.as_bytes(), mark)
+}
+
+/// The same of bytes: the lines of a case's text are taken as they are, and its first line is UTF-8.
+pub fn cases_in<'t>(
+    alloc: Global,
+    bytes: &'t [u8],
+    mark: &str,
+) -> Result<Vec<CaseLines<'t>>, Stop> {
     let mut cases: Vec<CaseLines<'t>> = Vec::new(alloc);
-    for line in text.lines() {
-        match line.strip_prefix(mark) {
-            Some(head) => begin(&mut cases, head, CaseText::new(alloc))?,
+    for line in bytes.lines() {
+        match line.strip_prefix(mark.as_bytes()) {
+            Some(head) => begin(&mut cases, str::from_utf8(head)?, CaseText::new(alloc))?,
             None => match cases.last_mut() {
                 Some(case) => case.text.put(line)?,
                 None => return Err(Stop::Line),

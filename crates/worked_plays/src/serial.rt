@@ -1,9 +1,9 @@
-//! Whether the serial runs come to what was played.
+//! Whether the serial runs come to what was played, by turns in the order of creation.
 
 ghost use Rattle.std.specs.Prelude.{◌≡◌, ◌≤◌, length};
 ghost use Rattle.jade_syntax.specs.Objects.{input_names};
 
-use crate::text::{fault_text, objects_text, report_text};
+use crate::text::{fault_text, objects_text, report_text, turns_text};
 use fault_order::{first, key_is_before, limit_place};
 use jade_base::{Blame, FaultKind, Report};
 use jade_meaning::serial_run;
@@ -49,7 +49,8 @@ fn answer_text(alloc: Global, checked: &Checked, answer: &RunAnswer) -> Result<S
 }
 
 /// Whether the plain serial run reports the same as was played, and the run of the code up to the
-/// answer comes to the one that the report tells.
+/// answer comes to the one that the report tells. Both take the turns in the order of creation, and
+/// say nothing of a play that took others.
 pub(crate) fn agrees(
     alloc: Global,
     checked: Checked,
@@ -60,22 +61,18 @@ pub(crate) fn agrees(
     requires given { length numbers.now ≡ length (input_names checked.program.items) }
     requires limit { 1 ≤ limit }
 {
-    let reported = plain_text(alloc, &checked, numbers, limit)?;
+    let serial = serial_run(alloc, &checked, numbers, limit)?;
+    let turns = turns_text(alloc, &checked, &serial.turns)?;
+    if turns != turns_text(alloc, &checked, &report.turns)? {
+        return Ok(true);
+    }
+    let reported = report_text(alloc, &checked, &serial)?;
     if reported != report_text(alloc, &checked, report)? {
         return Ok(false);
     }
     let compiled = compile(alloc, checked)?;
     let answered = code_text(alloc, &compiled, numbers, limit)?;
     Ok(answered == told_text(alloc, compiled.checked(), report, limit)?)
-}
-
-/// The text of what the plain serial run reports.
-fn plain_text(alloc: Global, checked: &Checked, numbers: &[i64], limit: u32) -> Result<String, Stop>
-    requires given { length numbers.now ≡ length (input_names checked.now.program.items) }
-    requires limit { 1 ≤ limit }
-{
-    let report = serial_run(alloc, checked, numbers, limit)?;
-    report_text(alloc, checked, &report)
 }
 
 /// The text of the answer to which the code was run.

@@ -1,11 +1,26 @@
 //! The text of a report, and of an answer.
 
-use crate::words::{blame, key};
-use jade_base::{Blame, CellLists, FaultNotes, ObjectId, PartSteps, Path, Report};
+use crate::words::{blame, key, path_word};
+use jade_base::{Blame, CellLists, FaultNotes, ObjectId, PartSteps, Path, Report, TurnLists};
 use jade_syntax::Checked;
 use std::alloc::Global;
 use std::str;
 use worked_case::Stop;
+
+/// An object's name, with its number in its family.
+fn label(alloc: Global, checked: &Checked, object: u32) -> Result<String, Stop> {
+    let mut label = String::new(alloc);
+    if object >= checked.objects() {
+        return Ok(label);
+    }
+    let (name, member) = checked.label(ObjectId(object));
+    label.push_str(str::from_utf8(name.bytes())?)?;
+    if let Some(member) = member {
+        let piece = format!(in alloc; "[{member}]")?;
+        label.push_str(piece.as_str())?;
+    }
+    Ok(label)
+}
 
 /// An object's name and its cells, as a line.
 fn object_line(
@@ -14,15 +29,9 @@ fn object_line(
     objects: &CellLists,
     object: u32,
 ) -> Result<String, Stop> {
-    let mut line = String::new(alloc);
-    if object >= checked.objects() || object as usize >= objects.len() {
+    let mut line = label(alloc, checked, object)?;
+    if object as usize >= objects.len() {
         return Ok(line);
-    }
-    let (name, member) = checked.label(ObjectId(object));
-    line.push_str(str::from_utf8(name.bytes())?)?;
-    if let Some(member) = member {
-        let piece = format!(in alloc; "[{member}]")?;
-        line.push_str(piece.as_str())?;
     }
     line.push_str(" =")?;
     for cell in objects.at(object as usize).as_slice() {
@@ -42,6 +51,44 @@ pub(crate) fn objects_text(
     let mut text = String::new(alloc);
     for object in 0..checked.objects() {
         let line = object_line(alloc, checked, objects, object)?;
+        text.push_str(line.as_str())?;
+    }
+    Ok(text)
+}
+
+/// The word `turns`, an object's name and the tasks of its turns, as a line; nothing where there are
+/// none.
+fn turns_line(
+    alloc: Global,
+    checked: &Checked,
+    turns: &TurnLists,
+    object: u32,
+) -> Result<String, Stop> {
+    let mut line = String::new(alloc);
+    if object as usize >= turns.len() || turns.at(object as usize).len() == 0 {
+        return Ok(line);
+    }
+    let label = label(alloc, checked, object)?;
+    line.push_str("turns ")?;
+    line.push_str(label.as_str())?;
+    for task in turns.at(object as usize).as_slice() {
+        let task = path_word(alloc, task)?;
+        line.push_str(" ")?;
+        line.push_str(task.as_str())?;
+    }
+    line.push_str("\n")?;
+    Ok(line)
+}
+
+/// The turns, a line for each object that has some.
+pub(crate) fn turns_text(
+    alloc: Global,
+    checked: &Checked,
+    turns: &TurnLists,
+) -> Result<String, Stop> {
+    let mut text = String::new(alloc);
+    for object in 0..checked.objects() {
+        let line = turns_line(alloc, checked, turns, object)?;
         text.push_str(line.as_str())?;
     }
     Ok(text)
@@ -70,13 +117,15 @@ fn steps_text(alloc: Global, steps: &PartSteps) -> Result<String, Stop> {
     Ok(text)
 }
 
-/// The objects, the faults and the steps of a report.
+/// The objects, the turns, the faults and the steps of a report.
 pub(crate) fn report_text(
     alloc: Global,
     checked: &Checked,
     report: &Report,
 ) -> Result<String, Stop> {
     let mut text = objects_text(alloc, checked, &report.objects)?;
+    let turns = turns_text(alloc, checked, &report.turns)?;
+    text.push_str(turns.as_str())?;
     let faults = faults_text(alloc, &report.faults)?;
     text.push_str(faults.as_str())?;
     let steps = steps_text(alloc, &report.steps)?;

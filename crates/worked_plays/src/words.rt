@@ -31,14 +31,21 @@ pub(crate) fn static_word(kind: StaticKind) -> &'static str {
     }
 }
 
-/// The key of a part, with dots: the task's path and the number of its children.
-pub(crate) fn key(alloc: Global, path: &Path, children: u32) -> Result<String, Stop> {
+/// A task's path, with dots.
+pub(crate) fn path_word(alloc: Global, path: &Path) -> Result<String, Stop> {
     let mut text = String::new(alloc);
     for number in path.numbers() {
-        let piece = format!(in alloc; "{number}.")?;
+        let dot = if text.is_empty() { "" } else { "." };
+        let piece = format!(in alloc; "{dot}{number}")?;
         text.push_str(piece.as_str())?;
     }
-    let last = format!(in alloc; "{children}")?;
+    Ok(text)
+}
+
+/// The key of a part, with dots: the task's path and the number of its children.
+pub(crate) fn key(alloc: Global, path: &Path, children: u32) -> Result<String, Stop> {
+    let mut text = path_word(alloc, path)?;
+    let last = format!(in alloc; ".{children}")?;
     text.push_str(last.as_str())?;
     Ok(text)
 }

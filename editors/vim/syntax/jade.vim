@@ -17,9 +17,9 @@ syntax keyword jadeTruth true false
 syntax keyword jadeBranch if else
 syntax keyword jadeLoop for in
 syntax keyword jadeTask withonly do with cont
-syntax keyword jadeRight rd wr rd_wr df_rd df_wr df_rd_wr no_rd no_wr no_rd_wr
-" kept for later: they stand in no form yet
-syntax keyword jadeKept cm proc
+syntax keyword jadeRight rd wr rd_wr df_rd df_wr df_rd_wr cm no_rd no_wr no_rd_wr
+" kept for later: it stands in no form yet
+syntax keyword jadeKept proc
 
 syntax match jadeNumber "\<\(0\|[1-9]\d*\)\>"
 " a number has no needless zero, and no letter follows it

@@ -1,0 +1,4 @@
+mod OnePlay
+mod WhatIsLeft
+mod ByPlace
+mod PlainContents

@@ -1,0 +1,4 @@
+pub mod OnePlay
+pub mod WhatIsLeft
+pub mod ByPlace
+pub mod PlainContents

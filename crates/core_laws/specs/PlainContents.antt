@@ -1,0 +1,26 @@
+-- The same of a program without the word `cm`: by its plain serial run.
+use Rattle.std.specs.Prelude.{◌≡◌, ℕ, true, false, ◌||◌, List, Some, ℤ, slice_get}
+use Rattle.jade_base.specs.Rights.{is_there}
+use Rattle.jade_syntax.specs.declared.tree.Program.{Program}
+use Rattle.jade_syntax.specs.Image.{program}
+use Rattle.jade_meaning.specs.Serial.{serial_run}
+use Rattle.object_shelf.specs.declared.queue.Entry.{Entry}
+use Rattle.object_shelf.specs.Shelves.{find, content_for}
+use Rattle.object_shelf.specs.Views.{ObjectView}
+use Rattle.task_roll.specs.declared.note.PartNote.{PartNote}
+use Rattle.schedule_core.specs.declared.steps.Seat.{Seat}
+use Rattle.schedule_core.specs.ByNumber.{shelf_at}
+use Rattle.schedule_core.specs.Plain.{Reached}
+use Rattle.schedule_core.specs.Remains.{HasIt}
+use Rattle.core_laws.specs.ByPlace.{content_at}
+use Rattle.core_laws.specs.WhatIsLeft.{WhatIsLeft}
+
+pub record PlainContents (p : Program) (ns : List ℤ) (limit : ℕ) : Type 0 where
+  -- the writes on an object that are gone come first among those of the serial run, and make its content of zeros
+  pub left : (k : ℕ) (roll : List Seat) (ss : List ObjectView) (notes : List PartNote) → Reached p ns limit k roll ss notes
+      → WhatIsLeft p (serial_run (program p) ns limit) roll ss
+  -- what a live task holds of an object, has kept or may take next is the serial run's content at its place
+  pub has : (k : ℕ) (roll : List Seat) (ss : List ObjectView) (notes : List PartNote) → Reached p ns limit k roll ss notes
+      → (i : ℕ) (s : Seat) → slice_get roll i ≡ Some s → (o : ℕ) (e : Entry) → find s.path (shelf_at ss o).queue ≡ Some e
+      → is_there e.rights.reads || is_there e.rights.writes ≡ true → is_there e.rights.commutes ≡ false → HasIt s ss o e
+      → content_for s.path (shelf_at ss o) ≡ content_at p s o (serial_run (program p) ns limit)

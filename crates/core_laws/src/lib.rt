@@ -1,0 +1,56 @@
+//! What is proved of cores beside the laws of schedule_core: that picks decide what is played, what is
+//! left of a run, and contents by the place of a task in the serial order.
+#![tactic(auto)]
+
+ghost use Rattle.std.specs.Prelude.{◌≡◌, ◌↔◌, false, ℕ, ℤ, List};
+ghost use Rattle.jade_syntax.specs.declared.tree.Program.{Program};
+ghost use Rattle.jade_syntax.specs.Image.{program};
+ghost use Rattle.jade_meaning.specs.Serial.{Path};
+ghost use Rattle.jade_meaning.specs.Turns.{marks_by};
+ghost use Rattle.jade_meaning.specs.Uncommuting.{uses_cm};
+ghost use Rattle.object_shelf.specs.Views.{ObjectView};
+ghost use Rattle.schedule_core.specs.declared.steps.Seat.{Seat};
+ghost use Rattle.schedule_core.specs.Remains.{Remains};
+ghost use Rattle.schedule_core.specs.Soundness.{and_then};
+ghost use Rattle.core_laws.specs.ByPlace.{ContentsByPlace};
+ghost use Rattle.core_laws.specs.OnePlay.{PicksDecide};
+ghost use Rattle.core_laws.specs.PlainContents.{PlainContents};
+ghost use Rattle.core_laws.specs.WhatIsLeft.{SomeIsLeft, WhatIsLeft};
+
+/// Picks decide a schedule: the states that the same picks reach by as many events have the same
+/// objects and notes, and their live tasks stand alike; there is one number of events after which no
+/// task is live, and one report. So the report of `play` is pinned by its picks.
+pub fn picks_decide()
+    ensures { (p : Program) (ns : List ℤ) (limit : ℕ) (picks : List ℕ) → PicksDecide p ns limit picks }
+{}
+
+/// What is left of a run is what live tasks, and those that they have yet to bring about, do there;
+/// the writes and turns on an object that are gone come first among the run's, and make its content
+/// of zeros. In other words this is `Remains`.
+pub fn some_is_left()
+    ensures what { (p : Program) (ns : List ℤ) (limit : ℕ) → SomeIsLeft p ns limit }
+    ensures same { (p : Program) (ns : List ℤ) (limit : ℕ) (roll : List Seat) (ss : List ObjectView) (rest : ℕ → List Path)
+        → Remains p ns limit roll ss rest ↔ WhatIsLeft p (marks_by (program p) ns limit (and_then ss rest)) roll ss }
+{
+    schedule_core::laws::writes_go_first();
+}
+
+/// What a live task holds of an object on which it does not commute, has kept or may take next is
+/// the meaning's content at its place: what the writes of parts with lesser keys and its own so far
+/// make of zeros.
+pub fn contents_by_place()
+    ensures { (p : Program) (ns : List ℤ) (limit : ℕ) → ContentsByPlace p ns limit }
+{
+    schedule_core::laws::contents_are_serial();
+}
+
+/// For a program in which the word `cm` does not stand what is left and the contents are those of the
+/// plain serial run.
+pub fn plain_contents()
+    ensures { (p : Program) (ns : List ℤ) (limit : ℕ) → uses_cm (program p) ≡ false → PlainContents p ns limit }
+{
+    jade_meaning::laws::without_cm();
+    jade_meaning::laws::runs_plainly();
+    some_is_left();
+    contents_by_place();
+}

@@ -1,0 +1,7 @@
+mod Arranging
+mod Spends
+mod Running
+mod Takes
+mod Stages
+mod Turning
+mod Examples

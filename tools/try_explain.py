@@ -1,0 +1,72 @@
+#!/usr/bin/env python3
+"""Tries what tools/explain.py says more of an answer, on made-up texts.
+
+    tools/try_explain.py [TEXTS] [SEED] [JADE]
+
+The programs of tools/soak.py are run as they are, and broken by a token left out, doubled or replaced. Where the
+proved program refuses a token or tells a fault, the reading and the run of this folder must come to the same place,
+kind and task; where it refuses a name, something must be told of it. The last line says how many there were of each; the script ends
+with 1 at the first that differs.
+"""
+import random
+import re
+import sys
+
+import explain
+import mistakes
+from jade_text import tokens_of
+from programs import built, run
+from soak import Maker
+
+# What a token is replaced by.
+OTHERS = "; } { ) ( ] [ = == .. , : + - ! < && do cont else if for in int bool rd df_wr no_rd cm main object a s0 7 true".split()
+
+
+def broken(text, pick):
+    """A text with one token left out, doubled or replaced."""
+    token = pick.choice(tokens_of(text.encode())[:-1])
+    lines = text.split("\n")
+    line, at = lines[token.line - 1], token.column - 1
+    new = pick.choice(("", f"{token.text} {token.text}", pick.choice(OTHERS)))
+    lines[token.line - 1] = line[:at] + " " + new + " " + line[at + len(token.text) :]
+    return "\n".join(lines)
+
+
+def is_told(jade, text, limit):
+    """The word of the answer, and whether what more is told of it fits."""
+    words = ["serial", str(limit)]
+    ran = run([jade, *words], text, seconds=60)
+    refusal = re.fullmatch(r"refused ([0-9]+):([0-9]+) ([a-z]+)\n", ran.text)
+    fault = re.fullmatch(r"fault (?:([0-9]+):([0-9]+) )?([a-z]+) task ([0-9.]+)\n", ran.text)
+    if refusal:
+        line, column, word = int(refusal[1]), int(refusal[2]), refusal[3]
+        more = explain.more_of_refusal(text.encode(), word, line, column)
+        return word, more is not None
+    if fault:
+        place = (int(fault[1]), int(fault[2])) if fault[1] else None
+        return fault[3], explain.same_fault(text.encode(), words, place, fault[3], fault[4]) is not None
+    place = mistakes.refused_in(text.encode())
+    return "ok", place is None and explain.same_fault(text.encode(), words, None, "", "") is None
+
+
+def main():
+    sys.setrecursionlimit(explain.DEPTH)
+    count = int(sys.argv[1]) if len(sys.argv) > 1 else 300
+    seed = int(sys.argv[2]) if len(sys.argv) > 2 else 1
+    jade = sys.argv[3] if len(sys.argv) > 3 else built()
+    found = {}
+    for number in range(count):
+        maker, pick = Maker(number, seed), random.Random(f"{seed} {number} broken")
+        text, limit = maker.program(), maker.limit()
+        text = broken(text, pick) if number % 3 else text
+        word, fits = is_told(jade, text, limit)
+        if not fits:
+            print(f"{text}try_explain: text {number} of seed {seed}, with LIMIT {limit}, is told otherwise than as {word}")
+            return 1
+        found[word] = found.get(word, 0) + 1
+    print(f"try_explain: {count} texts, seed {seed}: " + ", ".join(f"{many} {word}" for word, many in sorted(found.items())))
+    return 0
+
+
+if __name__ == "__main__":
+    sys.exit(main())
