@@ -39,7 +39,9 @@ OF_MANY = [
     ("Downwards stand the steps, to scale. A column stands for all tasks of one withonly: the wider it is at a place,", "#555"),
     ("the more of them could run at the same time. Red, at the left of a column, is the longest chain.", "#555"),
 ]
-IN_ANY_ORDER = ("Tasks with cm update an object one at a time, in any order: a dotted line joins them, and the chain leaves their waits out.", PLUM)
+COMMUTING = "Tasks with cm update an object one at a time, in any order"
+IN_ANY_ORDER = (f"{COMMUTING}: a dotted line joins them, and the chain leaves their waits out.", PLUM)
+MANY_IN_ANY_ORDER = (f"{COMMUTING}: the chain leaves their waits out.", PLUM)
 
 
 def fill_of(task):
@@ -144,13 +146,13 @@ class Graph:
             self.picture.box(x, y, min(4, self.wide), max(self.y(box.chain) - y, 1), RED)
 
     def draw_words(self, task, box, lines):
-        """The words that fit into a box, or the first of them beside it, where nothing stands there."""
+        """The words that fit into a box, or the first of them below or beside it, where nothing stands there."""
         x, y, high = self.column[task], self.y(box.begin), self.scale * (box.end[0] - box.begin[0])
         fit = max(0, min(len(lines), int((high - 4) // LINE))) if self.wide > 40 else 0
         for place, (text, colour) in enumerate(lines[:fit]):
             self.picture.text(x + 9, y + 14 + place * LINE, short(text, self.wide - 12), colour, bold=not place)
         text, colour = lines[0]
-        for left, top in () if fit else ((x + self.wide + 4, y), (x + 9, y + high + 2), (x - width(text) - 6, y)):
+        for left, top in () if fit else ((x + 9, y + high + 2), (x + self.wide + 4, y), (x - width(text) - 6, y)):
             if LEFT <= left and left + width(text) < WIDEST and self.room.is_free(left, top, width(text), LINE):
                 self.room.take(left, top, width(text), LINE)
                 self.picture.text(left, top + 11, text, colour, bold=True)
@@ -224,7 +226,7 @@ class Lines:
             words = f"{name}: {counted(len(group), 'task')}, {counted(steps, 'step')}; waits: {waits_of(self.tasks, group)}"
             self.picture.text(LEFT, y, short(words, WIDEST - 2 * LEFT))
             y += LINE
-        draw_legend(self.picture, OF_MANY + [IN_ANY_ORDER] * bool(self.tasks.commuting()))
+        draw_legend(self.picture, OF_MANY + [MANY_IN_ANY_ORDER] * bool(self.tasks.commuting()))
         return self.picture
 
     def draw_group(self, x, name, group):

@@ -4,6 +4,9 @@ import pathlib
 
 from task_lines import told
 
+# How many waits of one task are told.
+MOST_WAITS = 20
+
 FORM = pathlib.Path(__file__).with_name("page.html")
 
 
@@ -14,6 +17,7 @@ def rows(tasks):
         waits = [
             f"{tasks.names[number]} of {told(arrow.source.task)}" for box in task.boxes for arrow in box.arrows for number in arrow.objects
         ]
+        waits[MOST_WAITS:] = [f"{len(waits) - MOST_WAITS} more"] * (len(waits) > MOST_WAITS)
         yield [told(task), task.line, task.steps, told(task.creator) if task.creator else "", declared, waits]
 
 

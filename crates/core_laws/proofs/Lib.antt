@@ -1,4 +1,7 @@
 mod OnePlay
 mod WhatIsLeft
 mod ByPlace
+mod Creations
+mod Counting
+mod Uncommuting
 mod PlainContents

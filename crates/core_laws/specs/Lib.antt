@@ -2,3 +2,4 @@ pub mod OnePlay
 pub mod WhatIsLeft
 pub mod ByPlace
 pub mod PlainContents
+pub mod Room

@@ -19,8 +19,12 @@ pub record PlainContents (p : Program) (ns : List ℤ) (limit : ℕ) : Type 0 wh
   -- the writes on an object that are gone come first among those of the serial run, and make its content of zeros
   pub left : (k : ℕ) (roll : List Seat) (ss : List ObjectView) (notes : List PartNote) → Reached p ns limit k roll ss notes
       → WhatIsLeft p (serial_run (program p) ns limit) roll ss
+  -- no entry of a live task has a right to commute
+  pub alone : (k : ℕ) (roll : List Seat) (ss : List ObjectView) (notes : List PartNote) → Reached p ns limit k roll ss notes
+      → (i : ℕ) (s : Seat) → slice_get roll i ≡ Some s → (o : ℕ) (e : Entry) → find s.path (shelf_at ss o).queue ≡ Some e
+      → is_there e.rights.commutes ≡ false
   -- what a live task holds of an object, has kept or may take next is the serial run's content at its place
   pub has : (k : ℕ) (roll : List Seat) (ss : List ObjectView) (notes : List PartNote) → Reached p ns limit k roll ss notes
       → (i : ℕ) (s : Seat) → slice_get roll i ≡ Some s → (o : ℕ) (e : Entry) → find s.path (shelf_at ss o).queue ≡ Some e
-      → is_there e.rights.reads || is_there e.rights.writes ≡ true → is_there e.rights.commutes ≡ false → HasIt s ss o e
+      → is_there e.rights.reads || is_there e.rights.writes ≡ true → HasIt s ss o e
       → content_for s.path (shelf_at ss o) ≡ content_at p s o (serial_run (program p) ns limit)

@@ -15,6 +15,7 @@ ghost use Rattle.schedule_core.specs.Soundness.{and_then};
 ghost use Rattle.core_laws.specs.ByPlace.{ContentsByPlace};
 ghost use Rattle.core_laws.specs.OnePlay.{PicksDecide};
 ghost use Rattle.core_laws.specs.PlainContents.{PlainContents};
+ghost use Rattle.core_laws.specs.Room.{ChildrenAreFew};
 ghost use Rattle.core_laws.specs.WhatIsLeft.{SomeIsLeft, WhatIsLeft};
 
 /// Picks decide a schedule: the states that the same picks reach by as many events have the same
@@ -45,12 +46,23 @@ pub fn contents_by_place()
 }
 
 /// For a program in which the word `cm` does not stand what is left and the contents are those of the
-/// plain serial run.
+/// plain serial run, and no live task has a right to commute.
 pub fn plain_contents()
     ensures { (p : Program) (ns : List ℤ) (limit : ℕ) → uses_cm (program p) ≡ false → PlainContents p ns limit }
 {
+    jade_meaning::laws::keeps();
     jade_meaning::laws::without_cm();
     jade_meaning::laws::runs_plainly();
+    schedule_core::laws::entries_have_rights();
+    schedule_core::laws::tasks_are_serial();
     some_is_left();
     contents_by_place();
+}
+
+/// A live task has made no more children than it may begin steps, and fewer where it is to make one
+/// next. So the number of its children has room wherever the limit has.
+pub fn children_are_few()
+    ensures { (p : Program) (ns : List ℤ) (limit : ℕ) → ChildrenAreFew p ns limit }
+{
+    jade_meaning::laws::more_answers();
 }

@@ -45,7 +45,7 @@ use Rattle.schedule_core.specs.Plain.{seat_after}
 use Rattle.jade_meaning.specs.Plan.{RunPlan}
 use Rattle.object_table.specs.Views.{count_of, View, shelf_of, core_notes}
 use Rattle.object_table.specs.Touches.{is_touch, touched_first, touched, touch_next, passed, all_touches}
-use Rattle.object_table.specs.Plays.{Told, tried_at, in_turn, turned_off, left_as_it_was, did, Ahead, left_done}
+use Rattle.object_table.specs.Plays.{Told, tried_at, in_turn, turned_off, left_as_it_was, did, Ahead, OneEvent, left_done}
 use Rattle.object_table.specs.Calls.{Next, saw, found_busy, AsBefore}
 use Rattle.object_table.specs.steps.Kept.{Rests, InTurn, Leaves, Laws, Made, Youngest, shown, IsObject}
 use Rattle.object_table.specs.declared.task.Task.{Task}
@@ -246,9 +246,28 @@ module _ (t : Task) (r : Rests t) where
         ≡ (did e (on_try true (suc v0.tries) o 0 y v), [])
     finished after left =
         let d = subst (λ (m : Me Slot View). left_done (step slots o 0 0 none) m 0 after) turned_is left in
-        let now : after.0 ≡ did e (on_try true (suc v0.tries) o 0 y v) = d.0 t.touched e (ahead_is e public next (suc v0.tries) o 0 y)
+        let now : after.0 ≡ did e (on_try true (suc v0.tries) o 0 y v) = (d.0 t.touched e (ahead_is e public next (suc v0.tries) o 0 y)).0
         ∙ ap (did e) (passed_try true (suc v0.tries) o 0 y t.touched v0) in
         λ i. (now i, d.1 i)
+
+    -- which is one event of a core
+    pub happened : (after : Me Slot View) → left_done (step slots o 0 0 none) seat1.me 0 after → (z : ShelfView) → y ≡ slot.Object z → OneEvent e o z v
+    happened after left z is =
+        let d = subst (λ (m : Me Slot View). left_done (step slots o 0 0 none) m 0 after) turned_is left in
+        let told = (d.0 t.touched e (ahead_is e public next (suc v0.tries) o 0 y)).1 z is in
+        let h = subst (λ (w : View). OneEvent e o z w) (passed_try true (suc v0.tries) o 0 y t.touched v0) told in
+        record {
+          count = h.count;
+          front = h.front;
+          back = h.back;
+          shelves = h.shelves;
+          notes = h.notes;
+          reached = h.reached;
+          held = h.held;
+          found = h.found;
+          after = h.after;
+          does = h.does;
+        }
 
   -- an event done: the fields follow
   pub left_rests : (t3 : Task) (w : View) → t3.seat.me ≡ (w, []) → t3.path ≡ w.seat.path → (w.live ≡ true → t3.spare ≡ Some t3.path)

@@ -108,7 +108,7 @@ module _ (n : ℕ) (key : RunPlan) (s : table.State Slot View) (h : Shown n key 
     abbrev pub parts1 : ℕ → Slot
     parts1 o = part_of n o g.tally g.shelves
 
-    now_settled : (j : ℕ) (z : View) → get_elem? (set s.views id w) j ≡ some z → z.over ≡ true → g.tally.due ≡ 0
+    pub now_settled : (j : ℕ) (z : View) → get_elem? (set s.views id w) j ≡ some z → z.over ≡ true → g.tally.due ≡ 0
     now_settled j z e over = go (at_set s.views id j w z e)
       where
         go : ((j ≡ id) × (w ≡ z)) ⊎ ((j ≢ id) × (get_elem? s.views j ≡ some z)) → g.tally.due ≡ 0
@@ -134,7 +134,7 @@ module _ (n : ℕ) (key : RunPlan) (s : table.State Slot View) (h : Shown n key 
             found = still.note had ∙ t.found ∙ ap parts0 (sym place) ∙ same w.place;
           }
 
-      renewed_seat : (j : ℕ) (z : View) → get_elem? after.views j ≡ some z → SeatOk n s.words g.owners g.seats h.holder g.shelves parts1 key j z
+      pub renewed_seat : (j : ℕ) (z : View) → get_elem? after.views j ≡ some z → SeatOk n s.words g.owners g.seats h.holder g.shelves parts1 key j z
       renewed_seat j z e = go (at_set s.views id j w z e)
         where
           go : ((j ≡ id) × (w ≡ z)) ⊎ ((j ≢ id) × (get_elem? s.views j ≡ some z)) → SeatOk n s.words g.owners g.seats h.holder g.shelves parts1 key j z
@@ -143,7 +143,7 @@ module _ (n : ℕ) (key : RunPlan) (s : table.State Slot View) (h : Shown n key 
               (record { plan = g.plan; sits = g.own; turn = own_turn; busy = λ e. pays (sym still.turn ∙ e) })
           go (inr x) = let q = h.passes j z x.1 in record { plan = q.plan; sits = g.others j z x.0 x.1; turn = λ e. turn_on j z (q.turn e); busy = q.busy }
 
-      renewed_place : (p : ℕ) → PlaceOk n s h.holder parts0 p → PlaceOk n after h.holder parts1 p
+      pub renewed_place : (p : ℕ) → PlaceOk n s h.holder parts0 p → PlaceOk n after h.holder parts1 p
       renewed_place p (free y w0 e q) = free y w0 e (q ∙ same p)
       renewed_place p (taken z w1 e t l) = dite (ℕ_discrete (h.holder p) id)
           (λ eq.
@@ -153,7 +153,7 @@ module _ (n : ℕ) (key : RunPlan) (s : table.State Slot View) (h : Shown n key 
           ∙ had) (still.place had ∙ ap (λ (k : View). k.place) q ∙ l))
           (λ ne. taken z w1 (set_else s.views id (h.holder p) w ne ∙ e) t l)
 
-      pub renewed : Shown n key after
+      abbrev pub renewed : Shown n key after
       renewed = record {
         count = g.count;
         owners = g.owners;
@@ -185,10 +185,10 @@ module _ (n : ℕ) (key : RunPlan) (s : table.State Slot View) (h : Shown n key 
       my_word : h.holder o ≡ id
       my_word = ap h.holder (sym place) ∙ my_turn.holds
 
-      homes_are : put_back s.homes carried ≡ set s.homes o (some new)
+      pub homes_are : put_back s.homes carried ≡ set s.homes o (some new)
       homes_are = ap (put_back s.homes) has
 
-      leaving_seat : (j : ℕ) (z : View) → get_elem? back.views j ≡ some z → SeatOk n back.words g.owners g.seats h.holder g.shelves parts1 key j z
+      pub leaving_seat : (j : ℕ) (z : View) → get_elem? back.views j ≡ some z → SeatOk n back.words g.owners g.seats h.holder g.shelves parts1 key j z
       leaving_seat j z e = go (at_set s.views id j w z e)
         where
           old : j ≢ id → TurnOk n s.words h.holder parts0 j z → TurnOk n back.words h.holder parts1 j z
@@ -213,7 +213,7 @@ module _ (n : ℕ) (key : RunPlan) (s : table.State Slot View) (h : Shown n key 
               })
           go (inr x) = let q = h.passes j z x.1 in record { plan = q.plan; sits = g.others j z x.0 x.1; turn = λ e. old x.0 (q.turn e); busy = q.busy }
 
-      leaving_place : (p : ℕ) → p < suc n → PlaceOk n back h.holder parts1 p
+      pub leaving_place : (p : ℕ) → p < suc n → PlaceOk n back h.holder parts1 p
       leaving_place p lt = dite (ℕ_discrete p o) (λ e. subst (λ q. PlaceOk n back h.holder parts1 q) (sym e) mine_now) (λ ne. other ne (h.places p lt))
         where
           mine_now : PlaceOk n back h.holder parts1 o
@@ -233,7 +233,7 @@ module _ (n : ℕ) (key : RunPlan) (s : table.State Slot View) (h : Shown n key 
               ne (sym l ∙ sym (ap (λ (k : View). k.place) q) ∙ place)) in
               taken z (word_else s.words (word_of o) (word_of p) 0 (apart_words p o ne) ∙ w1) (set_else s.views id (h.holder p) w apart ∙ e) t l
 
-      pub leaving : Shown n key back
+      abbrev pub leaving : Shown n key back
       leaving = record {
         count = g.count;
         owners = g.owners;
@@ -260,10 +260,10 @@ module _ (n : ℕ) (key : RunPlan) (s : table.State Slot View) (h : Shown n key 
     abbrev next : table.State Slot View
     next = stepped s (word_of o) 1 id carried having (takes o y)
 
-    purse : SamePurse v having
+    pub purse : SamePurse v having
     purse = record { tickets = refl; notes = refl; over = refl }
 
-    taking_seat : (j : ℕ) (z : View) → get_elem? next.views j ≡ some z → SeatOk n next.words h.owners h.seats (put h.holder o id) h.shelves parts0 key j z
+    pub taking_seat : (j : ℕ) (z : View) → get_elem? next.views j ≡ some z → SeatOk n next.words h.owners h.seats (put h.holder o id) h.shelves parts0 key j z
     taking_seat j z e = go (at_set s.views id j having z e)
       where
         old : TurnOk n s.words h.holder parts0 j z → TurnOk n next.words (put h.holder o id) parts0 j z
@@ -292,7 +292,7 @@ module _ (n : ℕ) (key : RunPlan) (s : table.State Slot View) (h : Shown n key 
             })
         go (inr x) = let q = h.passes j z x.1 in record { plan = q.plan; sits = q.sits; turn = λ e. old (q.turn e); busy = q.busy }
 
-    taking_place : (p : ℕ) → p < suc n → PlaceOk n next (put h.holder o id) parts0 p
+    pub taking_place : (p : ℕ) → p < suc n → PlaceOk n next (put h.holder o id) parts0 p
     taking_place p lt = dite (ℕ_discrete p o) (λ e. subst (λ q. PlaceOk n next (put h.holder o id) parts0 q) (sym e) here) (λ ne. other ne (h.places p lt))
       where
         here : PlaceOk n next (put h.holder o id) parts0 o
@@ -309,11 +309,11 @@ module _ (n : ℕ) (key : RunPlan) (s : table.State Slot View) (h : Shown n key 
             taken z (word_else s.words (word_of o) (word_of p) 1 (apart_words p o ne) ∙ w1) (subst (λ i. get_elem? next.views i
             ≡ some z) (sym (put_other h.holder o id p ne)) (set_else s.views id (h.holder p) having apart ∙ e)) t l
 
-    settled_at : (j : ℕ) (z : View) → z.over ≡ true → ((j ≡ id) × (having ≡ z)) ⊎ ((j ≢ id) × (get_elem? s.views j ≡ some z)) → h.tally.due ≡ 0
+    pub settled_at : (j : ℕ) (z : View) → z.over ≡ true → ((j ≡ id) × (having ≡ z)) ⊎ ((j ≢ id) × (get_elem? s.views j ≡ some z)) → h.tally.due ≡ 0
     settled_at j z over (inl x) = h.settled id v at_v (ap (λ (y : View). y.over) x.1 ∙ over)
     settled_at j z over (inr x) = h.settled j z x.1 over
 
-    pub taking : Shown n key next
+    abbrev pub taking : Shown n key next
     taking = record {
       count = h.count;
       owners = h.owners;

@@ -14,12 +14,13 @@ use Rattle.object_shelf.specs.Shelves.{keeper_in, at, without, entered_in, with_
 use Rattle.object_shelf.specs.Homes.{hand_in, handed, returned, on_queue}
 use Rattle.jade_meaning.specs.Talk.{Event, Enter, Enroll, Take, TouchRead, TouchWrite, Wants, Give, Leave, Shift, Resign}
 use Rattle.jade_meaning.specs.Plan.{RunPlan}
+use Rattle.jade_meaning.specs.Walk.{upcoming, First}
 use Rattle.object_shelf.specs.Views.{ShelfView}
 use Rattle.schedule_core.specs.Plain.{seat_after}
 use Rattle.object_table.specs.Views.{count_of, View}
 use Rattle.object_table.specs.Touches.{is_touch, held_at, put_held}
-use Rattle.object_table.specs.Plays.{tried_at, did, left_as_it_was, held_in, left_done}
-use Rattle.object_table.specs.Calls.{Next, saw, Took, KeptBy, IsBusy}
+use Rattle.object_table.specs.Plays.{tried_at, did, left_as_it_was, held_in, OneEvent, left_done}
+use Rattle.object_table.specs.Calls.{Next, saw, Took, KeptBy, Did, IsBusy}
 use Rattle.object_table.specs.steps.Kept.{Rests, GotTurn, Leaves, Laws, Made, shown, IsObject}
 use Rattle.object_table.specs.steps.Leaving.{Begun, Ending, held_after, EndsWith, Desisted}
 use Rattle.object_table.specs.declared.task.Task.{Task}
@@ -27,7 +28,7 @@ use Rattle.object_table.specs.declared.slot.Slot.{Slot}
 use Rattle.object_table.specs.declared.slot.Slot.TheVariants as slot
 use Rattle.object_table.proofs.Calls.{on_try, object_there, path_is, children_is, tries_same, told_sized, tried_rests, busy_is, busy_shown}
 use Rattle.object_table.proofs.Calls.{off_is, off_shown, off_before, alive_is}
-use Rattle.object_table.proofs.Calls.{may_finish, may_desist, finished, done_rests, done_shown, did_shown}
+use Rattle.object_table.proofs.Calls.{may_finish, may_desist, finished, happened, done_rests, done_shown, did_shown}
 use Rattle.object_table.proofs.Touching.{passed_same}
 
 -- one event more is done, and no touch since
@@ -235,11 +236,11 @@ module _ {key : RunPlan} {slots o : ℕ} {t now : Task} {z : ShelfView} {w : Slo
 -- what a Take answers
 module _ {slots o : ℕ} {t now : Task} {z : ShelfView} (b : Begun slots o (slot.Object z) (slot.Object z) t now) where
   pub took : {m : Mode} {c : Held} {v : View} → keeper_in now.path m z.queue ≡ None → hand_in now.path m z ≡ Some c.cells → c.mode ≡ m
-      → v ≡ record (saw o z (shown t)) {
+      → (v ≡ record (saw o z (shown t)) {
         seat = seat_after None (shown t).seat;
         held = put_held o (held_in m (hand_in (shown t).seat.path m z)) (shown t).held;
-      } → Took o m c (shown t) v
-  took {m} {c} {v} free handed_out mode after =
+      }) × OneEvent (Take o m) o z (shown t) → Took o m c (shown t) v
+  took {m} {c} {v} free handed_out mode ends =
       let content : hand_in (shown t).seat.path m z ≡ Some c.cells = subst (λ p. hand_in p m z ≡ Some c.cells) (path_now b) handed_out in
       let held : held_in m (hand_in (shown t).seat.path m z) ≡ Some c =
       ap (held_in m) content ∙ λ i. Some (record { mode = sym mode i; cells = c.cells }) in
@@ -250,7 +251,8 @@ module _ {slots o : ℕ} {t now : Task} {z : ShelfView} (b : Begun slots o (slot
         mode = mode;
         sized = ap (λ (x : RunPlan). slice_get (sizes x.program.items) o) (passed_same t.touched t.seat.me.0).key
             ∙ told_sized slots t.seat.me.0 o (slot.Object z) b.turn.told z refl (shown t).seat.path m c.cells content;
-        after = after ∙ ap (λ q. record (saw o z (shown t)) { seat = seat_after None (shown t).seat; held = put_held o q (shown t).held }) held;
+        event = ends.1;
+        after = ends.0 ∙ ap (λ q. record (saw o z (shown t)) { seat = seat_after None (shown t).seat; held = put_held o q (shown t).held }) held;
       }
 
   pub as_found : {w : Slot} → w ≡ slot.Object z → Begun slots o (slot.Object z) (slot.Object z) t (record now { seat = seat_with now.seat o w })
@@ -265,6 +267,20 @@ module _ {slots o : ℕ} {t now : Task} {z : ShelfView} (b : Begun slots o (slot
     path = path;
     after = d.seen z refl;
   }
+
+-- the next event
+first_is : (l : List Event) (e : Event) (P : Event → Type 0) → First l (λ x. x ≡ e) → P e → First l P
+first_is [] e P f p = absurd f
+first_is (x ∷ l) e P f p = subst P (sym f) p
+
+-- what another event on an object answers
+pub did_so : {o : ℕ} {e : Event} {z : ShelfView} {hs : List (Option Held)} {v w : View} → Next e v
+    → (w ≡ record (saw o z v) { seat = seat_after None v.seat; held = hs }) × OneEvent e o z v → Did o hs v w
+did_so {o} {e} {z} {hs} {v} {w} next ends = record {
+  object = z;
+  event = first_is (upcoming v.seat.walker) e (λ x. OneEvent x o z v) next.first ends.1;
+  after = ends.0;
+}
 
 -- it is left with an event on an object done
 module _ (key : RunPlan) (laws : Laws key) (slots o : ℕ) (now : Task) (d : Ending key slots o now) where
@@ -305,4 +321,7 @@ module _ (key : RunPlan) (laws : Laws key) (slots o : ℕ) (now : Task) (d : End
         d.next.born
 
     pub ended : EndsWith o d.event d.value (shown t) (shown t3)
-    ended z is = done_shown t r t3 w me counts.0 ∙ did_shown t r o z d.value held is
+    ended z is = (
+      done_shown t r t3 w me counts.0 ∙ did_shown t r o z d.value held is,
+      happened t r key laws slots now.seat o d.value d.new d.begun.turn d.event (public o d.event there d.new made) d.next seat.me left z is,
+    )

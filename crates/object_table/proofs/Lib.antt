@@ -26,3 +26,5 @@ pub mod Endings
 mod Telling
 pub mod Sizes
 pub mod Leaving
+mod Apart
+mod Tries

@@ -19,7 +19,7 @@ use Rattle.object_table.specs.Touches.{is_touch, touched_first, touched, touch_n
 use Rattle.object_table.specs.Rule.{Ruled}
 use Rattle.object_table.specs.Plays.{note_after, bore, did_enroll, gone, did_resign, supplied, left_restocked, is_all_in, all_in, relieved, left_relieved, looked, Ahead}
 use Rattle.object_table.specs.Plays.{in_turn, turned_off, left_as_it_was, without_kid, kid_view, joined, spent_view}
-use Rattle.object_table.specs.Calls.{Next, AsBefore, saw_roll, Bore, Ended, HandedIn, HandedInAs, Restocked, IsGone}
+use Rattle.object_table.specs.Calls.{Next, AsBefore, saw_roll, Bore, Ended, HandedIn, HandedInAs, Restocked, IsGone, SpentOne}
 use Rattle.object_table.specs.steps.Kept.{Rests, GotTurn, Leaves, Loads, Laws, Youngest, shown}
 use Rattle.object_table.specs.steps.Leaving.{BegunRoll, Stocked}
 use Rattle.object_table.specs.declared.task.Task.{Task}
@@ -138,6 +138,17 @@ module _ (t : Task) (r : Rests t) where
               word = z.word;
               note = z.note;
             }) (sym e);
+          }
+
+      pub enrolled_spent : SpentOne v (shown t3)
+      enrolled_spent =
+          let e = done_shown t r t3 (bore steps kid v) me counts.0 in
+          let same = tickets_is t r in
+          let some = rich in
+          let left : (shown t3).tickets ≡ v.tickets - 1 = ap (λ (z : View). z.tickets) e in
+          record {
+            tickets = omega (arith, some, same, left);
+            tries = subst (λ (z : View). z ≡ record z { tries = v.tries; place = v.place; word = v.word; note = v.note }) (sym e) refl;
           }
 
   -- an end

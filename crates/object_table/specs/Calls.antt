@@ -9,7 +9,7 @@ use Rattle.jade_base.specs.declared.rights.Mode.{Mode}
 use Rattle.jade_syntax.specs.Objects.{sizes}
 use Rattle.jade_meaning.specs.Answer.{Answer, Faulted}
 use Rattle.jade_meaning.specs.Serial.{Path}
-use Rattle.jade_meaning.specs.Talk.{Event}
+use Rattle.jade_meaning.specs.Talk.{Event, Take}
 use Rattle.jade_meaning.specs.Walk.{upcoming, First}
 use Rattle.object_shelf.specs.declared.queue.Entry.{Entry}
 use Rattle.object_shelf.specs.Views.{ShelfView}
@@ -21,7 +21,7 @@ use Rattle.jade_meaning.specs.Plan.{RunPlan}
 use Rattle.object_table.specs.Tallies.{TallyView, stock, received, is_settled}
 use Rattle.object_table.specs.Views.{View, worth}
 use Rattle.object_table.specs.Touches.{put_held, all_touches}
-use Rattle.object_table.specs.Plays.{note_after}
+use Rattle.object_table.specs.Plays.{note_after, OneEvent}
 use Rattle.object_table.specs.declared.slot.Slot.TheVariants as slot
 use Rattle.object_table.specs.declared.answers.Taken.{Taken}
 use Rattle.object_table.specs.declared.answers.Taken.TheVariants as taken
@@ -66,13 +66,14 @@ abbrev pub found_busy : ℕ → View → View
 found_busy o v = record v { tries = suc v.tries; place = o; word = 1 }
 
 -- a Take: no entry keeps the task from it, the content is the one that the object hands out, with as many cells as the program says, and it
--- is held from then on
+-- is held from then on; it is one event of a core
 pub record Took (o : ℕ) (m : Mode) (c : Held) (v w : View) : Type 0 where
   pub object : ShelfView
   pub free : keeper_in v.seat.path m object.queue ≡ None
   pub content : hand_in v.seat.path m object ≡ Some c.cells
   pub mode : c.mode ≡ m
   pub sized : slice_get (sizes v.key.program.items) o ≡ Some (length c.cells)
+  pub event : OneEvent (Take o m) o object v
   pub after : w ≡ record (saw o object v) { seat = seat_after None v.seat; held = put_held o (Some c) v.held }
 
 -- the entry of this path keeps the task from a Take, as it was read in this turn
@@ -95,9 +96,10 @@ TakenAs o m v (Ok (taken.NotYet q)) w = KeptBy q o m v w
 TakenAs o m v (Ok (taken.Busy n)) w = IsBusy n o v w
 TakenAs o m v (Err e) w = AsBefore v w
 
--- an event on an object that changes what the task holds to this
+-- the pass's next event on an object, which is one of a core and changes what the task holds to this
 pub record Did (o : ℕ) (held : List (Option Held)) (v w : View) : Type 0 where
   pub object : ShelfView
+  pub event : First (upcoming v.seat.walker) (λ e. OneEvent e o object v)
   pub after : w ≡ record (saw o object v) { seat = seat_after None v.seat; held = held }
 
 -- what a try at such an event answers
@@ -109,8 +111,7 @@ TriedAs o v (tried.Busy n) w = IsBusy n o v w
 abbrev pub saw_roll : ℕ → TallyView → View → View
 saw_roll o r v = record v { tries = suc v.tries; place = o; word = 0; note = slot.Roll r }
 
--- a creation, with so many steps in the part that ends, of which there is a note: the child has its seat, and no pass yet; the pass may have got
--- tickets before it
+-- a creation, with so many steps in the part that ends, of which there is a note: the child has its seat, and no pass yet
 pub record Bore (steps : ℕ) (v w : View) : Type 0 where
   pub kid : Seat
   pub born : Born v.seat kid w.seat
@@ -141,15 +142,26 @@ pub record HandedIn (o : ℕ) (v w : View) : Type 0 where
   pub counts : worth v ≤ roll.due
   pub after : w ≡ record (saw_roll o roll v) { tickets = 0; notes = []; over = v.over || is_settled (received (worth v) v.notes roll) }
 
--- what a try at a creation answers
-abbrev pub EnrolledAs : ℕ → (steps : ℕ) → View → Tried → View → Type 0
-EnrolledAs o steps v tried.Done w = Bore steps v w
-EnrolledAs o steps v (tried.Busy n) w = IsBusy n o v w
-
 -- a pass got tickets
 pub record Restocked (o : ℕ) (v w : View) : Type 0 where
   pub roll : TallyView
   pub after : w ≡ record (saw_roll o roll v) { tickets = v.tickets + stock }
+
+-- a ticket is spent, and no try made
+pub record SpentOne (v w : View) : Type 0 where
+  pub tickets : v.tickets ≡ suc w.tickets
+  pub tries : w ≡ record w { tries = v.tries; place = v.place; word = v.word; note = v.note }
+
+-- a ticket is spent, of those that the pass had or got first
+pub record Spent (o : ℕ) (v w : View) : Type 0 where
+  pub stocked : View
+  pub got : (stocked ≡ v) ⊎ Restocked o v stocked
+  pub one : SpentOne stocked w
+
+-- what a try at a creation answers
+abbrev pub EnrolledAs : ℕ → (steps : ℕ) → View → Tried → View → Type 0
+EnrolledAs o steps v tried.Done w = Bore steps v w × Spent o v w
+EnrolledAs o steps v (tried.Busy n) w = IsBusy n o v w
 
 -- what a try to get tickets answers
 abbrev pub RestockedAs : ℕ → View → Tried → View → Type 0

@@ -7,4 +7,6 @@ pub mod Touches
 pub mod Rule
 pub mod Plays
 pub mod Calls
+pub mod Apart
+pub mod Tries
 pub mod steps

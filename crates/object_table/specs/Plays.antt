@@ -7,13 +7,14 @@ use Rattle.jade_base.specs.declared.report.Blame.{Blame}
 use Rattle.jade_base.specs.declared.rights.Mode.{Mode}
 use Rattle.jade_meaning.specs.Talk.{Task, Event, Enter, Enroll, Take, TouchRead, TouchWrite, Wants, Give, Leave, Shift, Resign}
 use Rattle.jade_meaning.specs.Walk.{upcoming, First, moved}
-use Rattle.object_shelf.specs.Views.{ObjectView}
+use Rattle.object_shelf.specs.Views.{ObjectView, ShelfView}
 use Rattle.object_shelf.specs.Homes.{hand_in}
 use Rattle.schedule_core.specs.declared.steps.Seat.{Seat}
 use Rattle.task_roll.specs.declared.note.PartNote.{PartNote}
-use Rattle.schedule_core.specs.Plain.{Reached, seat_after, Born}
+use Rattle.schedule_core.specs.ByNumber.{shelf_at}
+use Rattle.schedule_core.specs.Plain.{Reached, seat_after, Born, Does}
 use Rattle.object_table.specs.Tallies.{TallyView, stock, most, share, is_settled}
-use Rattle.object_table.specs.Views.{word_of, View, part_of, core_notes, worth}
+use Rattle.object_table.specs.Views.{word_of, View, part_of, shelf_of, core_notes, worth}
 use Rattle.object_table.specs.Touches.{put_held, is_touch, passed, all_touches}
 use Rattle.object_table.specs.Rule.{Agrees}
 use Rattle.object_table.specs.declared.slot.Slot.{Slot}
@@ -98,9 +99,27 @@ pub record Ahead (k : ℕ) (e : Event) (v : View) : Type 0 where
   pub next : First (upcoming (passed k v).seat.walker) (λ x. x ≡ e)
   pub public : is_touch e ≡ false
 
--- the turn is left with the pass's touches and then its next event done
+-- one event of a core: allowed events have reached it from the start of the run of the pass's plan, the pass's task is live there, at the place
+-- and with the contents that the pass shows, and this is what it shows of the object; the event is the task's next one there, and leaves the
+-- objects so
+pub record OneEvent (e : Event) (o : ℕ) (x : ShelfView) (v : View) : Type 0 where
+  pub count : ℕ
+  pub front : List Seat
+  pub back : List Seat
+  pub shelves : List ObjectView
+  pub notes : List PartNote
+  pub reached : Reached v.key.program v.key.numbers v.key.limit count (front ++ (v.seat ∷ back)) shelves notes
+  pub held : Agrees v.seat.path shelves v.held
+  pub found : x ≡ shelf_of (shelf_at shelves o)
+  pub after : List ObjectView
+  pub does : Does e v.seat shelves (seat_after None v.seat ∷ []) after
+
+-- the turn is left with the pass's touches and then its next event done, which is one event of a core, of which the slot showed the object
 abbrev pub left_done : Step Slot → Me Slot View → ℕ → Me Slot View → Type 0
-left_done st m r m' = ((k : ℕ) (e : Event) → Ahead k e m.0 → m'.0 ≡ did e (passed k m.0)) × (m'.1 ≡ table.rest m.1)
+left_done st m r m' =
+    ((k : ℕ) (e : Event) → Ahead k e m.0
+    → (m'.0 ≡ did e (passed k m.0)) × ((x : ShelfView) → m.0.note ≡ slot.Object x → OneEvent e m.0.place x (passed k m.0)))
+    × (m'.1 ≡ table.rest m.1)
 
 -- the note of a part of so many steps that a task ends, with this fault, if with one
 abbrev pub note_after : View → (steps : ℕ) → Option Blame → PartNote

@@ -3,6 +3,7 @@
 
 mod answers;
 mod finish;
+pub mod laws;
 mod notes;
 mod pass;
 mod ran;

@@ -132,9 +132,12 @@ impl<'c> ObjectTable<'c> {
     }
 
     /// One try to take an object in a mode, which is the pass's next event. Got hands the content
-    /// out, of which no cell is copied where it can be shared; NotYet names the task whose entry, as
-    /// it was read in this turn, is the first before the pass's own that conflicts. The error is want
-    /// of memory. All but Got leave the pass and the objects as before.
+    /// out, of which no cell is copied where it can be shared: it is one event of a core that events
+    /// have reached, in which the pass's task stands as the pass shows, so what the laws of cores say
+    /// of what is handed out holds of it. NotYet names the task whose entry, as it was read in this
+    /// turn, is the first before the pass's own that conflicts, or else of the task that has the
+    /// content out for which this one waits to commute. The error is want of memory. All but Got leave
+    /// the pass and the objects as before.
     pub fn take(
         &self,
         alloc: Global,
@@ -244,9 +247,10 @@ impl<'c> ObjectTable<'c> {
     }
 
     /// The creation of the next child, which is the pass's next event; the part that ends with it has
-    /// so many steps, and the pass has a note of it. The child then has its seat, and `split` makes its
-    /// pass. No word is tried for it, but where the pass wants tickets: then it is one try to get them,
-    /// at the roll's. The error is want of memory, and leaves the pass and the objects as before.
+    /// so many steps, and the pass has a note of it, on which it spends a ticket. The child then has its
+    /// seat, and `split` makes its pass. No word is tried for it, but where the pass wants tickets: then
+    /// it is one try to get them, at the roll's. The error is want of memory, and leaves the pass and the
+    /// objects as before.
     pub fn enroll(&self, alloc: Global, pass: &mut TaskPass, steps: u64) -> Result<Tried, Memory>
         requires mark { pass.old.mark ≡ self.now.mark }
         requires next { (t : TaskOf) × Next (Enroll t steps) pass.old.shows }

@@ -11,7 +11,7 @@ ghost use Rattle.object_table.specs.Tallies.{TallyView, most, restocked, receive
 ghost use Rattle.object_table.specs.Views.{word_of, worth};
 ghost use Rattle.object_table.specs.Plays.{tried_at, is_all_in, without_kid, joined};
 ghost use Rattle.object_table.specs.Touches.{held_at, put_held};
-ghost use Rattle.object_table.specs.Calls.{Next, TakenAs, TriedAs, EnrolledAs, RestockedAs, ProvidedAs, Restocked, HandedInAs, HandedIn, AsBefore, Did, Bore, Ended, IsBusy, IsGone};
+ghost use Rattle.object_table.specs.Calls.{Next, TakenAs, TriedAs, EnrolledAs, RestockedAs, ProvidedAs, Restocked, SpentOne, HandedInAs, HandedIn, AsBefore, Did, Bore, Ended, IsBusy, IsGone};
 ghost use Rattle.schedule_core.specs.declared.steps.Seat.{Seat as SeatOf};
 ghost use Rattle.object_table.specs.steps.Kept.{Rests, Fits, FitsRoll, Laid, GotTurn, Leaves, Laws};
 ghost use Rattle.object_table.specs.steps.Kept.{shown, IsObject, IsRoll, IsKidOf, HandedAs, EnteredAs};
@@ -231,6 +231,7 @@ fn bear(words: &Words, task: &mut Task, spare: SpareNote, children: u32, steps: 
     ensures mark { task.new.seat.table_id ≡ task.old.seat.table_id }
     ensures rests { Rests task.new }
     ensures done { Bore steps (shown task.old) (shown task.new) }
+    ensures spent { SpentOne (shown task.old) (shown task.new) }
 {
     core_laws();
     words.load::<Enrolling>(&mut task.seat, 0);
@@ -258,6 +259,7 @@ fn bear_at_once(
     ensures mark { task.new.seat.table_id ≡ task.old.seat.table_id }
     ensures rests { Rests task.new }
     ensures done { OnOk result (Bore steps (shown task.old) (shown task.new)) }
+    ensures spent { OnOk result (SpentOne (shown task.old) (shown task.new)) }
     ensures unchanged { OnErr result (shown task.new ≡ shown task.old) }
 {
     core_laws();
@@ -310,7 +312,8 @@ enum Handed {
     Kept(Path),
 }
 
-// Hands the content out, where no entry keeps the task from it.
+// Hands the content out, where no entry keeps the task from it. Where none does and the content is
+// not there all the same, as at no table that passes share, it answers as where memory is wanting.
 fn hand_out(shelf: &mut Shelf, alloc: Global, path: &Path, mode: Mode) -> Result<Handed, Memory>
     ensures { HandedAs shelf.old path.now mode result (SlotOf.Object shelf.new) }
 {
@@ -372,7 +375,8 @@ fn leave_in(slot: &mut Slot, path: &Path)
     }
 }
 
-// Enters a child, or changes nothing.
+// Enters a child, or changes nothing. Where the parent has no entry, as at no table that passes share,
+// it answers as where memory is wanting.
 fn enter_in(
     shelf: &mut Shelf,
     alloc: Global,
@@ -571,6 +575,7 @@ pub(crate) fn enter_at(
 }
 
 /// The creation of the next child. Where the pass wants tickets for it, it is one try to get them.
+/// After 2^32 - 1 children, for which no limit has steps, it answers as where memory is wanting.
 pub(crate) fn enroll_at(
     words: &Words,
     alloc: Global,

@@ -300,9 +300,9 @@ module _ (t : ℕ → List Path) (size : ℕ) (f : ℕ → Cells) (b l : List (L
         go None e may =
             ap (λ x. first sq.marks (entered x (P ++ K ∷ []) child body (λ x. run t (P ++ K ∷ []) child body 0 0 x) sq.world)) e ∙ sym (plain_left t KL (plain_waits child body p.inner even_body e) (plain_commutes child body p.inner even_body e) ∙ child_runs t (P ++ K ∷ []) child body Q e (plain_of child e) (proper_plain p.inner (none_commutes child e)))
         go (Some y) e may =
-            let T1 = T child body p.inner even_body y e may in
+            let told = T child body p.inner even_body y e may in
             let d = opened body child (start_holds child) 0 in
-            ap (λ x. first sq.marks (entered x (P ++ K ∷ []) child body (λ x. run t (P ++ K ∷ []) child body 0 0 x) sq.world)) e ∙ ap (λ c. first sq.marks (record { marks = []; world = joined (P ++ K ∷ []) y (rights_on child) (record { course = c; steps = (bared body 0).steps }) sq.world })) T1.course ∙ ap (λ n. first sq.marks (record { marks = []; world = joined (P ++ K ∷ []) y (rights_on child) (record { course = d.course; steps = n }) sq.world })) T1.steps ∙ sym (ap (λ os. first (settle_all t os Q).marks (left_from t (awaits kid.doing.pending) (commuting_on kid.doing.spec) KL (settle_all t os Q).world)) (own_settles child body p.inner even_body y e may) ∙ ap (λ x. first sq.marks (left_from t x (commuting_on kid.doing.spec) KL sq.world)) (own_waits child body p.inner even_body y e may))
+            ap (λ x. first sq.marks (entered x (P ++ K ∷ []) child body (λ x. run t (P ++ K ∷ []) child body 0 0 x) sq.world)) e ∙ ap (λ c. first sq.marks (record { marks = []; world = joined (P ++ K ∷ []) y (rights_on child) (record { course = c; steps = (bared body 0).steps }) sq.world })) told.course ∙ ap (λ n. first sq.marks (record { marks = []; world = joined (P ++ K ∷ []) y (rights_on child) (record { course = d.course; steps = n }) sq.world })) told.steps ∙ sym (ap (λ os. first (settle_all t os Q).marks (left_from t (awaits kid.doing.pending) (commuting_on kid.doing.spec) KL (settle_all t os Q).world)) (own_settles child body p.inner even_body y e may) ∙ ap (λ x. first sq.marks (left_from t x (commuting_on kid.doing.spec) KL sq.world)) (own_waits child body p.inner even_body y e may))
 
     -- nobody waits on what the task holds, also after the child
     clear_next : Clear A KQ.world

@@ -130,22 +130,22 @@ module _ (p : AbstractProgram) (ns : List ℤ) (limit : ℕ) where
     sees_none i [] = refl
     sees_none i (x ∷ s) = ap (λ z. x ∷ z) (sees_none (suc i) s)
 
-    abbrev W0 : World
-    W0 = record { store = zero_store; waiting = [] }
+    abbrev start : World
+    start = record { store = zero_store; waiting = [] }
 
-    start_world : world_of size (at_object zero_store) ≡ W0
+    start_world : world_of size (at_object zero_store) ≡ start
     start_world =
         ap (λ s. record { store = s; waiting = [] }) (subst (λ n. map (at_object zero_store) (numbers 0 n) ≡ zero_store) (length_zeros (sizes p.items)) (same_store zero_store))
 
-    root_left : (t : ℕ → List Path) → left t (sited root W0) ≡ run t (0 ∷ []) (root_spec p) (root_course p ns limit) 0 0 W0
+    root_left : (t : ℕ → List Path) → left t (sited root start) ≡ run t (0 ∷ []) (root_spec p) (root_course p ns limit) 0 0 start
     root_left t =
-        plain_left t (sited root W0) (plain_waits (root_spec p) (root_course p ns limit) proper even root_none) (plain_commutes (root_spec p) (root_course p ns limit) proper even root_none) ∙ child_runs t (0 ∷ []) (root_spec p) (root_course p ns limit) (sited root W0).place root_none (plain_of (root_spec p) root_none) (proper_plain proper (none_commutes (root_spec p) root_none)) ∙ ap (λ s. first (settle_all t (touched_at_once (root_spec p)) (record { store = s; waiting = [] })).marks (run t (0 ∷ []) (root_spec p) (root_course p ns limit) 0 0 (settle_all t (touched_at_once (root_spec p)) (record { store = s; waiting = [] })).world)) (sees_none 0 zero_store) ∙ ap (λ (r : Ran). first r.marks (run t (0 ∷ []) (root_spec p) (root_course p ns limit) 0 0 r.world)) (settle_none t (touched_at_once (root_spec p)) zero_store)
+        plain_left t (sited root start) (plain_waits (root_spec p) (root_course p ns limit) proper even root_none) (plain_commutes (root_spec p) (root_course p ns limit) proper even root_none) ∙ child_runs t (0 ∷ []) (root_spec p) (root_course p ns limit) (sited root start).place root_none (plain_of (root_spec p) root_none) (proper_plain proper (none_commutes (root_spec p) root_none)) ∙ ap (λ s. first (settle_all t (touched_at_once (root_spec p)) (record { store = s; waiting = [] })).marks (run t (0 ∷ []) (root_spec p) (root_course p ns limit) 0 0 (settle_all t (touched_at_once (root_spec p)) (record { store = s; waiting = [] })).world)) (sees_none 0 zero_store) ∙ ap (λ (r : Ran). first r.marks (run t (0 ∷ []) (root_spec p) (root_course p ns limit) 0 0 r.world)) (settle_none t (touched_at_once (root_spec p)) zero_store)
 
     all_to_come : (t : ℕ → List Path) → marks_by p ns limit t ≡ to_come t size (starting_with root_task tt zero_store)
     all_to_come t =
-        let r = run t (0 ∷ []) (root_spec p) (root_course p ns limit) 0 0 W0 in
-        let one : step t root W0 ≡ r = ap (λ (x : Ran). record { marks = x.marks; world = record { store = after x.marks zero_store; waiting = x.world.waiting } }) (root_left t) ∙ ap (λ s. record { marks = r.marks; world = record { store = s; waiting = r.world.waiting } }) (sym (run_store t (root_course p ns limit) (0 ∷ []) (root_spec p) 0 0 W0)) in
-        sym (ap (λ w. (onwards_all t (numbers 0 size) (root ∷ []) w).marks) start_world ∙ ap (λ (x : Ran). x.marks ++ (settle_all t (numbers 0 size) x.world).marks) (onwards_one t root W0 ∙ one) ∙ ap (λ n. r.marks ++ (settle_all t (numbers 0 n) r.world).marks) (sym (length_replicate size)))
+        let r = run t (0 ∷ []) (root_spec p) (root_course p ns limit) 0 0 start in
+        let one : step t root start ≡ r = ap (λ (x : Ran). record { marks = x.marks; world = record { store = after x.marks zero_store; waiting = x.world.waiting } }) (root_left t) ∙ ap (λ s. record { marks = r.marks; world = record { store = s; waiting = r.world.waiting } }) (sym (run_store t (root_course p ns limit) (0 ∷ []) (root_spec p) 0 0 start)) in
+        sym (ap (λ w. (onwards_all t (numbers 0 size) (root ∷ []) w).marks) start_world ∙ ap (λ (x : Ran). x.marks ++ (settle_all t (numbers 0 size) x.world).marks) (onwards_one t root start ∙ one) ∙ ap (λ n. r.marks ++ (settle_all t (numbers 0 n) r.world).marks) (sym (length_replicate size)))
 
     -- the start is sound
     pub start_sound : SoundSo p ns limit (starting_with root_task tt zero_store)

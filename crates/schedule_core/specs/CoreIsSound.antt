@@ -1,4 +1,4 @@
--- What is true of every core that allowed events reach, clause by clause.
+-- What is proved of every core that allowed events reach, clause by clause.
 use Rattle.std.specs.Prelude.{ℕ, List, ℤ}
 use Rattle.jade_syntax.specs.declared.tree.Program.{Program}
 use Rattle.schedule_core.specs.Mirror.{CoreShows}

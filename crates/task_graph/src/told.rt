@@ -28,7 +28,7 @@ fn right_word(right: Right, now: &'static str, later: &'static str) -> &'static 
     }
 }
 
-/// The words of the rights on an object, joined by a comma, or a dash.
+/// The words of the rights on an object, joined by a comma, or a dash. Beside `cm` there is no other.
 fn rights_word(alloc: Global, rights: Rights) -> Result<String, Stop> {
     let reads = right_word(rights.reads, "rd", "df_rd");
     let writes = right_word(rights.writes, "wr", "df_wr");
@@ -37,8 +37,9 @@ fn rights_word(alloc: Global, rights: Rights) -> Result<String, Stop> {
     } else {
         ","
     };
+    let commutes = right_word(rights.commutes, "cm", "");
     let none = if rights.any() { "" } else { "-" };
-    Ok(format!(in alloc; "{reads}{between}{writes}{none}")?)
+    Ok(format!(in alloc; "{reads}{between}{writes}{commutes}{none}")?)
 }
 
 /// The word of a mode.

@@ -26,7 +26,7 @@ module _ (o : ℕ) (v w : View) (r : Tried) where
 
 module _ (o steps : ℕ) (v w : View) (r : Tried) where
   pub enrolled_done : r ≡ tried.Done → EnrolledAs o steps v r w → Bore steps v w
-  enrolled_done e h = let P : Tried → Type 0 = λ x. EnrolledAs o steps v x w in subst P e h
+  enrolled_done e h = let P : Tried → Type 0 = λ x. EnrolledAs o steps v x w in (subst P e h).0
 
   pub enrolled_busy : (n : ℕ) → r ≡ tried.Busy n → EnrolledAs o steps v r w → IsBusy n o v w
   enrolled_busy n e h = let P : Tried → Type 0 = λ x. EnrolledAs o steps v x w in subst P e h

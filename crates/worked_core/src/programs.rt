@@ -67,3 +67,50 @@ pub(crate) const READER: Schedule = Schedule {
         Move::Go(&[0], 3),
     ],
 };
+
+/// Of two tasks that commute the one that was created later takes first, and the other waits for it
+/// although no entry before its own conflicts.
+pub(crate) const LATER_FIRST: Schedule = Schedule {
+    title: "the later of two commuting tasks takes first",
+    text: "object s : 1; main { s[0] = 1; withonly { cm(s); } do () { s[0] = s[0] * 2; } withonly { cm(s); } do () { s[0] = s[0] + 3; } }",
+    moves: &[
+        Move::Go(&[], 7),
+        Move::Go(&[1], 1),
+        Move::Ask(&[0], Act::Take(ObjectId(0))),
+        Move::Go(&[1], 3),
+        Move::Go(&[0], 1),
+        Move::Go(&[1], 2),
+        Move::Go(&[0], 5),
+        Move::Go(&[], 2),
+    ],
+};
+
+/// A commuting task waits for an earlier reader until that one is seen, and then goes past it.
+pub(crate) const SEEN: Schedule = Schedule {
+    title: "a reader that is seen stands before a commuting holder",
+    text: "object s : 1; object t : 1; main { withonly { rd(s); wr(t); } do () { t[0] = s[0]; } withonly { cm(s); } do () { s[0] = s[0] + 7; } }",
+    moves: &[
+        Move::Go(&[], 9),
+        Move::Go(&[1], 1),
+        Move::Go(&[0], 1),
+        Move::Go(&[1], 4),
+        Move::Go(&[0], 3),
+    ],
+};
+
+/// What a first task does depends on whether a second one that commutes with it went before.
+const COUNTED: &str = "object x : 1; main { withonly { cm(x); } do () { for i in 0 .. x[0] { x[0] = 5; } } withonly { cm(x); } do () { x[0] = 1; } }";
+
+/// In the order of creation it has 18 events.
+pub(crate) const CREATED_FIRST: Schedule = Schedule {
+    title: "two commuting tasks in the order of creation",
+    text: COUNTED,
+    moves: &[Move::Go(&[], 8), Move::Go(&[0], 5), Move::Go(&[1], 5)],
+};
+
+/// In the other order it has one more.
+pub(crate) const CREATED_LAST: Schedule = Schedule {
+    title: "the same two in the other order",
+    text: COUNTED,
+    moves: &[Move::Go(&[], 8), Move::Go(&[1], 5), Move::Go(&[0], 6)],
+};

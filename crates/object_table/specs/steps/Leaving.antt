@@ -8,7 +8,7 @@ use Rattle.schedule_core.specs.Plain.{seat_after}
 use Rattle.object_table.specs.Tallies.{TallyView, most, restocked}
 use Rattle.object_table.specs.Views.{count_of, View}
 use Rattle.object_table.specs.Touches.{put_held}
-use Rattle.object_table.specs.Plays.{in_turn, held_in, handed_by}
+use Rattle.object_table.specs.Plays.{in_turn, held_in, handed_by, OneEvent}
 use Rattle.object_table.specs.Calls.{Next, saw, AsBefore}
 use Rattle.object_table.specs.steps.Kept.{Rests, InTurn, InRoll, Made, shown}
 use Rattle.object_table.specs.declared.task.Task.{Task}
@@ -45,11 +45,11 @@ held_after (TouchWrite o c x) y p h = h
 held_after (Wants o c) y p h = h
 held_after (Resign b n) y p h = h
 
--- the task shows that it saw the object and did the event
+-- the task shows that it saw the object and did the event, which is one of a core
 abbrev pub EndsWith : (o : ℕ) → Event → Slot → (before after : View) → Type 0
 EndsWith o e y v w =
     (z : ShelfView) → y ≡ slot.Object z
-    → w ≡ record (saw o z v) { seat = seat_after None v.seat; held = held_after e y v.seat.path v.held }
+    → (w ≡ record (saw o z v) { seat = seat_after None v.seat; held = held_after e y v.seat.path v.held }) × OneEvent e o z v
 
 -- nothing was done in the turn, in which the slot showed this
 pub record Desisted (o : ℕ) (y : Slot) (before after : Task) : Type 0 where

@@ -4,7 +4,7 @@ use Rattle.schedule_core.specs.Plain.{Born}
 use Rattle.object_table.specs.Views.{View}
 use Rattle.object_table.specs.steps.Kept.{shown}
 use Rattle.object_table.specs.declared.slot.Slot.{Slot}
-use Rattle.object_table.proofs.RollCalls.{may_enroll, enrolled_is, enrolled_rests, enrolled_shown}
+use Rattle.object_table.proofs.RollCalls.{may_enroll, enrolled_is, enrolled_rests, enrolled_shown, enrolled_spent}
 use Rattle.object_table.proofs.turns.bear_at_once.Goals as goal
 
 pub load-requires : goal.load-requires
@@ -48,5 +48,18 @@ returns-clause-done c =
     let e = enrolled_is t r words.key (c.core_laws.ensures words.key) words.table_id.slots next.0 c.args.steps next.1 c.requires.rich c.load.result
     c.load.new.seat.me c.load.ensures.2 in
     enrolled_shown t r words.key (c.core_laws.ensures words.key) words.table_id.slots next.0 c.args.steps next.1 c.requires.rich
+    (record c.settle.new.task { tickets = c.settle.new.task.tickets - 1; children = c.args.children }) e.0
+    (subst (λ (q : SeatOf Slot View). Born (shown t).seat e.0 q.me.0.seat) (sym s.seat) e.1) (ap (λ (q : SeatOf Slot View). q.me) s.seat ∙ e.2) s.events
+
+pub returns-clause-spent : goal.returns-clause-spent
+returns-clause-spent c =
+    let words = c.args.words.now in
+    let t = c.args.task.now in
+    let r = c.requires.rests in
+    let next = c.requires.next in
+    let s = c.settle.ensures in
+    let e = enrolled_is t r words.key (c.core_laws.ensures words.key) words.table_id.slots next.0 c.args.steps next.1 c.requires.rich c.load.result
+    c.load.new.seat.me c.load.ensures.2 in
+    enrolled_spent t r words.key (c.core_laws.ensures words.key) words.table_id.slots next.0 c.args.steps next.1 c.requires.rich
     (record c.settle.new.task { tickets = c.settle.new.task.tickets - 1; children = c.args.children }) e.0
     (subst (λ (q : SeatOf Slot View). Born (shown t).seat e.0 q.me.0.seat) (sym s.seat) e.1) (ap (λ (q : SeatOf Slot View). q.me) s.seat ∙ e.2) s.events

@@ -47,5 +47,7 @@ bear-requires-clause-count c =
 
 pub returns-in-Done-clause-answer : goal.returns-in-Done-clause-answer
 returns-in-Done-clause-answer c =
-    let got = provided c.args.place (shown c.args.task.now) (shown c.provide.new.task) _ c.in-Done.is c.in_ok-provide.ensures.answer in
-    bore_after c.args.place c.args.steps (shown c.args.task.now) (shown c.provide.new.task) _ got.1 c.bear.ensures.done
+    let got = provided c.args.place (shown c.args.task.now) (shown c.provide.new.task) _ c.in-Done.is c.in_ok-provide.ensures.answer in (
+      bore_after c.args.place c.args.steps (shown c.args.task.now) (shown c.provide.new.task) _ got.1 c.bear.ensures.done,
+      record { stocked = shown c.provide.new.task; got = got.1; one = c.bear.ensures.spent },
+    )

@@ -1,5 +1,5 @@
 use Rattle.std.proofs.Common.{refl}
-use Rattle.object_table.proofs.Leaving.{object_lent, enter_ends, as_found}
+use Rattle.object_table.proofs.Leaving.{object_lent, enter_ends, as_found, did_so}
 use Rattle.object_table.specs.declared.slot.Slot.TheVariants.{Object}
 use Rattle.object_table.proofs.turns.enter_at.Goals as goal
 
@@ -17,10 +17,7 @@ returns-in-Ok-enter_to-clause-answer c =
     let got = c.in-Ok.ensures.got in
     let g = object_lent c.args.words.now.table_id.slots c.args.object got.0 c.args.task.now c.begin.new.task got.1 c.args.words.now.key f.laid.deep f.object
     c.slot_mut-slot.result.now c.slot_mut-slot.ensures.value in
-    record {
-      object = g.0;
-      after = c.complete.ensures.done (enter_ends g.1 f.object c.requires.next c.in_ok-child.ensures (c.in-Ok-enter_to.ensures g.0 g.2)) g.0 refl;
-    }
+    did_so c.requires.next (c.complete.ensures.done (enter_ends g.1 f.object c.requires.next c.in_ok-child.ensures (c.in-Ok-enter_to.ensures g.0 g.2)) g.0 refl)
 
 pub returns-clause-unchanged : goal.returns-clause-unchanged
 returns-clause-unchanged c =

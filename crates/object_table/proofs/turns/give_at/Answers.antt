@@ -1,5 +1,5 @@
 use Rattle.std.proofs.Common.{refl}
-use Rattle.object_table.proofs.Leaving.{object_lent, give_ends}
+use Rattle.object_table.proofs.Leaving.{object_lent, give_ends, did_so}
 use Rattle.object_table.proofs.turns.give_at.Goals as goal
 
 pub complete-requires-clause-ending : goal.complete-requires-clause-ending
@@ -16,4 +16,4 @@ returns-clause-done c =
     let got = c.in-Ok.ensures.got in
     let g = object_lent c.args.words.now.table_id.slots c.args.object got.0 c.args.task.now c.begin.new.task got.1 c.args.words.now.key f.laid.deep f.object
     c.slot_mut-slot.result.now c.slot_mut-slot.ensures.value in
-    record { object = g.0; after = c.complete.ensures.done (give_ends g.1 f.object c.requires.next c.requires.held (c.give_to.ensures g.0 g.2)) g.0 refl }
+    did_so c.requires.next (c.complete.ensures.done (give_ends g.1 f.object c.requires.next c.requires.held (c.give_to.ensures g.0 g.2)) g.0 refl)

@@ -1,0 +1,21 @@
+//! What is true of every table, whatever its passes did, in words of the plain data that words, slots
+//! and passes show.
+
+ghost use Rattle.jade_meaning.specs.Plan.{RunPlan};
+ghost use Rattle.object_table.specs.Apart.{HeldApart};
+ghost use Rattle.object_table.specs.Tries.{TriesChangeNothing};
+
+/// Of two passes that hold an object, one for writing or for commuting, the other holds it for
+/// reading, and its task stands before.
+pub fn held_apart()
+    ensures { (key : RunPlan) → HeldApart key }
+{
+    schedule_core::laws::core_tells();
+    schedule_core::laws::held_alone();
+}
+
+/// A try that finds another's turn, one that gets the turn, and a turn that is left with what was
+/// found put back change no object, task or note.
+pub fn tries_change_nothing()
+    ensures { (key : RunPlan) → TriesChangeNothing key }
+{}
