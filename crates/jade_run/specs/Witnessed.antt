@@ -5,7 +5,6 @@ use Rattle.jade_meaning.specs.Plan.{RunPlan}
 use Rattle.jade_meaning.specs.Serial.{Path}
 use Rattle.jade_meaning.specs.Turns.{Full, turns_in}
 use Rattle.jade_syntax.specs.Image.{program}
-use Rattle.object_table.specs.Calls.{RanView}
 use Rattle.jade_run.specs.declared.status.Status.{Status}
 use Rattle.jade_run.specs.declared.status.Status.TheVariants.{Good, Fault, Refused, Words, Numbers, Reading, Writing, Memory}
 use Rattle.jade_run.specs.declared.words.Command.{Command}
@@ -17,10 +16,6 @@ use Rattle.jade_run.specs.Words.{RunWords, SerialWords, CheckWords, ShowWords, D
 pub record SeenRun : Type 0 where
   pub plan : RunPlan
   pub turns : List (List Path)
-
--- the same of a run that has come to its end
-abbrev pub seen_of : RanView → SeenRun
-seen_of ran = record { plan = ran.plan; turns = ran.report.turns }
 
 -- one run more, where the runs are told
 abbrev pub seen_with : Option (List SeenRun) → SeenRun → Option (List SeenRun)

@@ -1,7 +1,7 @@
 //! Who is shown the runs of a call.
 
 ghost use Rattle.std.specs.Prelude.{◌≡◌, Option, None, List};
-ghost use Rattle.jade_run.specs.Witnessed.{SeenRun, seen_of, seen_with};
+ghost use Rattle.jade_run.specs.Witnessed.{SeenRun, seen_with};
 
 use object_table::Ran;
 
@@ -14,7 +14,8 @@ pub trait Witness {
 
     /// Is shown what a run did.
     fn see(&mut self, ran: &Ran<'_>)
-        ensures { seen self.new ≡ seen_with (seen self.old) (seen_of ran.now) };
+        ensures { seen self.new
+            ≡ seen_with (seen self.old) (record { plan = ran.now.plan; turns = ran.now.report.turns }) };
 }
 
 /// The witness that looks away.

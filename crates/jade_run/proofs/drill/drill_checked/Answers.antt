@@ -12,7 +12,6 @@ use Rattle.jade_meaning.specs.Turns.{marks_by, turns_in}
 use Rattle.jade_run.specs.Outcome.{TurnLists}
 use Rattle.jade_run.specs.declared.status.Status.{Status}
 use Rattle.jade_run.specs.steps.Drilling.{ShowsSum}
-use Rattle.jade_run.specs.Witnessed.{seen_of}
 use Rattle.jade_run.proofs.Running.{planned, reported, run_is_shown}
 use Rattle.jade_run.proofs.Totals.{few_after}
 use Rattle.jade_run.proofs.drill.drill_checked.Goals as goal
@@ -58,7 +57,7 @@ returns g c =
             (reported all plan c.args.checked c.in_ok-compiled.compiled [] 4294967295 turns refl c.in_ok-ran.ensures c.in_ok-compiled.ensures)
             c.in_ok-compiled.ensures c.checked-seen.ensures (c.report_tells.ensures (program c.args.checked.program) [] 4294967295 turns)
             c.in_ok-answer.ensures.shows;
-        shown = run_is_shown (seen_of ran) c.args.checked.program [] 4294967295 _ _ c.see.ensures
+        shown = run_is_shown (record { plan = ran.plan; turns = ran.report.turns }) c.args.checked.program [] 4294967295 _ _ c.see.ensures
             (planned plan c.in_ok-compiled.compiled c.args.checked [] 4294967295 c.in_ok-ran.ensures c.in_ok-compiled.ensures)
             c.in_ok-answer.ensures.full;
       },

@@ -4,7 +4,6 @@ use Rattle.jade_syntax.specs.Image.{program}
 use Rattle.jade_meaning.specs.Plan.{RunPlan}
 use Rattle.jade_meaning.specs.Report.{report}
 use Rattle.jade_meaning.specs.Turns.{turns_in}
-use Rattle.jade_run.specs.Witnessed.{seen_of}
 use Rattle.jade_run.proofs.Running.{planned, reported, run_is_shown, shows_answer}
 use Rattle.jade_run.proofs.run.run_by_workers.Goals as goal
 
@@ -20,7 +19,7 @@ returns g c =
             (reported told plan c.args.checked c.in_ok-compiled.compiled c.args.numbers.now c.args.limit turns refl c.in_ok-ran.ensures c.in_ok-compiled.ensures)
             c.in_ok-compiled.ensures c.checked.ensures (c.report_tells.ensures (program c.args.checked.program) c.args.numbers.now c.args.limit turns)
             c.in_ok-answer.ensures.shows;
-        shown = run_is_shown (seen_of ran) c.args.checked.program c.args.numbers.now c.args.limit _ _ c.see.ensures
+        shown = run_is_shown (record { plan = ran.plan; turns = ran.report.turns }) c.args.checked.program c.args.numbers.now c.args.limit _ _ c.see.ensures
             (planned plan c.in_ok-compiled.compiled c.args.checked c.args.numbers.now c.args.limit c.in_ok-ran.ensures c.in_ok-compiled.ensures)
             c.in_ok-answer.ensures.full;
       },
