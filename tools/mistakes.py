@@ -30,6 +30,13 @@ FOREIGN = {
     **dict.fromkeys(("switch", "case", "match"), "Cases are told apart by `if` and `else`."),
 }
 
+# Operators that other languages spell as words.
+SPELLED_OUT = {
+    **dict.fromkeys(("and", "or", "not"), "`and` is written `&&`, `or` is written `||`, and `not` is written `!`."),
+    **dict.fromkeys(("mod", "rem", "div"), "The quotient is `a / b`, rounded towards zero, and what remains is `a % b`."),
+    **dict.fromkeys(("xor", "shl", "shr"), "There are no operators on bits."),
+}
+
 
 class Place:
     """A refused token, with what stands before it and what could stand there."""
@@ -171,6 +178,8 @@ def foreign_word(place):
         return FOREIGN[place.before.text]
     if place.is_found("do") and place.begins_a_statement():
         return "`do` stands after the section of a `withonly`; the only loop is `for i in low .. high { }`."
+    if place.found.text in SPELLED_OUT and "+" in place.expected:
+        return SPELLED_OUT[place.found.text]
     if place.is_found("proc"):
         return "`proc` is kept for procedures, which there are none of yet."
 

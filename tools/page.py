@@ -1,6 +1,7 @@
 """A page with a picture, in which one finds a task by its path or its line, and sees what it declared."""
 import json
 import pathlib
+import re
 
 from task_lines import told
 
@@ -24,4 +25,5 @@ def rows(tasks):
 def page(picture, tasks):
     """The page, as HTML."""
     data = json.dumps(list(rows(tasks)), separators=(",", ":")).replace("<", "\\u003c")
-    return FORM.read_text("utf-8").replace("PICTURE", picture.svg()).replace("TASKS", data)
+    before, between, after = re.split("PICTURE|TASKS", FORM.read_text("utf-8"))
+    return before + picture.svg() + between + data + after

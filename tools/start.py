@@ -113,11 +113,14 @@ def lanes_here():
 
 
 def link_or_copy(one, other):
-    """`rt` replaces what it has built, and changes none of it."""
+    """A file of a library or of a proof gets a second name: `rt` replaces such a file, and changes none. Others are copied."""
     try:
-        os.link(one, other)
+        if "/out/rlib/" in str(one) or str(one).endswith(".oantt"):
+            os.link(one, other)
+            return
     except OSError:
-        shutil.copy2(one, other)
+        pass
+    shutil.copy2(one, other)
 
 
 def give(one, other):

@@ -76,11 +76,11 @@ class Times:
             free[worker] = self.came[tasks.by_path[path], int(ask)]
 
     def times_of_commuting(self):
-        """By object, when tasks that update it in any order let go of it, in the order of these times."""
+        """By object, when which task that updates it in any order let go of it, in the order of these times."""
         found = {}
         for number, group in self.tasks.commuting().items():
             asks = [(task, at) for task in group for at, ask in enumerate(task.asks) if ask[:2] == ("give", number)]
-            found[number] = sorted(self.came[it] for it in asks if it in self.came)
+            found[number] = sorted(((self.came[it], it[0]) for it in asks if it in self.came), key=lambda it: it[0])
         return found
 
     def had_at(self, task, ask):
@@ -90,9 +90,10 @@ class Times:
         had = max([self.came[task, ask]] + [self.had[source.task, source.ask] for source in sources])
         if what[0] == "take" and what[2] == "commuting" and (task, ask + 1) in self.came:
             times = self.let_go.get(what[1], [])
-            before = bisect.bisect_right(times, self.came[task, ask + 1])
-            # The last that let go before this one went on; its own time is later.
-            had = max([had] + times[max(0, before - 1) : before])
+            before = bisect.bisect_right(times, self.came[task, ask + 1], key=lambda it: it[0])
+            # The last other one that let go before this one went on.
+            last = next((time for time, other in reversed(times[max(0, before - 2) : before]) if other is not task), had)
+            had = max(had, last)
         return had
 
     def go_on(self, task, ask, worker, free):

@@ -5,3 +5,5 @@ mod Creations
 mod Counting
 mod Uncommuting
 mod PlainContents
+mod KeyOrder
+mod LeftOrder

@@ -13,7 +13,7 @@ use Rattle.schedule_core.specs.Sound.{Within, From}
 use Rattle.schedule_core.specs.Remains.{IsLeft, Remains, WritesGoFirst}
 use Rattle.core_laws.specs.WhatIsLeft.{IsAhead, itself, unborn, IsYetToDo, WhatIsLeft, SomeIsLeft}
 
-ahead_of : (s : Seat) (p : Path) → Within s.path s.children p → IsAhead s p
+pub ahead_of : (s : Seat) (p : Path) → Within s.path s.children p → IsAhead s p
 ahead_of s p w = go w.rest w.is w.from
   where
     go : (r : Path) → p ≡ s.path ++ r → From s.children r → IsAhead s p
@@ -28,7 +28,7 @@ pub every_by : {A : Type 0} (P Q : A → Type 0) → ((x : A) → P x → Q x) �
 every_by P Q f [] h = tt
 every_by P Q f (x ∷ xs) h = (f x h.0, every_by P Q f xs h.1)
 
-pub what_is_left : (p : Program) (ns : List ℤ) (limit : ℕ) (roll : List Seat) (ss : List ObjectView) (rest : ℕ → List Path)
+abbrev pub what_is_left : (p : Program) (ns : List ℤ) (limit : ℕ) (roll : List Seat) (ss : List ObjectView) (rest : ℕ → List Path)
     → Remains p ns limit roll ss rest → WhatIsLeft p (marks_by (program p) ns limit (and_then ss rest)) roll ss
 what_is_left p ns limit roll ss rest r = record {
   left = r.left;

@@ -3,3 +3,5 @@ pub mod WhatIsLeft
 pub mod ByPlace
 pub mod PlainContents
 pub mod Room
+pub mod KeyOrder
+pub mod LeftOrder

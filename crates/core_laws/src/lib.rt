@@ -4,6 +4,7 @@
 
 ghost use Rattle.std.specs.Prelude.{◌≡◌, ◌↔◌, false, ℕ, ℤ, List};
 ghost use Rattle.jade_syntax.specs.declared.tree.Program.{Program};
+ghost use Rattle.jade_syntax.specs.Abstract.{AbstractProgram};
 ghost use Rattle.jade_syntax.specs.Image.{program};
 ghost use Rattle.jade_meaning.specs.Serial.{Path};
 ghost use Rattle.jade_meaning.specs.Turns.{marks_by};
@@ -13,6 +14,8 @@ ghost use Rattle.schedule_core.specs.declared.steps.Seat.{Seat};
 ghost use Rattle.schedule_core.specs.Remains.{Remains};
 ghost use Rattle.schedule_core.specs.Soundness.{and_then};
 ghost use Rattle.core_laws.specs.ByPlace.{ContentsByPlace};
+ghost use Rattle.core_laws.specs.KeyOrder.{WorksStandByKey};
+ghost use Rattle.core_laws.specs.LeftOrder.{SomeLeftInOrder};
 ghost use Rattle.core_laws.specs.OnePlay.{PicksDecide};
 ghost use Rattle.core_laws.specs.PlainContents.{PlainContents};
 ghost use Rattle.core_laws.specs.Room.{ChildrenAreFew};
@@ -65,4 +68,22 @@ pub fn children_are_few()
     ensures { (p : Program) (ns : List ℤ) (limit : ℕ) → ChildrenAreFew p ns limit }
 {
     jade_meaning::laws::more_answers();
+}
+
+/// In the meaning, by any turn lists, the writes and turns on an object stand in the serial order of
+/// their parts, but those of tasks that commute on it.
+pub fn works_stand_by_key()
+    ensures { (p : AbstractProgram) (ns : List ℤ) (limit : ℕ) (turns : ℕ → List Path) → WorksStandByKey p ns limit turns }
+{
+    jade_meaning::laws::keeps();
+}
+
+/// A work that is left to a live task, or to one that it has yet to bring about, stands in the meaning
+/// before those left to tasks later on the roll, unless both are of tasks that commute on the object.
+pub fn left_in_order()
+    ensures { (p : Program) (ns : List ℤ) (limit : ℕ) → SomeLeftInOrder p ns limit }
+{
+    jade_meaning::laws::keeps();
+    schedule_core::laws::in_serial_order();
+    works_stand_by_key();
 }

@@ -1,0 +1,11 @@
+pub mod Bytes
+pub mod Cuts
+pub mod Spellings
+pub mod Signed
+pub mod PathLemmas
+pub mod Options
+pub mod NumberLemmas
+pub mod Labelling
+pub mod Passing
+pub mod Same
+pub mod Adding

@@ -1,0 +1,3 @@
+pub mod Cutting
+pub mod Unfit
+pub mod Rests

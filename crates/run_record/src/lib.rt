@@ -1,0 +1,20 @@
+//! The recording of a run as text: written, and read.
+#![tactic(auto)]
+
+mod labels;
+pub mod laws;
+mod lines;
+mod paths;
+mod pieces;
+pub mod read;
+pub mod recorded;
+#[cfg(test)]
+mod tests;
+pub mod turns;
+mod words;
+pub mod write;
+
+pub use read::{ReadError, read_record};
+pub use recorded::{Lines, Record};
+pub use turns::{LabelledTurn, LabelledTurns};
+pub use write::{RecordError, write_record};
