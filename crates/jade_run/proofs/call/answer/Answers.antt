@@ -46,12 +46,8 @@ returns-then-not-works_on_text-clause-answer g c =
     textless _ _ _ _ c.in-Ok.command c.without_text.result _ _ c.in-Ok.ensures (sym c.works_on_text.ensures ∙ c.if-not-works_on_text.true)
     c.without_text.ensures.answer c.without_text.ensures.memory
 
-
 pub returns-in-Err-clause-still : goal.returns-in-Err-clause-still
 returns-in-Err-clause-still g c = memory_still c.not_a_command.result _ _ c.not_a_command.ensures.memory
-
-
-
 
 pub returns-then-not-works_on_text-clause-still : goal.returns-then-not-works_on_text-clause-still
 returns-then-not-works_on_text-clause-still g c = memory_still c.without_text.result _ _ c.without_text.ensures.memory

@@ -17,8 +17,8 @@ returns-in-Program g c =
     one_answer c.without_cm.ensures c.runs_plainly.ensures (program c.in-Program.checked.program) [] 4294967295 turns in_order
     (c.drills_are_plain.ensures c.args.tasks c.requires.amount.1 c.in-Program.checked.program good)) _ _ c.drill_checked.ensures)
 
-pub returns-in-Answered : goal.returns-in-Answered
-returns-in-Answered g c =
+pub returns : goal.returns
+returns g c =
     let settled = answered_ready c.deref.result.now [] c.in_ok-ready.ready c.in-Answered.answer c.in-Answered.is c.in_ok-ready.ensures in
     settled_drill c.args.tasks c.deref.result.now c.in-Answered.answer.text.items c.in-Answered.answer.status _ settled
     (settled_drilled c.args.tasks c.deref.result.now c.in-Answered.answer.text.items c.in-Answered.answer.status

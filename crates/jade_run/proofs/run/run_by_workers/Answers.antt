@@ -1,7 +1,5 @@
-use Rattle.std.proofs.Common.{refl, ap, ◌∙◌}
-use Rattle.jade_syntax.specs.CheckedProgram.{CheckedProgram}
+use Rattle.std.proofs.Common.{refl}
 use Rattle.jade_syntax.specs.Image.{program}
-use Rattle.jade_meaning.specs.Plan.{RunPlan}
 use Rattle.jade_meaning.specs.Report.{report}
 use Rattle.jade_meaning.specs.Turns.{turns_in}
 use Rattle.jade_run.proofs.Running.{planned, reported, run_is_shown, shows_answer}
