@@ -61,7 +61,9 @@ use Rattle.jade_run.specs.Outcome.{
 use Rattle.jade_run.specs.Texts.{usage_text, refused_text, ok_text}
 use Rattle.jade_run.specs.Words.{SpellsExecution, NeedsText, RefusesWords, Asks, IsUsage, to_run, to_serial, to_check, to_show, on_text}
 use Rattle.jade_run.specs.Words.{works_on_text}
+use Rattle.jade_run.specs.Witnessed.{Carried, SeenRun, SawWords, of_none, of_drill, refuses}
 use Rattle.jade_run.proofs.Naming.{drill_only}
+use Rattle.jade_run.proofs.Witnessing.{command_words, refused_words}
 use Rattle.jade_meaning.specs.Answer.{Answer, Faulted, Cells, answer}
 use Rattle.jade_syntax.specs.Image.{program}
 
@@ -74,10 +76,16 @@ pub told_bytes : (left : Option (List ℕ)) (b : List ℕ) → left ≡ Some b �
 unfolding bytes_of
 told_bytes left b e = ap bytes_of e
 
-pub usage_answers : (words : List (List ℕ)) (left : Option (List ℕ)) (text : List ℕ) (status : Status) → RefusesWords words → text ≡ usage_text →
-    status ≡ Words → Answers words left left text status
-usage_answers words left text status never t s = record {
-  comes = record { bytes = bytes_of left; told = told_bytes left; turns = in_order; outcome = usage never t s };
+pub usage_answers : (words : List (List ℕ)) (left : Option (List ℕ)) (text : List ℕ) (status : Status) (seen : Option (List SeenRun)) →
+    RefusesWords words → text ≡ usage_text → status ≡ Words → Answers words left left text status seen seen
+usage_answers words left text status seen never t s = record {
+  comes = record {
+    bytes = bytes_of left;
+    told = told_bytes left;
+    turns = in_order;
+    outcome = usage never t s;
+    saw = of_none (refuses never) refl;
+  };
   read = λ needed b e. absurd (never (on_text needed));
   unread = λ h. refl;
 }
@@ -97,12 +105,19 @@ many : (left : Option (List ℕ)) → ((b : List ℕ) → left ≡ Some b → 10
 many None h = let some = long 1048577 in record { bytes = some.0; told = λ b e. absurd (cc); more = omega (arith, some.1) }
 many (Some b) h = record { bytes = b; told = λ x e. cc; more = omega (arith, h b refl) }
 
-pub too_long_answers : (words : List (List ℕ)) (before after : Option (List ℕ)) (text : List ℕ) (status : Status) → NeedsText words →
-    CutText before after → text ≡ refused_text first_place (codes "text") → status ≡ Refused → Answers words before after text status
-too_long_answers words before after text status named cut t s =
+pub too_long_answers : (words : List (List ℕ)) (before after : Option (List ℕ)) (text : List ℕ) (status : Status) (seen : Option (List SeenRun)) →
+    NeedsText words → CutText before after → text ≡ refused_text first_place (codes "text") → status ≡ Refused →
+    Answers words before after text status seen seen
+too_long_answers words before after text status seen named cut t s =
     let m = many before cut.too_long in
     record {
-      comes = record { bytes = m.bytes; told = m.told; turns = in_order; outcome = too_long named m.more t s };
+      comes = record {
+        bytes = m.bytes;
+        told = m.told;
+        turns = in_order;
+        outcome = too_long named m.more t s;
+        saw = subst (λ x. SawWords words m.bytes in_order x seen seen) (sym s) (refused_words words m.bytes in_order seen named);
+      };
       read = λ needed b e. cut.cut ∙ ap (left_after 1048577) e;
       unread = λ h. absurd (h named);
     }
@@ -132,41 +147,52 @@ commanded words Check bytes turns text status asked within h = check asked withi
 commanded words Show bytes turns text status asked within h = show asked within h
 commanded words (Drill n w) bytes turns text status asked within h = drill n w asked h
 
-pub command_answers : (words : List (List ℕ)) (before after : Option (List ℕ)) (c : Command) (bytes read text : List ℕ) (status : Status) → Asks words c →
-    works_on_text c ≡ true → WholeText before after bytes → read ≡ bytes → BySomeTurns (λ turns. IsCommanded c read turns text status) → Answers words before after text status
-command_answers words before after c bytes read text status asked on whole all h = record {
-  comes = record {
-    bytes = bytes;
-    told = whole.whole;
-    turns = h.0;
-    outcome =
-        commanded words c bytes h.0 text status asked whole.within (let P : List ℕ → Type 0 = λ z. IsCommanded c z h.0 text status in subst P all h.1);
-  };
-  read = λ needed b e.
-      let same : bytes ≡ b = whole.whole b e in
-      let within : length b ≤ 1048577 = subst (λ z. length z ≤ 1048577) same (omega (arith, whole.within)) in
-      whole.none_left b e ∙ ap (λ z. Some z) (sym (drop_all 1048577 b within));
-  unread = λ never. absurd (never (asks_text words c asked on));
-}
+pub command_answers : (words : List (List ℕ)) (before after : Option (List ℕ)) (c : Command) (bytes read text : List ℕ) (status : Status)
+    (old new : Option (List SeenRun)) → Asks words c → works_on_text c ≡ true → WholeText before after bytes → read ≡ bytes →
+    BySomeTurns (λ turns. Carried c read turns text status old new) → Answers words before after text status old new
+command_answers words before after c bytes read text status old new asked on whole all h =
+    let carried : Carried c bytes h.0 text status old new =
+    (let P : List ℕ → Type 0 = λ z. Carried c z h.0 text status old new in subst P all h.1) in
+    record {
+      comes = record {
+        bytes = bytes;
+        told = whole.whole;
+        turns = h.0;
+        outcome = commanded words c bytes h.0 text status asked whole.within carried.is;
+        saw = command_words words c bytes h.0 status old new asked carried.saw;
+      };
+      read = λ needed b e.
+          let same : bytes ≡ b = whole.whole b e in
+          let within : length b ≤ 1048577 = subst (λ z. length z ≤ 1048577) same (omega (arith, whole.within)) in
+          whole.none_left b e ∙ ap (λ z. Some z) (sym (drop_all 1048577 b within));
+      unread = λ never. absurd (never (asks_text words c asked on));
+    }
 
-drilled_answers : (words : List (List ℕ)) (left : Option (List ℕ)) (c : Command) (text : List ℕ) (status : Status) → Asks words c →
-    works_on_text c ≡ false → BySomeTurns (λ turns. IsCommanded c [] turns text status) → Answers words left left text status
-drilled_answers words left (Run w e) text status asked off h = absurd (cc)
-drilled_answers words left (Serial e) text status asked off h = absurd (cc)
-drilled_answers words left Check text status asked off h = absurd (cc)
-drilled_answers words left Show text status asked off h = absurd (cc)
-drilled_answers words left (Drill n w) text status asked off h = record {
-  comes = record { bytes = bytes_of left; told = told_bytes left; turns = h.0; outcome = drill n w asked h.1 };
+drilled_answers : (words : List (List ℕ)) (left : Option (List ℕ)) (c : Command) (text : List ℕ) (status : Status) (old new : Option (List SeenRun)) →
+    Asks words c → works_on_text c ≡ false → BySomeTurns (λ turns. Carried c [] turns text status old new) → Answers words left left text status old new
+drilled_answers words left (Run w e) text status old new asked off h = absurd (cc)
+drilled_answers words left (Serial e) text status old new asked off h = absurd (cc)
+drilled_answers words left Check text status old new asked off h = absurd (cc)
+drilled_answers words left Show text status old new asked off h = absurd (cc)
+drilled_answers words left (Drill n w) text status old new asked off h = record {
+  comes = record {
+    bytes = bytes_of left;
+    told = told_bytes left;
+    turns = h.0;
+    outcome = drill n w asked h.1.is;
+    saw = of_drill n w asked h.1.saw;
+  };
   read = λ needed b e. absurd (drill_only words n w asked needed);
   unread = λ never. refl;
 }
 
 -- what a command comes to that works on no text, and what stops the call where there is no memory
-pub textless : (words : List (List ℕ)) (left : Option (List ℕ)) (before after : ℕ) (c : Command) (r : Result AnswerOf Status) → Asks words c →
-    works_on_text c ≡ false → IfOk r (λ a. BySomeTurns (λ turns. IsCommanded c [] turns a.text.items a.status)) → IfErr r (λ s. s ≡ Memory) →
-    MatchResult r (λ a. Answers words left left a.text.items a.status) (λ s. Stops s before after)
-textless words left before after c (Ok a) asked off h m = drilled_answers words left c a.text.items a.status asked off h
-textless words left before after c (Err s) asked off h m = subst (λ z. Stops z before after) (sym m) tt
+pub textless : (words : List (List ℕ)) (left : Option (List ℕ)) (before after : ℕ) (c : Command) (r : Result AnswerOf Status)
+    (old new : Option (List SeenRun)) → Asks words c → works_on_text c ≡ false →
+    IfOk r (λ a. BySomeTurns (λ turns. Carried c [] turns a.text.items a.status old new)) → IfErr r (λ s. s ≡ Memory) →
+    MatchResult r (λ a. Answers words left left a.text.items a.status old new) (λ s. Stops s before after)
+textless words left before after c (Ok a) old new asked off h m = drilled_answers words left c a.text.items a.status old new asked off h
+textless words left before after c (Err s) old new asked off h m = subst (λ z. Stops z before after) (sym m) tt
 
 -- the statuses with which an outcome is written
 unfoldable pub Written : Status → Type 0
@@ -217,7 +243,7 @@ outcome_written words bytes turns text status (show named within h) = shown_writ
 outcome_written words bytes turns text status (drill n w named h) = drilled_written _ _ _ h
 
 written_headline : (words : List (List ℕ)) (status : Status) (before after : Moment) (text : List ℕ) → Written status →
-    Answers words before.left after.left text status → after.taken ≡ taken_with before.taken text → Headline words status before after
+    Answers words before.left after.left text status before.seen after.seen → after.taken ≡ taken_with before.taken text → Headline words status before after
 unfolding Written
 written_headline words Good before after text h a w = record { text = text; answers = a; written = w }
 written_headline words Fault before after text h a w = record { text = text; answers = a; written = w }
@@ -229,19 +255,31 @@ written_headline words Writing before after text h a w = absurd h
 written_headline words Memory before after text h a w = absurd h
 
 -- an outcome that was written whole
-pub wrote_headline : (words : List (List ℕ)) (status : Status) (before after : Moment) (text : List ℕ) → Answers words before.left after.left text status →
-    after.taken ≡ taken_with before.taken text → Headline words status before after
+pub wrote_headline : (words : List (List ℕ)) (status : Status) (before after : Moment) (text : List ℕ) →
+    Answers words before.left after.left text status before.seen after.seen → after.taken ≡ taken_with before.taken text → Headline words status before after
 wrote_headline words status before after text a w =
     written_headline words status before after text (outcome_written _ _ _ _ _ a.comes.outcome) a w
+
+-- a call that was stopped before there was an outcome
+pub stopped_headline : (words : List (List ℕ)) (status : Status) (before after : Moment) → after.taken ≡ before.taken →
+    Stops status before.source_faults after.source_faults → (status ≡ Reading → after.seen ≡ before.seen) → Headline words status before after
+stopped_headline words Good before after w s e = absurd s
+stopped_headline words Fault before after w s e = absurd s
+stopped_headline words Refused before after w s e = absurd s
+stopped_headline words Words before after w s e = absurd s
+stopped_headline words Numbers before after w s e = absurd s
+stopped_headline words Reading before after w s e = record { rose = s; written = w; unseen = e refl }
+stopped_headline words Writing before after w s e = absurd s
+stopped_headline words Memory before after w s e = w
 
 no_reading : (status : Status) → Written status → status ≡ Reading → ⊥
 unfolding Written
 no_reading status w e = subst Written e w
 
 -- an answer never says that the source failed
-pub not_reading : (words : List (List ℕ)) (before after : Option (List ℕ)) (text : List ℕ) (status : Status) → Answers words before after text status →
-    status ≡ Reading → ⊥
-not_reading words before after text status a e = no_reading status (outcome_written _ _ _ _ _ a.comes.outcome) e
+pub not_reading : (words : List (List ℕ)) (before after : Option (List ℕ)) (text : List ℕ) (status : Status) (old new : Option (List SeenRun)) →
+    Answers words before after text status old new → status ≡ Reading → ⊥
+not_reading words before after text status old new a e = no_reading status (outcome_written _ _ _ _ _ a.comes.outcome) e
 
 -- what a text that was not read comes to
 pub refused_shown : (bytes : List ℕ) (e : ReadError) (r : Result AnswerOf NoMemory) → IfOk r (λ a. IsNotRead e a.text.items a.status) →
@@ -269,18 +307,12 @@ pub answered_in : (bytes : List ℕ) (numbers : List ℤ) (limit : ℕ) (turns :
 answered_in bytes numbers limit turns tree (Ok a) g n h = answered tree g n h
 answered_in bytes numbers limit turns tree (Err m) g n h = tt
 
-pub answered_by : (bytes : List ℕ) (numbers : List ℤ) (limit : ℕ) (tree : Program) (r : Result AnswerOf NoMemory) → IsGood bytes tree →
-    length numbers ≡ input_count tree → IfOk r (λ a. BySomeTurns (λ turns. Shows (program tree) (answer (program tree) numbers limit turns) a.text.items a.status))
-    → IfOk r (λ a. BySomeTurns (λ turns. IsAnswered bytes numbers limit turns a.text.items a.status))
-answered_by bytes numbers limit tree (Ok a) g n h = (h.0, answered tree g n h.1)
-answered_by bytes numbers limit tree (Err m) g n h = tt
-
 -- what words are answered with that are no command's, and what stops the call where there is no memory
-pub no_command : (words : List (List ℕ)) (left : Option (List ℕ)) (before after : ℕ) (e : WordsError) (r : Result AnswerOf Status) → IsUsage words e →
-    IfOk r (λ a. (e ≡ Usage) × (a.text.items ≡ usage_text) × (a.status ≡ Words)) → IfErr r (λ s. s ≡ Memory) →
-    MatchResult r (λ a. Answers words left left a.text.items a.status) (λ s. Stops s before after)
-no_command words left before after e (Ok a) h k m = usage_answers words left a.text.items a.status (subst (IsUsage words) k.0 h) k.1 k.2
-no_command words left before after e (Err s) h k m = subst (λ z. Stops z before after) (sym m) tt
+pub no_command : (words : List (List ℕ)) (left : Option (List ℕ)) (before after : ℕ) (e : WordsError) (r : Result AnswerOf Status)
+    (seen : Option (List SeenRun)) → IsUsage words e → IfOk r (λ a. (e ≡ Usage) × (a.text.items ≡ usage_text) × (a.status ≡ Words)) →
+    IfErr r (λ s. s ≡ Memory) → MatchResult r (λ a. Answers words left left a.text.items a.status seen seen) (λ s. Stops s before after)
+no_command words left before after e (Ok a) seen h k m = usage_answers words left a.text.items a.status seen (subst (IsUsage words) k.0 h) k.1 k.2
+no_command words left before after e (Err s) seen h k m = subst (λ z. Stops z before after) (sym m) tt
 
 -- the answer of a refusal
 pub not_read_is : (place : Pos) (why : Bor (List ℕ)) (r : Result AnswerOf NoMemory) → IfOk r (λ a. a.text.items ≡ refused_text place why.now) →

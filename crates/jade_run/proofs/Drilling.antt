@@ -1,5 +1,5 @@
 -- What a drill comes to.
-use Rattle.std.proofs.Common.{◌≡◌, ℕ, ◌⊎◌, inl, inr, List, [], refl, sym, ◌∙◌, subst}
+use Rattle.std.proofs.Common.{◌≡◌, ℕ, ◌⊎◌, inl, inr, List, [], Option, refl, sym, ◌∙◌, subst}
 use Rattle.std.specs.Prelude.{Result, Ok, Err, IfOk}
 use Rattle.jade_base.specs.declared.failure.Memory.{Memory as NoMemory}
 use Rattle.jade_gen.specs.Drill.{drill_text}
@@ -12,7 +12,8 @@ use Rattle.jade_run.specs.declared.status.Status.TheVariants.{Good, Fault, Refus
 use Rattle.jade_run.specs.Outcome.{TurnLists, BySomeTurns, IsAnswered, IsDrilled, IsGood, Shows}
 use Rattle.jade_meaning.specs.Turns.{in_order}
 use Rattle.jade_run.specs.Outcome.{summed, not_summed, answered, input_count}
-use Rattle.jade_run.specs.steps.Drilling.{ShowsSum}
+use Rattle.jade_run.specs.Witnessed.{SeenRun}
+use Rattle.jade_run.specs.steps.Drilling.{IsDrillOf, ShowsSum}
 use Rattle.jade_run.specs.steps.Preparing.{IsSettled}
 
 refused_is_bad : Refused ≡ Good → ⊥
@@ -45,11 +46,11 @@ told tasks tree text status g n (Faulted path blame) e h =
 pub sum_drilled : (tasks : ℕ) (bytes : List ℕ) (tree : Program) (r : Result AnswerOf NoMemory) → bytes ≡ drill_text tasks → IsGood bytes tree →
     input_count tree ≡ 0 → (IsGood (drill_text tasks) tree → (turns : TurnLists) →
     answer (program tree) [] 4294967295 turns ≡ answer (program tree) [] 4294967295 in_order) →
-    IfOk r (λ a. BySomeTurns (λ turns. ShowsSum (program tree) tasks (answer (program tree) [] 4294967295 turns) a.text.items a.status)) →
+    (old new : Option (List SeenRun)) → IfOk r (λ a. BySomeTurns (λ turns. IsDrillOf tree tasks turns a.text.items a.status old new)) →
     IfOk r (λ a. IsDrilled tasks a.text.items a.status)
-sum_drilled tasks bytes tree (Ok a) made g n same h =
+sum_drilled tasks bytes tree (Ok a) made g n same old new h =
     let P : List ℕ → Type 0 = λ b. IsGood b tree in
     let Q : Answer → Type 0 = λ x. ShowsSum (program tree) tasks x a.text.items a.status in
     let good : IsGood (drill_text tasks) tree = subst P made g in
-    told tasks tree a.text.items a.status good n (answer (program tree) [] 4294967295 in_order) refl (subst Q (same good h.0) h.1)
-sum_drilled tasks bytes tree (Err m) made g n same h = tt
+    told tasks tree a.text.items a.status good n (answer (program tree) [] 4294967295 in_order) refl (subst Q (same good h.0) h.1.shows)
+sum_drilled tasks bytes tree (Err m) made g n same old new h = tt

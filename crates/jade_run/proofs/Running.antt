@@ -1,5 +1,5 @@
 -- What the report of a run tells.
-use Rattle.std.proofs.Common.{◌≡◌, ℕ, List, ap, sym, subst, ◌∙◌, map}
+use Rattle.std.proofs.Common.{◌≡◌, ℕ, List, Option, ap, refl, sym, subst, ◌∙◌, map}
 use Rattle.std.specs.Prelude.{ℤ}
 use Rattle.jade_base.specs.declared.report.Report.{Report}
 use Rattle.jade_syntax.specs.Abstract.{AbstractProgram}
@@ -9,11 +9,15 @@ use Rattle.jade_meaning.specs.Answer.{Answer, answer}
 use Rattle.jade_meaning.specs.Plan.{RunPlan}
 use Rattle.jade_meaning.specs.Report.{report, Ascends}
 use Rattle.jade_meaning.specs.ReportAnswer.{report_answer, ReportTells}
+use Rattle.jade_meaning.specs.Turns.{Full, turns_in}
+use Rattle.jade_syntax.specs.declared.tree.Program.{Program as ProgramOf}
 use Rattle.jade_run.specs.declared.answer.Ready.{Ready}
 use Rattle.jade_run.specs.declared.answer.Ready.TheVariants.{Program, Answered}
 use Rattle.jade_run.specs.declared.answer.Answer.{Answer as AnswerOf}
 use Rattle.jade_run.specs.declared.status.Status.{Status}
 use Rattle.jade_run.specs.Outcome.{fault_key, Shows, TurnLists}
+use Rattle.jade_run.specs.Witnessed.{SeenRun, seen_with}
+use Rattle.jade_run.specs.steps.Ending.{ShownRun}
 use Rattle.jade_run.specs.steps.Preparing.{IsReady, IsSettled}
 
 -- the report of a run of the program that was compiled is that of the program
@@ -43,3 +47,20 @@ program_ready bytes ns r c e h = subst (λ x. IsReady bytes ns x) e h
 pub answered_ready : (bytes : List ℕ) (ns : List ℤ) (r : Ready) (a : AnswerOf) → r ≡ Answered a → IsReady bytes ns r →
     IsSettled bytes ns a.text.items a.status
 answered_ready bytes ns r a e h = let P : Ready → Type 0 = λ x. IsReady bytes ns x in subst P e h
+
+-- the plan of a run of the program that was compiled
+pub planned : (plan : RunPlan) (q p : CheckedProgram) (ns : List ℤ) (limit : ℕ) → plan ≡ record { program = q.program; numbers = ns; limit = limit } → q ≡ p
+    → plan ≡ record { program = p.program; numbers = ns; limit = limit }
+planned plan q p ns limit e f = e ∙ ap (λ (x : CheckedProgram). record { program = x.program; numbers = ns; limit = limit }) f
+
+-- a run that a witness saw, whose turns are full
+pub run_is_shown : (run : SeenRun) (tree : ProgramOf) (ns : List ℤ) (limit : ℕ) (before after : Option (List SeenRun)) → after ≡ seen_with before run
+    → run.plan ≡ record { program = tree; numbers = ns; limit = limit } → Full (program run.plan.program) run.plan.numbers run.plan.limit (turns_in run.turns)
+    → ShownRun tree ns limit (turns_in run.turns) before after
+run_is_shown run tree ns limit before after saw plan full = record {
+  run = run;
+  saw = saw;
+  plan = plan;
+  taken = refl;
+  full = subst (λ (p : RunPlan). Full (program p.program) p.numbers p.limit (turns_in run.turns)) plan full;
+}

@@ -1,6 +1,6 @@
 -- A text in which no `c` stands before an `m` is one of a program without the word `cm`.
-use Rattle.std.proofs.Common.{◌≡◌, ℕ, ◌≤◌, Bool, true, false, ◌&&◌, ◌||◌, not, List, [], ◌∷◌, ◌++◌, Option, Some, None, map, refl, sym, ap, ◌∙◌, subst, arith, rules, ◌^◌, ◌<◌, suc}
-use Rattle.std.specs.Prelude.{◌==◌, codes}
+use Rattle.std.proofs.Common.{◌≡◌, ℕ, ◌≤◌, Bool, true, false, ◌&&◌, ◌||◌, not, List, [], ◌∷◌, ◌++◌, Some, None, map, refl, sym, ap, ◌∙◌, subst, arith, rules}
+use Rattle.std.specs.Prelude.{◌==◌}
 use Rattle.std.specs.List.{list_all, flat_map}
 use Rattle.std.specs.Char.{is_ascii_digit}
 use Rattle.std.specs.Fmt.{decimal}
@@ -21,16 +21,16 @@ use Rattle.jade_syntax.specs.declared.tree.ObjectRef.{ObjectRef}
 use Rattle.jade_syntax.specs.declared.tree.Program.{Program}
 use Rattle.jade_syntax.specs.declared.tree.Statement.{Statement, map-Statement, fold-roll-Statement, ind-Statement}
 use Rattle.jade_syntax.specs.declared.tree.Statement.TheOpen.{Statement-F}
-use Rattle.jade_syntax.specs.Abstract.{Action, Actions}
+use Rattle.jade_syntax.specs.Abstract.{Action}
 use Rattle.jade_syntax.specs.Forms as general
 use Rattle.jade_syntax.specs.Image.{forms, statement_forms, actions, action, block, program}
-use Rattle.jade_parser.specs.declared.Sign.TheVariants.{LeftParen, RightParen, LeftBrace, RightBrace, IfWord, ElseWord, DoWord, DotDot, MainWord}
+use Rattle.jade_parser.specs.declared.Sign.TheVariants.{LeftParen, RightParen, RightBrace, IfWord, DoWord, DotDot}
 use Rattle.jade_parser.specs.declared.Sign.TheVariants.{ForWord, InWord, WithonlyWord, WithWord, ContWord, Semicolon}
 use Rattle.jade_parser.specs.Spelled.{Part, Parts, Fixed, Called, fixed, marked, outer}
 use Rattle.jade_parser.specs.Kinds.{token_bytes}
 use Rattle.jade_parser.specs.Statements.{braced, name_parts, else_parts, at_statement, statement_parts, block_parts}
 use Rattle.jade_parser.specs.Programs.{head_parts, program_parts}
-use Rattle.jade_parser.specs.Grammar.{bytes_of, texts}
+use Rattle.jade_parser.specs.Grammar.{bytes_of}
 use Rattle.jade_reading.specs.Reading.{ReadsAs}
 use Rattle.jade_meaning.specs.Uncommuting.{is_cm, has_cm, any_cm, uses_cm}
 

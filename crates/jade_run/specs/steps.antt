@@ -1,2 +1,3 @@
 pub mod Drilling
+pub mod Ending
 pub mod Preparing

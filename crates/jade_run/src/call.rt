@@ -2,8 +2,8 @@
 
 ghost use Rattle.std.specs.Prelude.{◌≡◌, ◌≤◌, [], length, IfOk, IfErr, MatchResult, codes};
 ghost use Rattle.jade_run.specs.Headline.{Answers, Headline, Stops};
-ghost use Rattle.jade_run.specs.Outcome.{first_place, BySomeTurns, IsAllowed, IsCommanded};
-ghost use Rattle.jade_run.specs.Witnessed.{Saw, SawCommand, SawOf};
+ghost use Rattle.jade_run.specs.Outcome.{first_place, BySomeTurns, IsAllowed};
+ghost use Rattle.jade_run.specs.Witnessed.{Carried};
 ghost use Rattle.jade_run.specs.Words.{NeedsNoText};
 ghost use Rattle.jade_run.specs.Texts.{refused_text, usage_text};
 
@@ -27,9 +27,10 @@ const FIRST_PLACE: Pos = Pos { line: 1, column: 1 };
 /// source where they are those of a command that works on one, writes what it comes to, and answers
 /// the status. For a drill and for refused words nothing is read.
 ///
-/// `run` and `drill` run the tasks on as many workers as the words say, the caller among them; what
-/// they write does not depend on that, nor on the gate. The witness is shown what such a run did,
-/// where it comes to an answer, before that is written.
+/// `run` and `drill` run the tasks on as many workers as the words say, the caller among them. What
+/// they write does not depend on that, nor on the gate, but for the order in which tasks take their
+/// turns that commute. The witness is shown what such a run did, with the turns, where it comes to an
+/// answer, before that is written; what is written is the outcome by these turns.
 ///
 /// The words are tested first, then the length of the text, then the text. The whole text of the
 /// answer is built before its first byte is written.
@@ -42,7 +43,6 @@ pub fn jade_main<R: Threads + Wait + Sync, S: Source, K: Sink, G: Gate, W: Witne
     gate: &G,
     witness: &mut W,
 ) -> Status
-    ensures saw { Saw words.now (S.left source.old) result (W.seen witness.old) (W.seen witness.new) }
     ensures unread { NeedsNoText words.now → (source.new ≡ source.old) × (result ≡ Status.Reading → ⊥) }
     ensures headline { Headline words.now result
         (record {
@@ -51,6 +51,7 @@ pub fn jade_main<R: Threads + Wait + Sync, S: Source, K: Sink, G: Gate, W: Witne
           room = K.room sink.old;
           source_faults = S.faults source.old;
           sink_faults = K.faults sink.old;
+          seen = W.seen witness.old;
         })
         (record {
           left = S.left source.new;
@@ -58,6 +59,7 @@ pub fn jade_main<R: Threads + Wait + Sync, S: Source, K: Sink, G: Gate, W: Witne
           room = K.room sink.new;
           source_faults = S.faults source.new;
           sink_faults = K.faults sink.new;
+          seen = W.seen witness.new;
         }) }
 {
     match answer(rt, alloc, words, source, gate, witness) {
@@ -79,10 +81,10 @@ fn answer<R: Threads + Wait + Sync, S: Source, G: Gate, W: Witness>(
     gate: &G,
     witness: &mut W,
 ) -> Result<Answer, Status>
-    ensures saw { IfOk result (λ a. SawOf words.now (S.left source.old) a.status (W.seen witness.old) (W.seen witness.new)) }
     ensures still { IfErr result (λ s. s ≡ Status.Reading → W.seen witness.new ≡ W.seen witness.old) }
     ensures unread { NeedsNoText words.now → (source.new ≡ source.old) × IfErr result (λ s. s ≡ Status.Memory) }
-    ensures answer { MatchResult result (λ a. Answers words.now (S.left source.old) (S.left source.new) a.text.items a.status)
+    ensures answer { MatchResult result
+        (λ a. Answers words.now (S.left source.old) (S.left source.new) a.text.items a.status (W.seen witness.old) (W.seen witness.new))
         (λ s. Stops s (S.faults source.old) (S.faults source.new)) }
 {
     let command = match command_of(alloc, words) {
@@ -115,8 +117,8 @@ fn without_text<R: Threads + Wait + Sync, G: Gate, W: Witness>(
     witness: &mut W,
 ) -> Result<Answer, Status>
     requires { IsAllowed command.now }
-    ensures saw { IfOk result (λ a. SawCommand command.now [] a.status (W.seen witness.old) (W.seen witness.new)) }
-    ensures answer { IfOk result (λ a. BySomeTurns (λ turns. IsCommanded command.now [] turns a.text.items a.status)) }
+    ensures answer { IfOk result (λ a. BySomeTurns
+        (λ turns. Carried command.now [] turns a.text.items a.status (W.seen witness.old) (W.seen witness.new))) }
     ensures memory { IfErr result (λ s. s ≡ Status.Memory) }
 {
     match of_text(rt, alloc, command, &[], gate, witness) {
@@ -136,8 +138,8 @@ fn of_text<R: Threads + Wait + Sync, G: Gate, W: Witness>(
 ) -> Result<Answer, Memory>
     requires within { length text.now ≤ 1048576 }
     requires allowed { IsAllowed command.now }
-    ensures saw { IfOk result (λ a. SawCommand command.now text.now a.status (W.seen witness.old) (W.seen witness.new)) }
-    ensures answer { IfOk result (λ a. BySomeTurns (λ turns. IsCommanded command.now text.now turns a.text.items a.status)) }
+    ensures { IfOk result (λ a. BySomeTurns
+        (λ turns. Carried command.now text.now turns a.text.items a.status (W.seen witness.old) (W.seen witness.new))) }
 {
     match command {
         Command::Run(workers, execution) => {

@@ -4,14 +4,11 @@ ghost use Rattle.std.specs.Prelude.{◌≡◌, ◌≤◌, [], length, IfOk};
 ghost use Rattle.std.specs.List.{sum_by};
 ghost use Rattle.jade_syntax.specs.Image.{program};
 ghost use Rattle.jade_syntax.specs.Objects.{input_names};
-ghost use Rattle.jade_meaning.specs.Answer.{answer};
 ghost use Rattle.jade_meaning.specs.Report.{report};
 ghost use Rattle.jade_meaning.specs.ReportAnswer.{report_answer};
-ghost use Rattle.jade_meaning.specs.Turns.{turns_in};
-ghost use Rattle.jade_run.specs.Outcome.{BySomeTurns, IsCrew, IsDrilled};
-ghost use Rattle.jade_run.specs.Witnessed.{seen_with, SawRun};
-ghost use Rattle.jade_run.specs.steps.Drilling.{ShowsSum};
-ghost use Rattle.jade_gen.specs.Drill.{drill_text};
+ghost use Rattle.jade_meaning.specs.Turns.{Full, turns_in};
+ghost use Rattle.jade_run.specs.Outcome.{BySomeTurns, IsCrew};
+ghost use Rattle.jade_run.specs.steps.Drilling.{IsDrillOf, IsRunDrill, ShowsSum};
 
 use crate::answer::{Answer, Ready, prepare};
 use crate::laws::drills_are_plain;
@@ -36,7 +33,8 @@ const MOST_STEPS: u32 = u32::MAX;
 /// What the run of a drill is answered with: a fault as that of any run, or else the sum of all cells.
 fn sum_of_run(alloc: Global, checked: &Checked, tasks: u32, ran: Ran<'_>) -> Result<Answer, Memory>
     requires few { sum_by length (report (program ran.plan.program) ran.plan.numbers ran.plan.limit (turns_in ran.report.turns)).objects ≤ 1048576 }
-    ensures { IfOk result (λ a. ShowsSum (program checked.now.program) tasks
+    ensures full { IfOk result (λ _. Full (program ran.entry.plan.program) ran.entry.plan.numbers ran.entry.plan.limit (turns_in ran.entry.report.turns)) }
+    ensures shows { IfOk result (λ a. ShowsSum (program checked.now.program) tasks
         (report_answer 4294967295 (report (program ran.entry.plan.program) ran.entry.plan.numbers ran.entry.plan.limit (turns_in ran.entry.report.turns)))
         a.text.items a.status) }
 {
@@ -67,10 +65,8 @@ fn drill_checked<R: Threads + Wait + Sync, G: Gate, W: Witness>(
 ) -> Result<Answer, Memory>
     requires given { 0 ≡ length (input_names checked.program.items) }
     requires crew { IsCrew workers }
-    ensures saw { IfOk result (λ a. W.seen witness.new
-        ≡ seen_with (W.seen witness.old) (record { program = checked.program; numbers = []; limit = 4294967295 })) }
-    ensures answer { IfOk result
-        (λ a. BySomeTurns (λ turns. ShowsSum (program checked.program) tasks (answer (program checked.program) [] 4294967295 turns) a.text.items a.status)) }
+    ensures { IfOk result (λ a. BySomeTurns
+        (λ turns. IsDrillOf checked.program tasks turns a.text.items a.status (W.seen witness.old) (W.seen witness.new))) }
 {
     report_tells();
     let compiled = compile(alloc, checked)?;
@@ -94,8 +90,8 @@ pub fn run_drill<R: Threads + Wait + Sync, G: Gate, W: Witness>(
 ) -> Result<Answer, Memory>
     requires amount { (1 ≤ tasks) × (tasks ≤ 10000) }
     requires crew { IsCrew workers }
-    ensures saw { IfOk result (λ a. SawRun (drill_text tasks) [] 4294967295 a.status (W.seen witness.old) (W.seen witness.new)) }
-    ensures answer { IfOk result (λ a. IsDrilled tasks a.text.items a.status) }
+    ensures { IfOk result (λ a. BySomeTurns
+        (λ turns. IsRunDrill tasks turns a.text.items a.status (W.seen witness.old) (W.seen witness.new))) }
 {
     drills_are_plain();
     without_cm();

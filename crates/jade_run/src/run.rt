@@ -7,10 +7,10 @@ ghost use Rattle.jade_syntax.specs.Objects.{input_names};
 ghost use Rattle.jade_meaning.specs.Answer.{answer, Faulted, Cells};
 ghost use Rattle.jade_meaning.specs.Report.{Ascends, report};
 ghost use Rattle.jade_meaning.specs.ReportAnswer.{report_answer, first_note, step_over};
-ghost use Rattle.jade_meaning.specs.Turns.{in_order, turns_in};
+ghost use Rattle.jade_meaning.specs.Turns.{Full, in_order, turns_in};
 ghost use Rattle.serial_machine.specs.Answers.{told};
 ghost use Rattle.jade_run.specs.Outcome.{fault_key, BySomeTurns, IsAnswered, IsCrew, Shows};
-ghost use Rattle.jade_run.specs.Witnessed.{seen_with, SawRun};
+ghost use Rattle.jade_run.specs.steps.Ending.{IsRunOf, IsRunText};
 
 use crate::answer::{Answer, Ready, prepare};
 use crate::witness::Witness;
@@ -103,7 +103,8 @@ fn answer_of_run(
     ran: Ran<'_>,
     limit: u32,
 ) -> Result<Answer, Memory>
-    ensures { IfOk result (λ a. Shows (program checked.now.program)
+    ensures full { IfOk result (λ _. Full (program ran.entry.plan.program) ran.entry.plan.numbers ran.entry.plan.limit (turns_in ran.entry.report.turns)) }
+    ensures shows { IfOk result (λ a. Shows (program checked.now.program)
         (report_answer limit (report (program ran.entry.plan.program) ran.entry.plan.numbers ran.entry.plan.limit (turns_in ran.entry.report.turns)))
         a.text.items a.status) }
 {
@@ -138,8 +139,8 @@ fn shown(alloc: Global, checked: &Checked, answer: &RunAnswer) -> Result<Answer,
     }
 }
 
-/// What a program comes to with these numbers, where so many workers run its tasks; the tasks that
-/// commute took their turns in some order. The witness is shown what the run did.
+/// What a program comes to with these numbers, where so many workers run its tasks, by the turns
+/// that the tasks took which commute. The witness is shown what the run did.
 fn run_by_workers<R: Threads + Wait + Sync, G: Gate, W: Witness>(
     rt: &R,
     alloc: Global,
@@ -152,10 +153,8 @@ fn run_by_workers<R: Threads + Wait + Sync, G: Gate, W: Witness>(
 ) -> Result<Answer, Memory>
     requires given { length numbers.now ≡ length (input_names checked.program.items) }
     requires crew { IsCrew workers }
-    ensures saw { IfOk result (λ a. W.seen witness.new
-        ≡ seen_with (W.seen witness.old) (record { program = checked.program; numbers = numbers.now; limit = limit })) }
-    ensures answer { IfOk result
-        (λ a. BySomeTurns (λ turns. Shows (program checked.program) (answer (program checked.program) numbers.now limit turns) a.text.items a.status)) }
+    ensures { IfOk result (λ a. BySomeTurns
+        (λ turns. IsRunOf checked.program numbers.now limit turns a.text.items a.status (W.seen witness.old) (W.seen witness.new))) }
 {
     report_tells();
     let compiled = compile(alloc, checked)?;
@@ -198,8 +197,8 @@ pub fn run_text<R: Threads + Wait + Sync, G: Gate, W: Witness>(
     requires some { 1 ≤ limit }
     requires within { length text.now ≤ 1048576 }
     requires few { length numbers.now ≤ 64 }
-    ensures saw { IfOk result (λ a. SawRun text.now numbers.now limit a.status (W.seen witness.old) (W.seen witness.new)) }
-    ensures answer { IfOk result (λ a. BySomeTurns (λ turns. IsAnswered text.now numbers.now limit turns a.text.items a.status)) }
+    ensures { IfOk result (λ a. BySomeTurns
+        (λ turns. IsRunText text.now numbers.now limit turns a.text.items a.status (W.seen witness.old) (W.seen witness.new))) }
 {
     let ready = prepare(alloc, text, numbers)?;
     match ready {

@@ -1,6 +1,6 @@
 //! A whole call over memory, where neither the source nor the sink can fail.
 
-ghost use Rattle.std.specs.Prelude.{◌≡◌, ℕ, List, Some, ◌≤◌, length};
+ghost use Rattle.std.specs.Prelude.{◌≡◌, ℕ, List, None, Some, ◌≤◌, length};
 ghost use Rattle.jade_run.specs.Complete.{Completes};
 ghost use Rattle.jade_run.specs.Headline.{Headline};
 ghost use Rattle.jade_run.specs.Words.{NeedsNoText};
@@ -29,8 +29,8 @@ pub fn run_in_memory<R: Threads + Wait + Sync, G: Gate>(
     ensures completes { Completes words.now source.old sink.old.room result }
     ensures unread { NeedsNoText words.now → source.new ≡ source.old }
     ensures headline { Headline words.now result
-        (record { left = Some source.old; taken = Some sink.old.taken; room = Some sink.old.room; source_faults = 0; sink_faults = sink.old.faults })
-        (record { left = Some source.new; taken = Some sink.new.taken; room = Some sink.new.room; source_faults = 0; sink_faults = sink.new.faults }) }
+        (record { left = Some source.old; taken = Some sink.old.taken; room = Some sink.old.room; source_faults = 0; sink_faults = sink.old.faults; seen = None })
+        (record { left = Some source.new; taken = Some sink.new.taken; room = Some sink.new.room; source_faults = 0; sink_faults = sink.new.faults; seen = None }) }
 {
     one_outcome();
     jade_main(rt, alloc, words, source, sink, gate, &mut NoWitness)

@@ -1,8 +1,7 @@
 //! Who is shown the runs of a call.
 
 ghost use Rattle.std.specs.Prelude.{◌≡◌, Option, None, List};
-ghost use Rattle.jade_meaning.specs.Plan.{RunPlan};
-ghost use Rattle.jade_run.specs.Witnessed.{seen_with};
+ghost use Rattle.jade_run.specs.Witnessed.{SeenRun, seen_with};
 
 use object_table::Ran;
 
@@ -10,12 +9,13 @@ use object_table::Ran;
 /// of a table alone, so what a witness tells of a call can't be told of one that ran nothing, or
 /// serially.
 pub trait Witness {
-    // The plans of the runs that it was shown, where it tells them.
-    ghost seen: { Self → Option (List RunPlan) };
+    // The runs that it was shown, with the turns that their tasks took, where it tells them.
+    ghost seen: { Self → Option (List SeenRun) };
 
     /// Is shown what a run did.
     fn see(&mut self, ran: &Ran<'_>)
-        ensures { seen self.new ≡ seen_with (seen self.old) ran.now.plan };
+        ensures { seen self.new
+            ≡ seen_with (seen self.old) (record { plan = ran.now.plan; turns = ran.now.report.turns }) };
 }
 
 /// The witness that looks away.

@@ -121,16 +121,20 @@ impl<'t> Case<'t> {
     }
 
     /// Runs the case as often as it says, and prints what a serial run writes, how many of the runs
-    /// wrote the same, and how many holds were given up.
+    /// wrote the same, how many holds were given up, and what the last run wrote that wrote something
+    /// else.
     pub fn run<R: Threads + Wait + Sync + Print>(self, rt: &R, alloc: Global) -> Result<(), Stop> {
         let serial = self.serial(rt, alloc)?;
         let mut same = 0u32;
         let mut missed = 0u64;
+        let mut other: Option<String> = None;
         for _ in 0..self.count {
             let gate = gate_of(alloc, self.holds, LOOKS)?;
             let written = outcome(rt, alloc, self.words, self.text.bytes(), &gate)?;
             if written == serial {
                 same = same.wrapping_add(1);
+            } else {
+                other = Some(written);
             }
             missed = missed.wrapping_add(gate.missed());
         }
@@ -138,6 +142,10 @@ impl<'t> Case<'t> {
             "{serial}\n{same} of {} runs wrote this, missed {missed}",
             self.count
         )?;
+        match &other {
+            Some(written) => println!(rt; "another wrote\n{written}")?,
+            None => {}
+        }
         Ok(())
     }
 }

@@ -1,23 +1,23 @@
 use Rattle.std.proofs.Common.{rules, sym, ◌∙◌}
 use Rattle.jade_run.proofs.Calls.{too_long_answers, command_answers, asks_text, asks_allowed, no_command, textless}
-use Rattle.jade_run.proofs.Witnessing.{command_saw, memory_still, textless_saw, too_long_saw, usage_saw}
+use Rattle.jade_run.proofs.Witnessing.{memory_still}
 use Rattle.jade_run.proofs.call.answer.Goals as goal
 
 pub returns-in-Err-clause-answer : goal.returns-in-Err-clause-answer
 returns-in-Err-clause-answer g c =
-    no_command _ _ _ _ c.in-Err.error c.not_a_command.result c.in-Err.ensures c.not_a_command.ensures.usage c.not_a_command.ensures.memory
+    no_command _ _ _ _ c.in-Err.error c.not_a_command.result _ c.in-Err.ensures c.not_a_command.ensures.usage c.not_a_command.ensures.memory
 
 pub of_text-requires-clause-allowed : goal.of_text-requires-clause-allowed
 of_text-requires-clause-allowed g c = search (rules, asks_allowed, c.in-Ok.ensures)
 
 pub returns-in-Ok-of_text-clause-answer : goal.returns-in-Ok-of_text-clause-answer
 returns-in-Ok-of_text-clause-answer g c =
-    command_answers _ _ _ c.in-Ok.command _ _ _ _ c.in-Ok.ensures (sym c.works_on_text.ensures ∙ c.if-not-works_on_text.false) c.in-Ok-read_text.ensures.ok
-    c.deref.ensures.value c.in-Ok-of_text.ensures.answer
+    command_answers _ _ _ c.in-Ok.command _ _ _ _ _ _ c.in-Ok.ensures (sym c.works_on_text.ensures ∙ c.if-not-works_on_text.false)
+    c.in-Ok-read_text.ensures.ok c.deref.ensures.value c.in-Ok-of_text.ensures
 
 pub returns-in-Ok-too_long-clause-answer : goal.returns-in-Ok-too_long-clause-answer
 returns-in-Ok-too_long-clause-answer g c =
-    too_long_answers _ _ _ _ _ (asks_text _ c.in-Ok.command c.in-Ok.ensures (sym c.works_on_text.ensures ∙ c.if-not-works_on_text.false))
+    too_long_answers _ _ _ _ _ _ (asks_text _ c.in-Ok.command c.in-Ok.ensures (sym c.works_on_text.ensures ∙ c.if-not-works_on_text.false))
     (rw c.in-Err-TooLong.field-0-is at c.in-Err-TooLong.ensures.too_long)
     c.in-Ok-too_long.ensures.text c.in-Ok-too_long.ensures.status
 
@@ -43,29 +43,11 @@ returns-in-Err-Failed-clause-unread g c h = absurd
 
 pub returns-then-not-works_on_text-clause-answer : goal.returns-then-not-works_on_text-clause-answer
 returns-then-not-works_on_text-clause-answer g c =
-    textless _ _ _ _ c.in-Ok.command c.without_text.result c.in-Ok.ensures (sym c.works_on_text.ensures ∙ c.if-not-works_on_text.true)
+    textless _ _ _ _ c.in-Ok.command c.without_text.result _ _ c.in-Ok.ensures (sym c.works_on_text.ensures ∙ c.if-not-works_on_text.true)
     c.without_text.ensures.answer c.without_text.ensures.memory
-
-pub returns-in-Err-clause-saw : goal.returns-in-Err-clause-saw
-returns-in-Err-clause-saw g c =
-    usage_saw _ _ c.in-Err.error c.not_a_command.result _ c.in-Err.ensures c.not_a_command.ensures.usage
 
 pub returns-in-Err-clause-still : goal.returns-in-Err-clause-still
 returns-in-Err-clause-still g c = memory_still c.not_a_command.result _ _ c.not_a_command.ensures.memory
-
-pub returns-in-Ok-of_text-clause-saw : goal.returns-in-Ok-of_text-clause-saw
-returns-in-Ok-of_text-clause-saw g c =
-    command_saw _ _ _ c.in-Ok.command _ _ _ _ _ c.in-Ok.ensures c.in-Ok-read_text.ensures.ok c.deref.ensures.value c.in-Ok-of_text.ensures.saw
-
-pub returns-in-Ok-too_long-clause-saw : goal.returns-in-Ok-too_long-clause-saw
-returns-in-Ok-too_long-clause-saw g c =
-    too_long_saw _ _ _ _ (asks_text _ c.in-Ok.command c.in-Ok.ensures (sym c.works_on_text.ensures ∙ c.if-not-works_on_text.false))
-    c.in-Ok-too_long.ensures.status
-
-pub returns-then-not-works_on_text-clause-saw : goal.returns-then-not-works_on_text-clause-saw
-returns-then-not-works_on_text-clause-saw g c =
-    textless_saw _ _ c.in-Ok.command c.without_text.result _ _ c.in-Ok.ensures (sym c.works_on_text.ensures ∙ c.if-not-works_on_text.true)
-    c.without_text.ensures.saw
 
 pub returns-then-not-works_on_text-clause-still : goal.returns-then-not-works_on_text-clause-still
 returns-then-not-works_on_text-clause-still g c = memory_still c.without_text.result _ _ c.without_text.ensures.memory

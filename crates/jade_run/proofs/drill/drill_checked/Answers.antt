@@ -12,7 +12,7 @@ use Rattle.jade_meaning.specs.Turns.{marks_by, turns_in}
 use Rattle.jade_run.specs.Outcome.{TurnLists}
 use Rattle.jade_run.specs.declared.status.Status.{Status}
 use Rattle.jade_run.specs.steps.Drilling.{ShowsSum}
-use Rattle.jade_run.proofs.Running.{reported}
+use Rattle.jade_run.proofs.Running.{planned, reported, run_is_shown}
 use Rattle.jade_run.proofs.Totals.{few_after}
 use Rattle.jade_run.proofs.drill.drill_checked.Goals as goal
 
@@ -45,13 +45,20 @@ sum_of_run-requires g c =
           c.in_ok-compiled.ensures c.checked-seen.ensures c.program-program.ensures.limits;
     }
 
-pub returns-clause-answer : goal.returns-clause-answer
-returns-clause-answer g c =
-    let plan = c.in_ok-ran.ran.plan in
+pub returns : goal.returns
+returns g c =
+    let ran = c.in_ok-ran.ran in
+    let plan = ran.plan in
     let turns = turns_in c.in_ok-ran.ran.report.turns in
     let all = report (program plan.program) plan.numbers plan.limit turns in (
       turns,
-      told all c.args.checked c.in_ok-compiled.compiled c.checked-seen.result.now c.args.tasks 4294967295 turns _ _
-          (reported all plan c.args.checked c.in_ok-compiled.compiled [] 4294967295 turns refl c.in_ok-ran.ensures c.in_ok-compiled.ensures)
-          c.in_ok-compiled.ensures c.checked-seen.ensures (c.report_tells.ensures (program c.args.checked.program) [] 4294967295 turns) c.in_ok-answer.ensures,
+      record {
+        shows = told all c.args.checked c.in_ok-compiled.compiled c.checked-seen.result.now c.args.tasks 4294967295 turns _ _
+            (reported all plan c.args.checked c.in_ok-compiled.compiled [] 4294967295 turns refl c.in_ok-ran.ensures c.in_ok-compiled.ensures)
+            c.in_ok-compiled.ensures c.checked-seen.ensures (c.report_tells.ensures (program c.args.checked.program) [] 4294967295 turns)
+            c.in_ok-answer.ensures.shows;
+        shown = run_is_shown (record { plan = ran.plan; turns = ran.report.turns }) c.args.checked.program [] 4294967295 _ _ c.see.ensures
+            (planned plan c.in_ok-compiled.compiled c.args.checked [] 4294967295 c.in_ok-ran.ensures c.in_ok-compiled.ensures)
+            c.in_ok-answer.ensures.full;
+      },
     )
