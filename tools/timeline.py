@@ -25,9 +25,9 @@ commutes waits, too, until the one that had the object last before it has let go
 import bisect
 import sys
 
-from graph import MOST_TASKS, groups_of, lines_of, refuse
+from graph import COMMUTING, MOST_TASKS, groups_of, lines_of, refuse
 from page import page
-from picture import LINE, Picture, most_at_once, shares, short, steps_of, width
+from picture import LINE, PLUM, Picture, most_at_once, shares, short, steps_of, width
 from programs import run
 from task_lines import Tasks, counted, told
 
@@ -171,7 +171,11 @@ class TimePicture:
 
     def names(self):
         """By what has a row, how it is called."""
-        return {task: told(task) + (f" line {task.line}" if task.line else "") for task in self.times.tasks.tasks}
+        return {task: self.name(task) for task in self.times.tasks.tasks}
+
+    def name(self, task):
+        updates = f" cm({self.times.tasks.names[task.commutes_on()]})" if task.commutes_on() is not None else ""
+        return told(task) + (f" line {task.line}" if task.line else "") + updates
 
     def more_names(self):
         """What else stands at the left."""
@@ -191,6 +195,8 @@ class TimePicture:
             y = self.below + 16 + place * (LINE + 3)
             self.picture.box(20, y, 22, 11, COLOURS[kind])
             self.picture.text(50, y + 10, f"{kind}: {text}", "#555")
+        if self.times.tasks.commuting():
+            self.picture.text(20, self.picture.high + LINE + 6, f"{COMMUTING}: each waits for the one that had it before.", PLUM)
         return self.picture
 
     def draw_worker(self, worker, y):
