@@ -1,5 +1,6 @@
 //! What is proved of cores beside the laws of schedule_core: that picks decide what is played, what is
-//! left of a run, and contents by the place of a task in the serial order.
+//! left of a run and in which order it stands, contents by the place of a task in the serial order,
+//! and that a task's children can be counted.
 #![tactic(auto)]
 
 ghost use Rattle.std.specs.Prelude.{◌≡◌, ◌↔◌, false, ℕ, ℤ, List};
