@@ -1,15 +1,14 @@
 -- Labels, and the line of turns on an object.
-use Rattle.std.proofs.Common.{◌≡◌, ◌≢◌, ℕ, ◌<◌, ◌≤◌, true, List, [], ◌∷◌, ◌++◌, map, codes, refl, ap, sym, ◌∙◌, subst, arith, All}
+use Rattle.std.proofs.Common.{◌≡◌, ◌≢◌, ℕ, true, List, [], ◌∷◌, ◌++◌, map, codes, refl, ap, sym, ◌∙◌, subst, arith, All}
 use Rattle.std.specs.Fmt.{decimal}
 use Rattle.std.proofs.lemmas.List.{append_cancel_left}
 use Rattle.jade_alphabet.specs.Letters.{is_word}
 use Rattle.run_record.specs.declared.turns.LabelledTurn.{LabelledTurn}
 use Rattle.run_record.specs.declared.paths.Unfit.{Unfit}
 use Rattle.run_record.specs.declared.paths.Unfit.TheVariants.{Form, Memory}
-use Rattle.run_record.specs.Pieces.{Lacks, each_after, path_text, IsPath, IsLabel, single, member}
-use Rattle.run_record.specs.Recording.{IsTurn, turns_line}
+use Rattle.run_record.specs.Pieces.{each_after, path_text, IsPath, IsLabel, single, member}
 use Rattle.run_record.specs.Form.{IsTurnsLine}
-use Rattle.run_record.specs.steps.Cutting.{BeginsOrEnds, IsCut, IsIndex}
+use Rattle.run_record.specs.steps.Cutting.{IsCut, IsIndex}
 use Rattle.run_record.specs.steps.Unfit.{NoPaths, NoTurns}
 use Rattle.run_record.proofs.Bytes.{lacks, label_above, word_lacks}
 use Rattle.run_record.proofs.Cuts.{front_same, back_same}

@@ -9,3 +9,5 @@ pub mod Labelling
 pub mod Passing
 pub mod Same
 pub mod Adding
+pub mod Least
+pub mod Dotted

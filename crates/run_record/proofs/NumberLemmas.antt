@@ -1,10 +1,8 @@
 -- The line of the numbers.
-use Rattle.std.proofs.Common.{◌≡◌, ℕ, ◌+◌, ◌<◌, ◌≤◌, true, List, [], ◌∷◌, ◌++◌, length, map, codes, ℤ, refl, ap, sym, ◌∙◌, subst, arith, length-append, All}
-use Rattle.std.specs.List.{list_all}
+use Rattle.std.proofs.Common.{◌≡◌, ℕ, ◌<◌, ◌≤◌, true, List, [], ◌∷◌, ◌++◌, length, map, codes, ℤ, ap, sym, ◌∙◌, subst, arith, length-append}
 use Rattle.std.specs.Fmt.{signed_decimal}
 use Rattle.std.proofs.lemmas.List.{append_cancel_left}
 use Rattle.run_record.specs.Pieces.{each_after, is_number}
-use Rattle.run_record.specs.Recording.{numbers_line}
 use Rattle.run_record.specs.Form.{IsNumbersLine}
 use Rattle.run_record.specs.steps.Cutting.{IsPiece}
 use Rattle.run_record.proofs.Bytes.{tested, testing}

@@ -1,5 +1,5 @@
 -- From line to line of a recording.
-use Rattle.std.proofs.Common.{◌≡◌, ◌≢◌, ℕ, zero, suc, ◌+◌, ◌-◌, ◌<◌, ◌≤◌, List, [], ◌∷◌, ◌++◌, length, map, codes, ◌⊎◌, refl, ap, sym, ◌∙◌, subst, arith, append_assoc, length-append, All, inl, inr}
+use Rattle.std.proofs.Common.{◌≡◌, ◌≢◌, ℕ, zero, suc, ◌+◌, ◌<◌, ◌≤◌, List, [], ◌∷◌, ◌++◌, length, map, refl, ap, sym, ◌∙◌, subst, arith, append_assoc, length-append, All, inl, inr}
 use Rattle.std.proofs.lemmas.List.{map-append}
 use Rattle.std.proofs.lemmas.List.Elements.{All-nil, All-push}
 use Rattle.run_record.specs.declared.turns.LabelledTurn.{LabelledTurn}
@@ -8,31 +8,12 @@ use Rattle.run_record.specs.declared.paths.Unfit.TheVariants.{Form, Memory}
 use Rattle.run_record.specs.declared.read.ReadError.{ReadError}
 use Rattle.run_record.specs.declared.read.ReadError.TheVariants.{Form as Broken, Memory as NoMemory}
 use Rattle.run_record.specs.Pieces.{Lacks}
-use Rattle.run_record.specs.Recording.{IsTurn, head_line, turns_line, answer_line, text_line, ended}
-use Rattle.run_record.specs.Form.{
-  Stage,
-  at_head,
-  at_limit,
-  at_numbers,
-  at_turns,
-  at_answer,
-  at_text,
-  Takes,
-  FirstLine,
-  BreaksAt,
-  here,
-  later,
-  IsUnread,
-  IsLimitLine,
-  IsNumbersLine,
-  IsTurnsLine,
-  IsAnswerLine,
-}
+use Rattle.run_record.specs.Recording.{IsTurn, turns_line, text_line, ended}
+use Rattle.run_record.specs.Form.{Stage, at_head, at_limit, at_numbers, at_turns, at_answer, at_text, Takes, FirstLine, BreaksAt, here, later, IsUnread, IsTurnsLine, IsAnswerLine}
 use Rattle.run_record.specs.steps.Cutting.{IsCut, BeginsOrEnds}
 use Rattle.run_record.specs.steps.Rests.{Passed, TurnsRead, EndingRead, error_at}
 use Rattle.run_record.specs.steps.Unfit.{NoNumbers, NoTurns}
 use Rattle.run_record.proofs.Cuts.{front_same, back_same}
-use Rattle.run_record.proofs.Spellings.{no_more}
 
 -- a line that is cut off where a line feed stands
 pub line_is : (bytes line rest after : List ℕ) (b : ℕ) → IsCut 10 bytes line rest → rest ≡ b ∷ after → FirstLine bytes line after

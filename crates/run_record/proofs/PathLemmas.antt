@@ -1,16 +1,15 @@
 -- How the items of a line are spelled: numbers, the numbers of a path, and paths.
-use Rattle.std.proofs.Common.{◌≡◌, ◌≢◌, ℕ, zero, suc, ◌+◌, ◌<◌, ◌≤◌, ◌^◌, true, List, [], ◌∷◌, ◌++◌, length, map, ℤ, refl, ap, sym, ◌∙◌, subst, arith, append_assoc, length-append, All}
+use Rattle.std.proofs.Common.{◌≡◌, ◌≢◌, ℕ, ◌<◌, ◌≤◌, true, List, [], ◌∷◌, ◌++◌, length, map, ℤ, refl, ap, sym, ◌∙◌, subst, arith, length-append, All}
 use Rattle.std.specs.Fmt.{decimal, signed_decimal}
 use Rattle.std.proofs.lemmas.Fmt.{decimal_injective, signed_decimal_injective, decimal_digit}
 use Rattle.std.proofs.lemmas.List.{append_cancel_left}
-use Rattle.std.proofs.lemmas.List.Elements.{All-push}
-use Rattle.run_record.specs.Pieces.{Lacks, each_after, is_number, path_text, IsPath}
+use Rattle.run_record.specs.Pieces.{each_after, is_number, path_text, IsPath}
 use Rattle.run_record.specs.declared.paths.Unfit.{Unfit}
 use Rattle.run_record.specs.declared.paths.Unfit.TheVariants.{Form, Memory}
 use Rattle.run_record.specs.steps.Unfit.{NoPath, NoPaths}
-use Rattle.run_record.specs.steps.Cutting.{BeginsOrEnds, IsPiece}
+use Rattle.run_record.specs.steps.Cutting.{IsPiece}
 use Rattle.run_record.proofs.Bytes.{lacks, decimal_above, signed_above, small, path_above}
-use Rattle.run_record.proofs.Spellings.{Spells, Read, Next, Ended, read_more, next_is, none_left, nothing_read, spelled_once, each_after-last}
+use Rattle.run_record.proofs.Spellings.{Spells, Read, read_more, next_is, none_left, nothing_read, spelled_once}
 
 -- a number of a path
 abbrev pub IsStep : ℕ → Type 0

@@ -1,34 +1,16 @@
 -- A recording's text has one reading, and its lines are of their form.
-use Rattle.std.proofs.Common.{◌≡◌, ◌≢◌, ℕ, zero, suc, ◌+◌, ◌<◌, ◌≤◌, ◌^◌, true, List, [], ◌∷◌, ◌++◌, length, take, map, codes, ℤ, ◌⊎◌, refl, ap, sym, ◌∙◌, subst, arith, append_assoc, get_or, All, inl, inr}
+use Rattle.std.proofs.Common.{◌≡◌, ℕ, zero, suc, ◌+◌, ◌<◌, ◌≤◌, List, [], ◌∷◌, ◌++◌, length, take, map, codes, ℤ, refl, ap, sym, ◌∙◌, subst, arith, append_assoc, get_or, All, inl, inr}
 use Rattle.std.specs.Fmt.{decimal, signed_decimal}
 use Rattle.std.proofs.lemmas.Fmt.{decimal_injective}
 use Rattle.std.proofs.lemmas.List.{append_cancel_left}
-use Rattle.std.proofs.lemmas.List.Elements.{All-nil, All-cons, All-head, All-tail, All-append}
+use Rattle.std.proofs.lemmas.List.Elements.{All-head, All-tail, All-append}
 use Rattle.run_record.specs.declared.turns.LabelledTurn.{LabelledTurn}
 use Rattle.run_record.specs.Pieces.{Lacks, each_after, is_number, path_text, IsPath}
 use Rattle.run_record.specs.Recording.{Recorded, IsRecorded, IsTurn, head_line, limit_line, numbers_line, turns_line, answer_line, text_line, lines, ended, recording}
-use Rattle.run_record.specs.Form.{
-  Stage,
-  at_head,
-  at_limit,
-  at_numbers,
-  at_turns,
-  at_answer,
-  at_text,
-  Takes,
-  FirstLine,
-  BreaksAt,
-  here,
-  later,
-  IsRead,
-  IsLimitLine,
-  IsNumbersLine,
-  IsTurnsLine,
-  IsAnswerLine,
-}
+use Rattle.run_record.specs.Form.{Stage, at_head, at_limit, at_numbers, at_turns, at_answer, at_text, Takes, FirstLine, BreaksAt, here, later, IsRead, IsNumbersLine}
 use Rattle.run_record.specs.Laws.{NoneBreaks}
 use Rattle.run_record.specs.steps.Rests.{Passed, TurnsRead, EndingRead}
-use Rattle.run_record.proofs.Bytes.{Above, above, lacks, lower, tested, decimal_above, signed_above, path_above, label_above, pieces_above}
+use Rattle.run_record.proofs.Bytes.{above, lacks, lower, tested, decimal_above, signed_above, path_above, label_above, pieces_above}
 use Rattle.run_record.proofs.Cuts.{front_same, back_same}
 use Rattle.run_record.proofs.PathLemmas.{IsNumber, numbers, paths}
 use Rattle.run_record.proofs.Passing.{line_once, rest_once, ended-append, passed_on}
@@ -93,7 +75,7 @@ same_lines s (v ∷ xs) (w ∷ ys) x y rx ry e =
     ap (λ l. l ∷ xs) same ∙ ap (λ l. w ∷ l) (same_lines rx.0 xs ys x y rx.3 (subst H one ry.3) rest)
 
 -- what breaks the form is no line before the first one of the bytes
-breaks_after : (n : ℕ) (s : Stage) (number : ℕ) (bytes : List ℕ) → BreaksAt n s number bytes → number ≤ n
+pub breaks_after : (n : ℕ) (s : Stage) (number : ℕ) (bytes : List ℕ) → BreaksAt n s number bytes → number ≤ n
 breaks_after n s number bytes (here e o none) = omega arith
 breaks_after n s number bytes (later line after next f t b) = let le = breaks_after n next (suc number) after b in omega arith
 
@@ -116,23 +98,23 @@ none_of_them n s number (suc m) (x ∷ xs) after e r (later line a next f t b) =
     none_of_them n r.0 (suc number) m xs after (omega arith) r.3 (subst H rest (subst F one b))
 
 -- the lines of a recording have no line feed in them
-head_lacks : (c : ℕ) → Lacks 10 head_line
+pub head_lacks : (c : ℕ) → Lacks 10 head_line
 head_lacks c = lacks 10 10 head_line (omega arith) (above 10 head_line refl)
 
-text_lacks : Lacks 10 text_line
+pub text_lacks : Lacks 10 text_line
 text_lacks = lacks 10 10 text_line (omega arith) (above 10 text_line refl)
 
-limit_lacks : (n : ℕ) → n ≤ 4294967295 → Lacks 10 (limit_line n)
+pub limit_lacks : (n : ℕ) → n ≤ 4294967295 → Lacks 10 (limit_line n)
 limit_lacks n le =
     lacks 10 10 (limit_line n) (omega arith)
     (All-append (λ b. 10 < b) (codes "limit ") (decimal n) (above 10 (codes "limit ") refl) (lower 47 10 (decimal n) (omega arith) (decimal_above n (omega arith))))
 
-count_lacks : (n : ℕ) → n ≤ 4096 → Lacks 10 (answer_line n)
+pub count_lacks : (n : ℕ) → n ≤ 4096 → Lacks 10 (answer_line n)
 count_lacks n le =
     lacks 10 10 (answer_line n) (omega arith)
     (All-append (λ b. 10 < b) (codes "answer ") (decimal n) (above 10 (codes "answer ") refl) (lower 47 10 (decimal n) (omega arith) (decimal_above n (omega arith))))
 
-numbers_lack : (ns : List ℤ) → All IsNumber ns → Lacks 10 (numbers_line ns)
+pub numbers_lack : (ns : List ℤ) → All IsNumber ns → Lacks 10 (numbers_line ns)
 numbers_lack ns g =
     lacks 10 10 (numbers_line ns) (omega arith)
     (All-append (λ b. 10 < b) (codes "numbers") (each_after 32 (map signed_decimal ns)) (above 10 (codes "numbers") refl)

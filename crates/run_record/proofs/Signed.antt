@@ -1,40 +1,8 @@
 -- Numbers with their signs.
-use Rattle.std.proofs.Common.{
-  ◌≡◌,
-  ℕ,
-  zero,
-  suc,
-  ◌<◌,
-  ◌≤◌,
-  ◌^◌,
-  Bool,
-  true,
-  false,
-  ◌&&◌,
-  ℤ,
-  pos,
-  negsuc,
-  List,
-  [],
-  ◌∷◌,
-  map,
-  Result,
-  Ok,
-  Some,
-  refl,
-  ap,
-  sym,
-  ◌∙◌,
-  arith,
-  w64,
-  FitsSigned,
-  to_z,
-  of_z,
-}
+use Rattle.std.proofs.Common.{◌≡◌, ℕ, ◌<◌, ◌≤◌, ◌^◌, true, ℤ, pos, negsuc, List, Result, Ok, ap, ◌∙◌, arith, w64, FitsSigned, to_z, of_z}
 use Rattle.std.proofs.Math.Facts.{to_z-of_z}
 use Rattle.std.specs.Int.Signed.{mag}
 use borrow.Author.Rules.{sfits_of}
-use Rattle.std.specs.List.{list_all, slice_get}
 use Rattle.std.specs.Fmt.{signed_decimal}
 use Rattle.std.specs.Str.Parse.{ParsesSigned}
 use Rattle.std.proofs.lemmas.Bool.{leb-true, le-leb}

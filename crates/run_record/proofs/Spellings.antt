@@ -1,7 +1,7 @@
 -- A list of items, each spelled after a byte, has one reading.
-use Rattle.std.proofs.Common.{◌≡◌, ◌≢◌, ℕ, List, [], ◌∷◌, ◌++◌, map, refl, ap, sym, ◌∙◌, subst, append_assoc, All}
+use Rattle.std.proofs.Common.{◌≡◌, ℕ, List, [], ◌∷◌, ◌++◌, map, refl, ap, sym, ◌∙◌, append_assoc, All}
 use Rattle.std.proofs.lemmas.List.{map-append}
-use Rattle.std.proofs.lemmas.List.Elements.{All-nil, All-cons, All-head, All-tail, All-push}
+use Rattle.std.proofs.lemmas.List.Elements.{All-nil, All-head, All-tail, All-push}
 use Rattle.run_record.specs.Pieces.{Lacks, each_after}
 use Rattle.run_record.specs.steps.Cutting.{BeginsOrEnds, IsPiece}
 use Rattle.run_record.proofs.Cuts.{front_same, back_same}

@@ -32,8 +32,7 @@ struct Rest<'a> {
 }
 
 impl<'a> Rest<'a> {
-    /// The line, and the bytes from the next line on. The error is the number of the line, which
-    /// does not end.
+    /// The line, and the bytes from the next line on; `None` where no line ends.
     fn line(self) -> Option<(&'a [u8], Rest<'a>)>
         ensures none { MatchOption result ((line after : List ℕ) → FirstLine self.entry.bytes.now line after → ⊥)
             (λ r. FirstLine self.entry.bytes.now r.0.now r.1.bytes.now) }

@@ -1,11 +1,9 @@
 -- Why a part of a line is not read: nothing of its kind is spelled so.
-use Rattle.std.specs.Prelude.{◌≡◌, ◌≢◌, ℕ, ◌≤◌, true, List, [], length, map, ℤ, All}
-use Rattle.std.specs.List.{list_all}
-use Rattle.std.specs.Fmt.{signed_decimal}
+use Rattle.std.specs.Prelude.{◌≡◌, ◌≢◌, ℕ, List, [], map, ℤ, All}
 use Rattle.run_record.specs.declared.paths.Unfit.{Unfit}
 use Rattle.run_record.specs.declared.paths.Unfit.TheVariants.{Form, Memory}
 use Rattle.run_record.specs.declared.turns.LabelledTurn.{LabelledTurn}
-use Rattle.run_record.specs.Pieces.{IsPath, each_after, is_number, path_text}
+use Rattle.run_record.specs.Pieces.{IsPath, each_after, path_text}
 use Rattle.run_record.specs.Form.{IsNumbersLine, IsTurnsLine}
 
 -- no path is spelled so

@@ -1,4 +1,4 @@
-use Rattle.std.proofs.Common.{sym, ◌∙◌, subst, rules, true, false, ◌≡◌}
+use Rattle.std.proofs.Common.{sym, ◌∙◌}
 use Rattle.run_record.proofs.Options.{some_is}
 use Rattle.run_record.proofs.Labelling.{label_indexed, label_parts}
 use Rattle.run_record.proofs.labels.is_label.Goals as goal

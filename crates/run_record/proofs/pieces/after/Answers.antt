@@ -1,7 +1,5 @@
 use Rattle.std.proofs.lemmas.Slice.Eq.{strip_prefix_is}
 use Rattle.std.proofs.lemmas.Bool.Decides.{Decides-eqb}
-use Rattle.run_record.proofs.Spellings.{spelled_once}
-use Rattle.run_record.proofs.Bytes.{label_above}
 use Rattle.run_record.proofs.pieces.after.Goals as goal
 
 pub returns : goal.returns

@@ -1,4 +1,4 @@
-use Rattle.std.proofs.Common.{◌∙◌, sym, ap, arith}
+use Rattle.std.proofs.Common.{arith}
 use Rattle.run_record.proofs.Options.{went_well}
 use Rattle.run_record.proofs.Passing.{answer_begun, answer_goes_on, answer_missing, answer_ends}
 use Rattle.run_record.proofs.read.read_answer.Goals as goal

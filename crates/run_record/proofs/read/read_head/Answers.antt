@@ -1,4 +1,4 @@
-use Rattle.std.proofs.Common.{◌≡◌, true, refl, rules}
+use Rattle.std.proofs.Common.{◌≡◌, true, refl}
 use Rattle.run_record.specs.Recording.{head_line}
 use Rattle.run_record.specs.Form.{at_head, at_limit}
 use Rattle.run_record.proofs.Passing.{passed_text, unfit, missing, head_open}

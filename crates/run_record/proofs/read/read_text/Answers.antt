@@ -1,4 +1,4 @@
-use Rattle.std.proofs.Common.{◌≡◌, true, rules}
+use Rattle.std.proofs.Common.{◌≡◌, true}
 use Rattle.run_record.specs.Form.{at_answer}
 use Rattle.run_record.proofs.Passing.{unfit, missing, answer_open}
 use Rattle.run_record.proofs.read.read_text.Goals as goal

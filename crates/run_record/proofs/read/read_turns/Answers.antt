@@ -1,4 +1,3 @@
-use Rattle.std.proofs.Common.{arith}
 use Rattle.run_record.specs.Form.{at_turns}
 use Rattle.run_record.proofs.Options.{none_of, went_well}
 use Rattle.run_record.proofs.Passing.{turns_begun, turns_go_on, turns_end, turns_unread, missing, turns_open}

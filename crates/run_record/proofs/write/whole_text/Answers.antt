@@ -1,4 +1,4 @@
-use Rattle.std.proofs.Common.{refl, ap, ◌∙◌}
+use Rattle.std.proofs.Common.{ap, ◌∙◌}
 use Rattle.run_record.specs.Recording.{recording}
 use Rattle.run_record.proofs.Adding.{parts_whole}
 use Rattle.run_record.proofs.write.whole_text.Goals as goal
