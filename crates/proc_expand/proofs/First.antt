@@ -140,6 +140,66 @@ pub earliest_none : (a : Option ℕ) → earliest a None ≡ a
 earliest_none None = refl
 earliest_none (Some j) = refl
 
+pub both_left : (a b : Bool) → (a && b) ≡ true → a ≡ true
+both_left true b h = refl
+both_left false b h = absurd (cc)
+
+pub both_right : (a b : Bool) → (a && b) ≡ true → b ≡ true
+both_right true b h = h
+both_right false b h = absurd (cc)
+
+pub both_true : (a b : Bool) → a ≡ true → b ≡ true → (a && b) ≡ true
+both_true a b e f = ap (λ t. t && b) e ∙ f
+
+pub first_place : (j n : ℕ) → j < n → first n (λ k. nat_eq j k) ≡ Some j
+first_place j n l = first_only j n (λ k. nat_eq j k) (λ k e. sym (eq_true j k e)) (eq_same j) l
+
+-- one place, if it has a property
+pub first_one : (j n : ℕ) (q : ℕ → Bool) → (q j ≡ true → j < n) → first n (λ k. nat_eq j k && q k) ≡ (if q j then Some j else None)
+first_one j n q l = by_case (q j) yes_here not_here
+  where
+    yes_here : q j ≡ true → first n (λ k. nat_eq j k && q k) ≡ (if q j then Some j else None)
+    yes_here h =
+        first_only j n (λ k. nat_eq j k && q k) (λ k e. sym (eq_true j k (both_left (nat_eq j k) (q k) e))) (both_true (nat_eq j j) (q j) (eq_same j) h) (l h)
+        ∙ ap (λ t. if t then Some j else None) (sym h)
+    not_here : q j ≡ false → first n (λ k. nat_eq j k && q k) ≡ (if q j then Some j else None)
+    not_here h =
+        first_none n (λ k. nat_eq j k && q k) (λ k below. by_case (nat_eq j k)
+        (λ e. ap (λ t. t && q k) e ∙ ap q (sym (eq_true j k e)) ∙ h) (λ e. ap (λ t. t && q k) e))
+        ∙ ap (λ t. if t then Some j else None) (sym h)
+
+pub one_at : (i j n : ℕ) (q : ℕ → Bool) (b : Bool) → i ≡ j → (q j ≡ true → j < n) → q j ≡ b
+    → (if b then Some j else None) ≡ first n (λ k. nat_eq i k && q k)
+one_at i j n q b e l h =
+    ap (λ t. if t then Some j else None) (sym h) ∙ sym (first_one j n q l) ∙ ap (λ u. first n (λ k. nat_eq u k && q k)) (sym e)
+
+-- none among all places
+pub first_done : (k n : ℕ) (p : ℕ → Bool) → k ≡ n → first k p ≡ None → p n ≡ false → None ≡ first (suc n) p
+first_done k n p e f h = sym (ap (λ i. first i p) (sym (plus_one n)) ∙ first_more n p (ap (λ i. first i p) (sym e) ∙ f) h)
+
+-- with one more of what a property speaks of
+pub first_some : (n c : ℕ) (p : ℕ → ℕ → Bool)
+    → first n (λ k. some (c + 1) (λ i. p i k)) ≡ earliest (first n (λ k. some c (λ i. p i k))) (first n (λ k. p c k))
+first_some n c p =
+    ap (λ i. first n (λ k. some i (λ i. p i k))) (plus_one c) ∙ first_either n (λ k. some c (λ i. p i k)) (λ k. p c k)
+
+pub earliest_assoc : (a b c : Option ℕ) → earliest (earliest a b) c ≡ earliest a (earliest b c)
+earliest_assoc None b c = refl
+earliest_assoc (Some i) None c = refl
+earliest_assoc (Some i) (Some j) None = refl
+earliest_assoc (Some i) (Some j) (Some k) = ap Some (three (nat_lt j i) (nat_lt k j) refl refl)
+  where
+    three : (a b : Bool) → nat_lt j i ≡ a → nat_lt k j ≡ b → (if nat_lt k (if a then j else i) then k else (if a then j else i))
+        ≡ (if nat_lt (if b then k else j) i then (if b then k else j) else i)
+    three true true e f =
+        let g = lt_true j i e in let h = lt_true k j f in
+        ap (λ t. if t then k else j) f ∙ sym (ap (λ t. if t then k else i) (lt_is k i (omega (arith, g, h))))
+    three true false e f = ap (λ t. if t then k else j) f ∙ sym (ap (λ t. if t then j else i) e)
+    three false true e f = refl
+    three false false e f =
+        let g = lt_false j i e in let h = lt_false k j f in
+        ap (λ t. if t then k else i) (lt_not k i (omega (arith, g, h))) ∙ sym (ap (λ t. if t then j else i) e)
+
 -- ---- the signs of tokens
 
 pub signs_more : (ts : List TokenAt) (k : ℕ) (t : TokenAt) → slice_get ts k ≡ Some t → signs (take (k + 1) ts) ≡ signs (take k ts) ++ sign_of t.bytes ∷ []

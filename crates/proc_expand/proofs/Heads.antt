@@ -24,14 +24,6 @@ lies_within ss k is o h = by (λ p. absurd (let e = ap is (past_end ss k p) in c
     by : ((length ss ≤ k) → ⊥) → k < length ss
     by f = omega (arith, f)
 
-pub both_left : (a b : Bool) → (a && b) ≡ true → a ≡ true
-both_left true b h = refl
-both_left false b h = absurd (cc)
-
-pub both_right : (a b : Bool) → (a && b) ≡ true → b ≡ true
-both_right true b h = h
-both_right false b h = absurd (cc)
-
 pub bytes_got : (ts : List TokenAt) (k : ℕ) (t : TokenAt) → slice_get ts k ≡ Some t → t.bytes ≡ bytes_at ts k
 bytes_got [] k t h = absurd (cc)
 bytes_got (u ∷ ts) zero t h = let e : u ≡ t = cc in ap (λ (v : TokenAt). v.bytes) (sym e)

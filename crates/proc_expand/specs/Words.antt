@@ -244,3 +244,8 @@ next_place ss k = after_sign (at ss k) k (closing ss k)
 pub record AreEndsFrom (ss : List Sign) (es : List End) (n : ℕ) : Type 0 where
   pub as_many : length es ≡ length ss
   pub closed : (k : ℕ) → n ≤ k → k < length ss → opens (at ss k) ≡ true → slice_index_or es k Never ≡ closing ss k
+
+-- such an end lies within a text of n signs
+pub record EndsWithin (n : ℕ) (e : End) : Type 0 where
+  pub closed : (j : ℕ) → e ≡ Closed j → j < n
+  pub wrong : (j : ℕ) → e ≡ Wrong j → j < n

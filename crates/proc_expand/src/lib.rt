@@ -2,6 +2,7 @@
 #![tactic(auto)]
 
 mod brackets;
+mod calls;
 mod places;
 pub mod procedures;
 pub mod refusal;

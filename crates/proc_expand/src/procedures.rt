@@ -1,10 +1,17 @@
 //! The procedures of a text.
 
-ghost use Rattle.std.specs.Prelude.{◌≡◌, ◌+◌, ◌*◌, ◌<◌, ◌≤◌, ◌&&◌, drop, length, false};
-ghost use Rattle.proc_expand.specs.Words.{is_called, is_kind, is_comma, opens_curly, closes_round, at};
-ghost use Rattle.proc_expand.specs.Refusals.{head, misfit, with_params, after_params, params_from};
+ghost use Rattle.std.specs.Prelude.{◌≡◌, ◌+◌, ◌*◌, ◌^◌, ◌<◌, ◌≤◌, ◌&&◌, ◌||◌, ◌++◌, drop, length, false, not, nat_eq};
+ghost use Rattle.std.specs.Prelude.{OnOk, IfOk};
+ghost use Rattle.proc_expand.specs.Words.{is_called, is_kind, is_comma, opens_curly, closes_round, at, before};
+ghost use Rattle.proc_expand.specs.Words.{is_proc, is_main, ends_item, open_after, those, one_if};
+ghost use Rattle.proc_expand.specs.Refusals.{begins, head, misfit, with_params, after_params, params_from};
 
-use crate::sign::{Bracket, End, Sign, is_called, is_comma, is_kind, opens_round, sign_at};
+use crate::sign::{
+    Bracket, End, Sign, ends_item, is_called, is_comma, is_kind, is_main, is_proc, opens_round,
+    sign_at, sign_before,
+};
+use jade_base::Memory;
+use std::alloc::Global;
 
 /// The head of a procedure: how many parameters of it fit, whether all of it fits, and the place of
 /// its `{`, or of the first token that does not fit.
@@ -144,4 +151,80 @@ fn after_params(signs: &[Sign], place: usize, params: usize) -> Head
         fits: opens_curly(sign_at(signs, place)),
         stop: place,
     }
+}
+
+/// Whether a `proc` stands at a place where an item may stand.
+fn is_item_proc(signs: &[Sign], place: usize) -> bool
+    ensures { result ≡ (is_proc (at signs.now place) && (nat_eq place 0 || ends_item (before signs.now place))) }
+{
+    is_proc(sign_at(signs, place)) && (place == 0 || ends_item(sign_before(signs, place)))
+}
+
+/// How many brackets are open after a sign.
+fn open_after(sign: Sign, depth: usize) -> usize
+    requires { depth + 1 < 2 ^ 64 }
+    ensures value { result ≡ open_after sign depth }
+    ensures bound { result ≤ depth + 1 }
+{
+    match sign {
+        Sign::Opens(_) => depth + 1,
+        Sign::Closes(_) => depth.saturating_sub(1),
+        _ => depth,
+    }
+}
+
+/// What the signs before a place leave: how many brackets are open, and whether a `main` stood in
+/// none.
+#[derive(Clone, Copy, Debug, PartialEq, Eq)]
+struct Standing {
+    depth: usize,
+    after_main: bool,
+}
+
+/// What the sign at a place leaves.
+fn stand_after(signs: &[Sign], place: usize, standing: Standing) -> Standing
+    requires within { place < length signs.now }
+    requires few { standing.depth ≤ place }
+    ensures depth { result.depth ≡ open_after (at signs.now place) standing.depth }
+    ensures few { result.depth ≤ place + 1 }
+    ensures main { result.after_main ≡ (standing.after_main || (is_main (at signs.now place) && nat_eq standing.depth 0)) }
+{
+    let sign = sign_at(signs, place);
+    Standing {
+        depth: open_after(sign, standing.depth),
+        after_main: standing.after_main || (is_main(sign) && standing.depth == 0),
+    }
+}
+
+/// Whether a procedure begins at a place.
+fn begins(signs: &[Sign], place: usize, standing: Standing) -> bool
+    ensures { result ≡ (nat_eq standing.depth 0 && not standing.after_main && (is_proc (at signs.now place) && (nat_eq place 0 || ends_item (before signs.now place)))) }
+{
+    standing.depth == 0 && !standing.after_main && is_item_proc(signs, place)
+}
+
+/// Adds a place to others, if it counts.
+fn push_if(places: &mut Vec<usize>, counts: bool, place: usize) -> Result<(), Memory>
+    ensures { OnOk result (places.new.items ≡ places.old.items ++ one_if counts place) }
+{
+    if counts {
+        places.push(place)?;
+    }
+    Ok(())
+}
+
+/// The places at which procedures begin.
+pub fn procedure_places(alloc: Global, signs: &[Sign]) -> Result<Vec<usize>, Memory>
+    ensures { IfOk result (λ found. found.items ≡ those (length signs.now) (begins signs.now)) }
+{
+    let mut found: Vec<usize> = Vec::new(alloc);
+    let mut standing = Standing {
+        depth: 0,
+        after_main: false,
+    };
+    for place in 0..signs.len() {
+        push_if(&mut found, begins(signs, place, standing), place)?;
+        standing = stand_after(signs, place, standing);
+    }
+    Ok(found)
 }

@@ -1,6 +1,7 @@
 use Rattle.std.proofs.Common.{◌≡◌, ◌+◌, ◌*◌, true, ◌∙◌, refl, sym, arith}
 use Rattle.proc_expand.specs.Words.{is_comma, at}
-use Rattle.proc_expand.proofs.Heads.{lies_within, place_listed, both_left, both_right}
+use Rattle.proc_expand.proofs.First.{both_left, both_right}
+use Rattle.proc_expand.proofs.Heads.{lies_within, place_listed}
 use Rattle.proc_expand.proofs.procedures.read_params.Goals as goal
 
 pub listing-preserved : goal.listing-preserved
