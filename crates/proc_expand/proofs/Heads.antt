@@ -1,15 +1,20 @@
 -- Heads of procedures, sign by sign.
-use Rattle.std.proofs.Common.{◌≡◌, ℕ, zero, suc, ◌+◌, ◌-◌, ◌<◌, ◌≤◌, Bool, true, false, ◌&&◌, List, [], ◌∷◌, length, drop, refl, sym, ap, ◌∙◌, arith}
-use Rattle.std.specs.Prelude.{slice_index_or, slice_get, Some}
-use Rattle.std.proofs.lemmas.List.{drop-drop, drop_all}
+use Rattle.std.proofs.Common.{◌≡◌, ℕ, zero, suc, ◌+◌, ◌-◌, ◌<◌, ◌≤◌, Bool, true, false, ◌&&◌, List, [], ◌∷◌, ◌++◌, length, drop, refl, sym, ap, ◌∙◌, arith}
+use Rattle.std.specs.Prelude.{slice_index_or, slice_get, Option, Some, None, not, nat_eq, if◌then◌else◌}
+use Rattle.std.proofs.lemmas.List.{length-append}
+use Rattle.std.proofs.Math.Seq.{get_or-append_seam}
+use Rattle.std.proofs.Math.ListN.{get_or-append}
 use Rattle.jade_lexer.specs.Lexemes.{TokenAt}
 use Rattle.proc_expand.specs.declared.sign.Bracket.TheVariants.{Round, Square, Curly}
 use Rattle.proc_expand.specs.declared.sign.Sign.{Sign}
 use Rattle.proc_expand.specs.declared.sign.Sign.TheVariants.{Proc, Main, Else, Kind, ItemWord, Called, Opens, Closes, Semicolon, Comma, Other}
+use Rattle.proc_expand.specs.declared.sign.End.{End}
+use Rattle.proc_expand.specs.declared.sign.End.TheVariants.{Closed, Wrong, Never}
 use Rattle.proc_expand.specs.declared.procedures.Head.{Head}
-use Rattle.proc_expand.specs.Words.{at, bytes_at, is_kind, is_called, is_comma, opens_round, closes_round, opens_curly}
-use Rattle.proc_expand.specs.Refusals.{head, misfit, with_params, after_params, params_from, params_of, head_from}
-use Rattle.proc_expand.proofs.First.{plus_one, drop_at, by_case}
+use Rattle.proc_expand.specs.Words.{at, bytes_at, is_kind, is_called, is_comma, opens_round, closes_round, opens_curly, closing, fails_at, first, tests, AreEndsFrom, EndsWithin}
+use Rattle.proc_expand.specs.Refusals.{head, misfit, with_params, after_params, params_from, params_of, head_from, body_end, proc_fails}
+use Rattle.proc_expand.proofs.First.{plus_one, drop_at, by_case, index_any, first_none, first_place, eq_true, eq_false}
+use Rattle.proc_expand.proofs.Nested.{closed_in, wrong_in, known_end}
 
 -- past the end there is no sign
 pub past_end : (ss : List Sign) (k : ℕ) → length ss ≤ k → at ss k ≡ Other
@@ -275,3 +280,89 @@ module _ (ss : List Sign) (k : ℕ) where
 
 pub place_after : (ss : List Sign) (n k : ℕ) → made n (opens_curly (at ss k)) k ≡ with_params n (after_params k (drop k ss))
 place_after ss n k = ap (λ s. made n (opens_curly s) k) (sym (first_of ss k)) ∙ after_signs n k (drop k ss)
+
+-- ---- the `{` of a head
+
+curly_is : (s : Sign) → opens_curly s ≡ true → s ≡ Opens Curly
+curly_is (Opens Curly) h = refl
+curly_is Proc h = absurd (cc)
+curly_is Main h = absurd (cc)
+curly_is Else h = absurd (cc)
+curly_is Kind h = absurd (cc)
+curly_is ItemWord h = absurd (cc)
+curly_is Called h = absurd (cc)
+curly_is (Opens Round) h = absurd (cc)
+curly_is (Opens Square) h = absurd (cc)
+curly_is (Closes b) h = absurd (cc)
+curly_is Semicolon h = absurd (cc)
+curly_is Comma h = absurd (cc)
+curly_is Other h = absurd (cc)
+
+module _ (ss : List Sign) (es : List End) (k : ℕ) (known : AreEndsFrom ss es 0) (o : opens_curly (at ss k) ≡ true) where
+  pub curly_within : k < length ss
+  curly_within = lies_within ss k opens_curly refl o
+
+  pub known_curly : slice_index_or es k (Closed 0) ≡ closing ss k
+  known_curly =
+      known_end ss es 0 k Curly known (omega arith) curly_within (index_any ss k Proc Other curly_within ∙ curly_is (at ss k) o)
+
+  pub curly_ends : EndsWithin (length ss) (slice_index_or es k (Closed 0))
+  curly_ends = record {
+    closed = λ j f. (closed_in ss k j curly_within (sym known_curly ∙ f)).1;
+    wrong = λ j f. wrong_in ss k j curly_within (sym known_curly ∙ f);
+  }
+
+-- ---- where procedures fail
+
+pub not_so : (b : Bool) → not b ≡ true → b ≡ false
+not_so true h = absurd (cc)
+not_so false h = refl
+
+pub so_then : (b : Bool) → not b ≡ false → b ≡ true
+so_then true h = refl
+so_then false h = absurd (cc)
+
+pub fails_closed : (n j : ℕ) → None ≡ first (suc n) (fails_at n (Closed j))
+fails_closed n j = sym (first_none (suc n) (fails_at n (Closed j)) (λ k l. refl))
+
+pub fails_wrong : (n j : ℕ) → j < n → Some j ≡ first (suc n) (fails_at n (Wrong j))
+fails_wrong n j l = sym (first_place j (suc n) (omega (arith, l)))
+
+pub fails_never : (n : ℕ) → Some n ≡ first (suc n) (fails_at n Never)
+fails_never n = sym (first_place n (suc n) (omega arith))
+
+module _ (ss : List Sign) (p : ℕ) where
+  abbrev pub failing : Bool → ℕ → Bool
+  failing b k = b && proc_fails ss p k
+
+  pub begins_none : (b : Bool) → b ≡ false → None ≡ first (suc (length ss)) (failing b)
+  begins_none b h = sym (ap (λ t. first (suc (length ss)) (failing t)) h ∙ first_none (suc (length ss)) (failing false) (λ k l. refl))
+
+  pub head_stops : (b : Bool) → b ≡ true → (h : Head) → h ≡ head ss p → h.fits ≡ false → h.stop ≤ length ss → Some h.stop ≡ first (suc (length ss)) (failing b)
+  head_stops b t h is f l =
+      sym (first_place h.stop (suc (length ss)) (omega (arith, l)))
+      ∙ ap (λ (u : Bool). first (suc (length ss)) (λ k. if u then fails_at (length ss) (body_end ss p) k else nat_eq h.stop k)) (sym f)
+      ∙ ap (λ (u : Head). first (suc (length ss)) (λ k. if u.fits then fails_at (length ss) (body_end ss p) k else nat_eq u.stop k)) is
+      ∙ ap (λ u. first (suc (length ss)) (failing u)) (sym t)
+
+  pub body_fails : (b : Bool) → b ≡ true → (h : Head) → h ≡ head ss p → h.fits ≡ true → (e : End) → e ≡ closing ss h.stop
+      → first (suc (length ss)) (fails_at (length ss) e) ≡ first (suc (length ss)) (failing b)
+  body_fails b t h is f e end =
+      ap (λ u. first (suc (length ss)) (fails_at (length ss) u)) end
+      ∙ ap (λ (u : Bool). first (suc (length ss)) (λ k. if u then fails_at (length ss) (if u then closing ss h.stop else Never) k else nat_eq h.stop k)) (sym f)
+      ∙ ap (λ (u : Head). first (suc (length ss)) (λ k. if u.fits then fails_at (length ss) (if u.fits then closing ss u.stop else Never) k else nat_eq u.stop k)) is
+      ∙ ap (λ u. first (suc (length ss)) (failing u)) (sym t)
+
+-- a test by its place
+pub length_tests : (n : ℕ) (is : ℕ → Bool) → length (tests n is) ≡ n
+length_tests zero is = refl
+length_tests (suc n) is = let a = length-append (tests n is) (is n ∷ []) in let l = length_tests n is in omega (arith, a, l)
+
+pub test_at : (n k : ℕ) (is : ℕ → Bool) (d : Bool) → k < n → slice_index_or (tests n is) k d ≡ is k
+test_at zero k is d l = absurd (omega (arith, l))
+test_at (suc n) k is d l =
+    by_case (nat_eq k n)
+    (λ e. let here : k ≡ length (tests n is) = (let g = eq_true k n e in let m = length_tests n is in omega (arith, g, m)) in
+    ap (λ i. slice_index_or (tests n is ++ is n ∷ []) i d) here ∙ get_or-append_seam (tests n is) (is n) [] d ∙ ap is (sym (eq_true k n e)))
+    (λ e. let g = eq_false k n e in let m = length_tests n is in let less : k < n = omega (arith, l, g) in
+    get_or-append (tests n is) (is n ∷ []) d k (omega (arith, less, m)) ∙ test_at n k is d less)

@@ -140,6 +140,11 @@ abbrev pub those : (n : ℕ) → (ℕ → Bool) → List ℕ
 those zero is = []
 those (suc k) is = those k is ++ one_if (is k) k
 
+-- which of the places before n have it
+abbrev pub tests : (n : ℕ) → (ℕ → Bool) → List Bool
+tests zero is = []
+tests (suc k) is = tests k is ++ is k ∷ []
+
 -- a place before n has it
 abbrev pub some : (n : ℕ) → (ℕ → Bool) → Bool
 some zero is = false

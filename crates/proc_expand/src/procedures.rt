@@ -1,11 +1,13 @@
 //! The procedures of a text.
 
-ghost use Rattle.std.specs.Prelude.{◌≡◌, ◌+◌, ◌*◌, ◌^◌, ◌<◌, ◌≤◌, ◌&&◌, ◌||◌, ◌++◌, drop, length, false, not, nat_eq};
-ghost use Rattle.std.specs.Prelude.{OnOk, IfOk};
+ghost use Rattle.std.specs.Prelude.{◌≡◌, ◌+◌, ◌*◌, ◌^◌, ◌<◌, ◌≤◌, ◌&&◌, ◌||◌, ◌++◌, drop, length, suc, true, false, not, nat_eq};
+ghost use Rattle.std.specs.Prelude.{IfOk};
 ghost use Rattle.proc_expand.specs.Words.{is_called, is_kind, is_comma, opens_curly, closes_round, at, before};
-ghost use Rattle.proc_expand.specs.Words.{is_proc, is_main, ends_item, open_after, those, one_if};
-ghost use Rattle.proc_expand.specs.Refusals.{begins, head, misfit, with_params, after_params, params_from};
+ghost use Rattle.proc_expand.specs.Words.{is_proc, is_main, ends_item, open_after, tests, closing, first, some, fails_at};
+ghost use Rattle.proc_expand.specs.Words.{AreEndsFrom, EndsWithin};
+ghost use Rattle.proc_expand.specs.Refusals.{begins, begins as begins_at, proc_fails, head, misfit, with_params, after_params, params_from};
 
+use crate::places::earliest;
 use crate::sign::{
     Bracket, End, Sign, ends_item, is_called, is_comma, is_kind, is_main, is_proc, opens_round,
     sign_at, sign_before,
@@ -67,6 +69,7 @@ fn read_head(signs: &[Sign], place: usize) -> Head
     ensures value { result ≡ head signs.now place }
     ensures long { place + 1 + 3 * result.params ≤ result.stop }
     ensures within { result.stop ≤ length signs.now }
+    ensures opens { result.fits ≡ true → opens_curly (at signs.now result.stop) ≡ true }
 {
     if !is_called(sign_at(signs, place + 1)) {
         return misfit(place + 1);
@@ -86,6 +89,7 @@ fn read_params(signs: &[Sign], start: usize) -> Head
     ensures value { result ≡ params_from start (drop start signs.now) }
     ensures long { start + 3 * result.params ≤ result.stop + 1 }
     ensures within { result.stop ≤ length signs.now }
+    ensures opens { result.fits ≡ true → opens_curly (at signs.now result.stop) ≡ true }
 {
     let mut place = start;
     let mut params = 0;
@@ -114,6 +118,7 @@ fn last_param(signs: &[Sign], place: usize, params: usize) -> Head
     ensures value { result ≡ with_params params (params_from place (drop place signs.now)) }
     ensures long { place + 3 * result.params ≤ result.stop + 1 + 3 * params }
     ensures within { result.stop ≤ length signs.now }
+    ensures opens { result.fits ≡ true → opens_curly (at signs.now result.stop) ≡ true }
 {
     if !is_kind(sign_at(signs, place)) {
         return Head {
@@ -145,6 +150,7 @@ fn after_params(signs: &[Sign], place: usize, params: usize) -> Head
     ensures value { result ≡ with_params params (after_params place (drop place signs.now)) }
     ensures params { result.params ≡ params }
     ensures stop { result.stop ≡ place }
+    ensures opens { result.fits ≡ true → opens_curly (at signs.now result.stop) ≡ true }
 {
     Head {
         params,
@@ -203,28 +209,69 @@ fn begins(signs: &[Sign], place: usize, standing: Standing) -> bool
     standing.depth == 0 && !standing.after_main && is_item_proc(signs, place)
 }
 
-/// Adds a place to others, if it counts.
-fn push_if(places: &mut Vec<usize>, counts: bool, place: usize) -> Result<(), Memory>
-    ensures { OnOk result (places.new.items ≡ places.old.items ++ one_if counts place) }
+/// At which places procedures begin.
+pub(crate) fn beginnings(alloc: Global, signs: &[Sign]) -> Result<Vec<bool>, Memory>
+    ensures { IfOk result (λ found. found.items ≡ tests (length signs.now) (begins signs.now)) }
 {
-    if counts {
-        places.push(place)?;
-    }
-    Ok(())
-}
-
-/// The places at which procedures begin.
-pub fn procedure_places(alloc: Global, signs: &[Sign]) -> Result<Vec<usize>, Memory>
-    ensures { IfOk result (λ found. found.items ≡ those (length signs.now) (begins signs.now)) }
-{
-    let mut found: Vec<usize> = Vec::new(alloc);
+    let mut found: Vec<bool> = Vec::new(alloc);
     let mut standing = Standing {
         depth: 0,
         after_main: false,
     };
     for place in 0..signs.len() {
-        push_if(&mut found, begins(signs, place, standing), place)?;
+        found.push(begins(signs, place, standing))?;
         standing = stand_after(signs, place, standing);
     }
     Ok(found)
+}
+
+/// Where the body of a procedure is closed whose head fits.
+fn body_end(signs: &[Sign], ends: &[End], head: Head) -> End
+    requires opens { opens_curly (at signs.now head.stop) ≡ true }
+    requires ends { AreEndsFrom signs.now ends.now 0 }
+    ensures value { result ≡ closing signs.now head.stop }
+    ensures within { EndsWithin (length signs.now) result }
+{
+    ends[head.stop]
+}
+
+/// Where brackets go wrong that end so.
+fn unclosed(signs: &[Sign], end: End) -> Option<usize>
+    requires { EndsWithin (length signs.now) end }
+    ensures { result ≡ first (suc (length signs.now)) (fails_at (length signs.now) end) }
+{
+    match end {
+        End::Closed(_) => None,
+        End::Wrong(place) => Some(place),
+        End::Never => Some(signs.len()),
+    }
+}
+
+/// The first place at which a procedure fails, if one begins at a place.
+fn failure_at(signs: &[Sign], ends: &[End], begins: bool, place: usize) -> Option<usize>
+    requires within { place < length signs.now }
+    requires ends { AreEndsFrom signs.now ends.now 0 }
+    ensures { result ≡ first (suc (length signs.now)) (λ k. begins && proc_fails signs.now place k) }
+{
+    if !begins {
+        return None;
+    }
+    let head = read_head(signs, place);
+    if !head.fits {
+        return Some(head.stop);
+    }
+    unclosed(signs, body_end(signs, ends, head))
+}
+
+/// The first place at which a procedure fails.
+pub(crate) fn first_failure(signs: &[Sign], ends: &[End], begins: &[bool]) -> Option<usize>
+    requires ends { AreEndsFrom signs.now ends.now 0 }
+    requires begins { begins.now ≡ tests (length signs.now) (begins_at signs.now) }
+    ensures { result ≡ first (suc (length signs.now)) (λ k. some (length signs.now) (λ p. begins_at signs.now p && proc_fails signs.now p k)) }
+{
+    let mut found = None;
+    for place in 0..signs.len() {
+        found = earliest(found, failure_at(signs, ends, begins[place], place));
+    }
+    found
 }

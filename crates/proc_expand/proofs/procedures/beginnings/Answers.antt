@@ -1,19 +1,19 @@
-use Rattle.std.proofs.Common.{◌≡◌, ◌+◌, ◌∷◌, ◌++◌, ◌&&◌, ◌||◌, not, suc, nat_eq, length, ap, sym, ◌∙◌, arith}
-use Rattle.proc_expand.specs.Words.{those, some, one_if, open_before, open_after, at, before, is_proc, is_main, ends_item}
+use Rattle.std.proofs.Common.{◌≡◌, ◌+◌, [], ◌∷◌, ◌++◌, ◌&&◌, ◌||◌, not, suc, nat_eq, length, ap, sym, ◌∙◌, arith}
+use Rattle.proc_expand.specs.Words.{tests, some, open_before, open_after, at, before, is_proc, is_main, ends_item}
 use Rattle.proc_expand.specs.Refusals.{begins, is_outer_main}
 use Rattle.proc_expand.proofs.First.{plus_one}
-use Rattle.proc_expand.proofs.procedures.procedure_places.Goals as goal
+use Rattle.proc_expand.proofs.procedures.beginnings.Goals as goal
 
 pub loop-place-preserved : goal.loop-place-preserved
 loop-place-preserved c =
     let ss = c.args.signs.now in let k = c.loop-place.place in let i = c.loop-place.invariant in
     let item = is_proc (at ss k) && (nat_eq k 0 || ends_item (before ss k)) in
     record {
-      found = c.in_ok-push_if.ensures
-          ∙ ap (λ t. c.loop-place.found.items ++ one_if t k)
+      found = c.in_ok-push.ensures.items
+          ∙ ap (λ t. c.loop-place.found.items ++ t ∷ [])
           (c.begins.ensures ∙ ap (λ o. nat_eq o 0 && not c.loop-place.standing.after_main && item) i.open_so
           ∙ ap (λ m. nat_eq (open_before ss k) 0 && not m && item) i.main)
-          ∙ ap (λ u. u ++ one_if (begins ss k) k) i.found ∙ ap (λ n. those n (begins ss)) (sym (plus_one k));
+          ∙ ap (λ u. u ++ begins ss k ∷ []) i.found ∙ ap (λ n. tests n (begins ss)) (sym (plus_one k));
       open_so = c.stand_after-standing.ensures.depth ∙ ap (open_after (at ss k)) i.open_so ∙ ap (open_before ss) (sym (plus_one k));
       few = let f = c.stand_after-standing.ensures.few in f;
       main = c.stand_after-standing.ensures.main
