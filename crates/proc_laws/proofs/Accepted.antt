@@ -9,17 +9,18 @@ use Rattle.jade_syntax.specs.Placed.{PlacedProgram}
 use Rattle.jade_syntax.specs.Erased.{erased_program}
 use Rattle.jade_syntax.specs.StaticFaults.{static_faults}
 use Rattle.jade_meaning.specs.Course.{root_course}
-use Rattle.proc_expand.specs.Source.{SourceProgram}
-use Rattle.proc_expand.specs.SourceMeaning.{source_course}
-use Rattle.proc_expand.specs.Expansion.{is_among, item_name, block_names, AreFresh, expanded_program, sets, sets_all}
-use Rattle.proc_expand.specs.Moved.{moved_course, moved_action, moved_actions, moved_item, moved_program}
+use Rattle.proc_laws.specs.Source.{SourceProgram}
+use Rattle.proc_laws.specs.SourceMeaning.{source_course}
+use Rattle.proc_laws.specs.Expansion.{item_name, block_names, AreFresh, expanded_program, sets, sets_all}
+use Rattle.proc_expand.specs.Names.{is_among}
+use Rattle.proc_laws.specs.Moved.{moved_course, moved_action, moved_actions, moved_item, moved_program}
 use Rattle.proc_expand.specs.Written.{fresh_name}
-use Rattle.proc_expand.proofs.Basics.{by_case, no_both}
-use Rattle.proc_expand.proofs.Statements.{NoItem}
-use Rattle.proc_expand.proofs.Programs.{program_same}
-use Rattle.proc_expand.proofs.Moving.{course_moved}
-use Rattle.proc_expand.proofs.Faultless.{faultless_clean}
-use Rattle.proc_expand.proofs.Fresh.{fresh_is_free, fresh_one}
+use Rattle.proc_laws.proofs.Basics.{by_case, no_both}
+use Rattle.proc_laws.proofs.Statements.{NoItem}
+use Rattle.proc_laws.proofs.Programs.{program_same}
+use Rattle.proc_laws.proofs.Moving.{course_moved}
+use Rattle.proc_laws.proofs.Faultless.{faultless_clean}
+use Rattle.proc_laws.proofs.Fresh.{fresh_is_free, fresh_one}
 
 -- the names of a text are not made, so these hold for the programs that it reads as
 pub fresh_names : (names : List Name) (p : SourceProgram) → ((x : Name) → is_among (map item_name p.items) x ≡ true → is_among names x ≡ true)

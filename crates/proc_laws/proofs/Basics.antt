@@ -8,7 +8,8 @@ use Rattle.jade_syntax.specs.Numbering.{same_name}
 use Rattle.jade_meaning.specs.declared.values.Value.{Value}
 use Rattle.jade_meaning.specs.declared.values.Value.TheVariants.{IntOf}
 use Rattle.jade_meaning.specs.Course.{Environment, value_of, assigned}
-use Rattle.proc_expand.specs.Expansion.{Each, is_among, place_among}
+use Rattle.proc_laws.specs.Expansion.{Each}
+use Rattle.proc_expand.specs.Names.{is_among, place_among}
 
 pub by_case : {A : Type 0} (b : Bool) → (b ≡ true → A) → (b ≡ false → A) → A
 by_case true f g = f refl

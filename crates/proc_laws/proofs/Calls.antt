@@ -6,15 +6,17 @@ use Rattle.std.specs.Prelude.{not, IsTrue, if◌then◌else◌, nat_lt, Some}
 use Rattle.jade_syntax.specs.Abstract.{Name, Expression, Action, Actions}
 use Rattle.jade_syntax.specs.Numbering.{same_name}
 use Rattle.jade_meaning.specs.Course.{Steps, Ends, Environment, Setting, Mine, On, bind, leave, step, choose, eval, run, run_all, value_of, limit_blame}
-use Rattle.proc_expand.specs.Source.{Param, Procedure}
-use Rattle.proc_expand.specs.SourceMeaning.{Calls, act_all, pass, entered, call, also, all_calls, no_calls}
-use Rattle.proc_expand.specs.Expansion.{Each, is_among, names_in, argument_names, block_names, renamed, Made, Expansions, expanded_all, sets, sets_all, declares}
-use Rattle.proc_expand.specs.Expansion.{place_among, replaced, replacement, call_made, and_call, all_expansions, no_expansions}
-use Rattle.proc_expand.proofs.Basics.{by_case, no_both, each_left, each_right, each_among, Apart, bound, moved, past, not_true, not_same, same_self}
-use Rattle.proc_expand.proofs.Evaluations.{Renames, Elsewhere, seeing, choose_same, evals}
-use Rattle.proc_expand.proofs.Scopes.{Held, Behind, AreItems, Follows, sees_of, held_apart, fresh_apart}
-use Rattle.proc_expand.proofs.Statements.{Grows, NoItem, Agrees, grow_all, acts_all}
-use Rattle.proc_expand.proofs.Replacing.{known_of, each_known, renames, of_item, of_other}
+use Rattle.proc_laws.specs.Source.{Param, Procedure}
+use Rattle.proc_laws.specs.SourceMeaning.{Calls, act_all, pass, entered, call, also, all_calls, no_calls}
+use Rattle.proc_laws.specs.Expansion.{Each, names_in, argument_names, block_names, renamed, Made, Expansions, expanded_all, sets, sets_all, declares}
+use Rattle.proc_expand.specs.Names.{is_among}
+use Rattle.proc_laws.specs.Expansion.{replaced, replacement, call_made, and_call, all_expansions, no_expansions}
+use Rattle.proc_expand.specs.Names.{place_among}
+use Rattle.proc_laws.proofs.Basics.{by_case, no_both, each_left, each_right, each_among, Apart, bound, moved, past, not_true, not_same, same_self}
+use Rattle.proc_laws.proofs.Evaluations.{Renames, Elsewhere, seeing, choose_same, evals}
+use Rattle.proc_laws.proofs.Scopes.{Held, Behind, AreItems, Follows, sees_of, held_apart, fresh_apart}
+use Rattle.proc_laws.proofs.Statements.{Grows, NoItem, Agrees, grow_all, acts_all}
+use Rattle.proc_laws.proofs.Replacing.{known_of, each_known, renames, of_item, of_other}
 
 pub bound_append : (e f : Environment) → bound (e ++ f) ≡ bound e ++ bound f
 bound_append [] f = refl

@@ -4,7 +4,7 @@ use Rattle.std.proofs.Math.Path.{fun_ext}
 use Rattle.std.specs.Prelude.{ℤ}
 use Rattle.jade_base.specs.declared.place.Pos.{Pos}
 use Rattle.jade_base.specs.declared.report.FaultKind.TheVariants.{Index, Object, Right as RightFault}
-use Rattle.jade_base.specs.Rights.{is_immediate}
+use Rattle.jade_base.specs.Rights.{may_read, may_write}
 use Rattle.jade_syntax.specs.Abstract.{Name, Expression, Whole, Truth, Variable, Group, Signed, Chain, Cell, Links, Last, Link, Place, Alone, Member}
 use Rattle.jade_syntax.specs.Numbering.{same_name}
 use Rattle.jade_meaning.specs.declared.values.Value.{Value}
@@ -15,8 +15,9 @@ use Rattle.jade_meaning.specs.Values.{Given, Gives, Fails, signed, operated, dec
 use Rattle.jade_meaning.specs.Specification.{rights_on}
 use Rattle.jade_meaning.specs.Course.{Course, Reads, Writes, Environment, Setting, Mine, On, value_of}
 use Rattle.jade_meaning.specs.Course.{choose, given, fault, place_of, member, reach, read_cell, write_cell, eval, eval_links, find, range_from}
-use Rattle.proc_expand.specs.Expansion.{Each, is_among, names_in, link_names, place_names, renamed, renamed_links, renamed_place}
-use Rattle.proc_expand.proofs.Basics.{by_case, each_left, each_right}
+use Rattle.proc_laws.specs.Expansion.{Each, names_in, link_names, place_names, renamed, renamed_links, renamed_place}
+use Rattle.proc_expand.specs.Names.{is_among}
+use Rattle.proc_laws.proofs.Basics.{by_case, each_left, each_right}
 
 pub choose_same : (b : Bool) (f g f' g' : On) (m m' : Mine) → f m ≡ f' m' → g m ≡ g' m' → choose b f g m ≡ choose b f' g' m'
 choose_same true f g f' g' m m' h k = h
@@ -43,13 +44,13 @@ seeing m env = record m { env = env }
 pub read_same : (o c : ℕ) (at : Pos) (m : Mine) (e e' : Environment) (k k' : Value → Course) → ((v : Value) → k v ≡ k' v)
     → read_cell o c at (seeing m e) k ≡ read_cell o c at (seeing m e') k'
 read_same o c at m e e' k k' f =
-    choose_same (is_immediate (rights_on m.spec o).reads) (λ n. Reads o c (λ z. k (IntOf z))) (fault RightFault at)
+    choose_same (may_read (rights_on m.spec o)) (λ n. Reads o c (λ z. k (IntOf z))) (fault RightFault at)
     (λ n. Reads o c (λ z. k' (IntOf z))) (fault RightFault at) (seeing m e) (seeing m e') (ap (Reads o c) (fun_ext (λ z. f (IntOf z)))) refl
 
 pub write_same : (o c : ℕ) (z : ℤ) (at : Pos) (on on' : On) (m : Mine) (e e' : Environment) → on (seeing m e) ≡ on' (seeing m e')
     → write_cell o c z at on (seeing m e) ≡ write_cell o c z at on' (seeing m e')
 write_same o c z at on on' m e e' f =
-    choose_same (is_immediate (rights_on m.spec o).writes) (λ n. Writes o c z (on n)) (fault RightFault at)
+    choose_same (may_write (rights_on m.spec o)) (λ n. Writes o c z (on n)) (fault RightFault at)
     (λ n. Writes o c z (on' n)) (fault RightFault at) (seeing m e) (seeing m e') (ap (Writes o c z) f) refl
 
 pub place_same : (to : Name → Name) (o : Place) → place_of o ≡ place_of (renamed_place to o)

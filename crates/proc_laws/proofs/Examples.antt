@@ -2,9 +2,11 @@
 use Rattle.std.specs.Prelude.{◌≡◌, ℕ, List, map, codes, Option, Some, None, refl}
 use Rattle.jade_lexer.specs.Lexemes.{TokenAt, TokenList}
 use Rattle.jade_lexer.specs.Reading.{reading, Reading, Whole, Refused}
-use Rattle.proc_expand.specs.Words.{word_of}
-use Rattle.proc_expand.specs.Refusals.{Reason, Shape, Unknown, Count, Twice, Refusal, refusal}
-use Rattle.proc_expand.specs.Written.{expanded_text, pos_from}
+use Rattle.proc_expand.specs.declared.refusal.Reason.{Reason}
+use Rattle.proc_expand.specs.declared.refusal.Reason.TheVariants.{Shape, Unknown, Count, Twice}
+use Rattle.proc_expand.specs.declared.refusal.Refusal.{Refusal}
+use Rattle.proc_expand.specs.Refusals.{refusal}
+use Rattle.proc_expand.specs.Written.{expanded_text, pos_at}
 
 data Outcome : Type 0 where
   Refuses : Reason → ℕ → ℕ → Outcome
@@ -13,11 +15,11 @@ data Outcome : Type 0 where
 
 abbrev outcome_of : TokenList → Option Refusal → Outcome
 outcome_of l None = Writes (expanded_text l)
-outcome_of l (Some r) = let p = pos_from l.lexemes l.end l.lexemes r.place in Refuses r.why p.line p.column
+outcome_of l (Some r) = let p = pos_at l.lexemes l.end l.lexemes r.place in Refuses r.why p.line p.column
 
 abbrev read : Reading → Outcome
 read (Refused e) = NoTokens
-read (Whole l) = outcome_of l (refusal (map (λ (t : TokenAt). word_of t.bytes) l.lexemes))
+read (Whole l) = outcome_of l (refusal l.lexemes)
 
 abbrev outcome : List ℕ → Outcome
 outcome text = read (reading text)

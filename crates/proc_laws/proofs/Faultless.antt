@@ -14,10 +14,11 @@ use Rattle.jade_syntax.specs.Numbering.{same_name}
 use Rattle.jade_syntax.specs.Placed.{Mention, Phrase, Local, Assign, Store, If, IfElse, For, Withonly, With, Declare, Phrases, Done, Then, PlacedProgram}
 use Rattle.jade_syntax.specs.Erased.{erased_phrase, erased_phrases, erased_program, erased_mention}
 use Rattle.jade_syntax.specs.StaticFaults.{Meaning, Input, Holds, Turns, Single, Family, Names, known, found, Site, Uses, Declares, AsTarget, Handed, needed, given, parameter, parameters, mention_sites, names_after, sites, block_sites, item_names, item_sites, wrong_use, is_known, when, faulty, fault_at, faults_of, static_faults, kind_of_name}
-use Rattle.proc_expand.specs.Expansion.{is_among, item_name, sets, sets_all}
-use Rattle.proc_expand.proofs.Basics.{by_case, no_both, not_same}
-use Rattle.proc_expand.proofs.Calls.{each_both}
-use Rattle.proc_expand.proofs.Statements.{NoItem}
+use Rattle.proc_laws.specs.Expansion.{item_name, sets, sets_all}
+use Rattle.proc_expand.specs.Names.{is_among}
+use Rattle.proc_laws.proofs.Basics.{by_case, no_both, not_same}
+use Rattle.proc_laws.proofs.Calls.{each_both}
+use Rattle.proc_laws.proofs.Statements.{NoItem}
 
 no_items : {A : Type 0} (xs ys : List A) → xs ++ ys ≡ [] → (xs ≡ []) × (ys ≡ [])
 no_items [] ys e = (refl, e)

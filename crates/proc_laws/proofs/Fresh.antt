@@ -4,9 +4,9 @@ use Rattle.std.specs.Prelude.{if◌then◌else◌}
 use Rattle.std.specs.Fmt.{digits_onto, digit_glyph}
 use Rattle.jade_syntax.specs.Abstract.{Name}
 use Rattle.jade_syntax.specs.Numbering.{same_name}
-use Rattle.proc_expand.specs.Expansion.{is_among}
+use Rattle.proc_expand.specs.Names.{is_among}
 use Rattle.proc_expand.specs.Written.{numbered_name, next_free, free_number, fresh_name}
-use Rattle.proc_expand.proofs.Basics.{same_from, not_same}
+use Rattle.proc_laws.proofs.Basics.{same_from, not_same}
 
 -- ---- numerals
 

@@ -4,8 +4,8 @@ use Rattle.std.proofs.Math.Path.{fun_ext}
 use Rattle.std.specs.Prelude.{ℤ, pos, ◌+ℤ◌, Option, Some, None, if◌then◌else◌, slice_set, nat_lt}
 use Rattle.jade_base.specs.declared.place.Pos.{Pos}
 use Rattle.jade_base.specs.declared.rights.Rights.{Rights}
-use Rattle.jade_base.specs.declared.report.FaultKind.TheVariants.{Index, Object, Cover, Right as RightFault}
-use Rattle.jade_base.specs.Rights.{is_immediate, join, both_rights, no_rights}
+use Rattle.jade_base.specs.declared.report.FaultKind.TheVariants.{Index, Object, Cover, Commute, Right as RightFault}
+use Rattle.jade_base.specs.Rights.{may_read, may_write, join, both_rights, no_rights}
 use Rattle.jade_syntax.specs.declared.tree.Item.{Item}
 use Rattle.jade_syntax.specs.declared.tree.Item.TheVariants.{Input, Single, Family}
 use Rattle.jade_syntax.specs.declared.tree.DeclareWord.{DeclareWord}
@@ -18,13 +18,13 @@ use Rattle.jade_meaning.specs.declared.values.Value.TheVariants.{IntOf, BoolOf}
 use Rattle.jade_meaning.specs.declared.resolve.Range.{Range}
 use Rattle.jade_meaning.specs.declared.resolve.ResolvedObject.{ResolvedObject}
 use Rattle.jade_meaning.specs.Values.{Given, Gives, Fails, signed, operated, decides, whole, holds, is_index, magnitude, turn_count}
-use Rattle.jade_meaning.specs.Specification.{Specification, rights_on, covers, fitted}
+use Rattle.jade_meaning.specs.Specification.{Specification, rights_on, covers, fitted, is_commuting, may_commute}
 use Rattle.jade_meaning.specs.Changes.{declared, amended}
 use Rattle.jade_meaning.specs.Course.{Course, Reads, Writes, Steps, Creates, Changes, Ends, Setting, Mine, On, Draft, NoDraft, Building, Amending}
 use Rattle.jade_meaning.specs.Course.{choose, fault, finish, given, place_of, member, reach, read_cell, write_cell, eval, eval_links, find, range_from, inputs, turns}
-use Rattle.jade_meaning.specs.Course.{step, scoped, create, change, declare, amend, none_of, copied, drafted, working, child_start, run, run_all, bind, leave, value_of, assigned}
+use Rattle.jade_meaning.specs.Course.{step, scoped, section_begins, create, create_covered, change, declare, amend, none_of, copied, drafted, working, child_start, run, run_all, bind, leave, value_of, assigned}
 use Rattle.jade_meaning.specs.Course.{root_course, limit_blame}
-use Rattle.proc_expand.specs.Moved.{moved_course, moved_expression, moved_links, moved_place, moved_action, moved_actions, moved_item, moved_program}
+use Rattle.proc_laws.specs.Moved.{moved_course, moved_expression, moved_links, moved_place, moved_action, moved_actions, moved_item, moved_program}
 
 module _ (f : Pos → Pos) where
   M : Course → Course
@@ -88,13 +88,13 @@ module _ (f : Pos → Pos) where
     read_moved : (o c : ℕ) (at : Pos) (m : Mine) (k k' : Value → Course) → ((v : Value) → k' v ≡ moved_course f (k v))
         → read_cell o c (f at) m k' ≡ moved_course f (read_cell o c at m k)
     read_moved o c at m k k' h =
-        choose_moved (is_immediate (rights_on m.spec o).reads) (λ n. Reads o c (λ z. k (IntOf z))) (fault RightFault at)
+        choose_moved (may_read (rights_on m.spec o)) (λ n. Reads o c (λ z. k (IntOf z))) (fault RightFault at)
         (λ n. Reads o c (λ z. k' (IntOf z))) (fault RightFault (f at)) m (ap (Reads o c) (fun_ext (λ z. h (IntOf z)))) refl
 
     write_moved : (o c : ℕ) (z : ℤ) (at : Pos) (on on' : On) (m : Mine) → on' m ≡ moved_course f (on m)
         → write_cell o c z (f at) on' m ≡ moved_course f (write_cell o c z at on m)
     write_moved o c z at on on' m h =
-        choose_moved (is_immediate (rights_on m.spec o).writes) (λ n. Writes o c z (on n)) (fault RightFault at)
+        choose_moved (may_write (rights_on m.spec o)) (λ n. Writes o c z (on n)) (fault RightFault at)
         (λ n. Writes o c z (on' n)) (fault RightFault (f at)) m (ap (Writes o c z) h) refl
 
     mutual
@@ -170,12 +170,19 @@ module _ (f : Pos → Pos) where
         → Same (create s at names body on) (create s' (f at) names body' on')
     create_moved at names body body' b on on' h m =
         let child = fitted m.spec (drafted m.draft) in
-        choose_moved (covers m.spec child)
+        choose_moved (may_commute child) (create_covered s at names child body on) (fault Commute at) (create_covered s' (f at) names child body' on')
+        (fault Commute (f at)) m
+        (choose_moved (covers m.spec child)
         (λ n. Creates child (body (child_start (copied names n.env ++ s.given) child)) (on (record n { draft = NoDraft }))) (fault Cover at)
         (λ n. Creates child (body' (child_start (copied names n.env ++ s'.given) child)) (on' (record n { draft = NoDraft }))) (fault Cover (f at)) m
         (ap (λ g. Creates child (body' (child_start (copied names m.env ++ g) child)) (on' (record m { draft = NoDraft }))) same_given
         ∙ ap (λ u. Creates child u (on' (record m { draft = NoDraft }))) (b (child_start (copied names m.env ++ s.given) child))
-        ∙ ap (Creates child (moved_course f (body (child_start (copied names m.env ++ s.given) child)))) (h (record m { draft = NoDraft }))) refl
+        ∙ ap (Creates child (moved_course f (body (child_start (copied names m.env ++ s.given) child)))) (h (record m { draft = NoDraft }))) refl) refl
+
+    section_moved : (at : Pos) (draft : Draft) (on on' : On) → Same on on' → Same (section_begins at draft on) (section_begins (f at) draft on')
+    section_moved at draft on on' h m =
+        choose_moved (is_commuting m.spec) (fault Commute at) (λ n. on (record n { draft = draft })) (fault Commute (f at)) (λ n. on' (record n { draft = draft })) m
+        refl (h (record m { draft = draft }))
 
     change_moved : (on on' : On) → Same on on' → Same (change on) (change on')
     change_moved on on' h m = let new = fitted m.spec (working m.draft m.spec) in ap (Changes new) (h (record m { spec = new; draft = NoDraft }))
@@ -221,15 +228,17 @@ module _ (f : Pos → Pos) where
           (λ u. turns_moved x (run_all s body) (run_all s' (moved_actions f body)) (λ q q' w. acts_all body q q' w) on on' h
           (turn_count (whole l) (whole u)) (whole l) m))
       acts (Withonly at section names body) on on' h m =
-          ap (λ k. scoped (run_all s' (moved_actions f section)) (create s' (f at) names (run_all s' (moved_actions f body) finish) on')
-          (record m { draft = Building k })) none_same
-          ∙ scoped_moved (run_all s section) (run_all s' (moved_actions f section)) (λ q q' w. acts_all section q q' w)
+          ap (λ k. section_begins (f at) (Building k)
+          (scoped (run_all s' (moved_actions f section)) (create s' (f at) names (run_all s' (moved_actions f body) finish) on')) m) none_same
+          ∙ section_moved at (Building (none_of s.items)) (scoped (run_all s section) (create s at names (run_all s body finish) on))
+          (scoped (run_all s' (moved_actions f section)) (create s' (f at) names (run_all s' (moved_actions f body) finish) on'))
+          (scoped_moved (run_all s section) (run_all s' (moved_actions f section)) (λ q q' w. acts_all section q q' w)
           (create s at names (run_all s body finish) on) (create s' (f at) names (run_all s' (moved_actions f body) finish) on')
-          (create_moved at names (run_all s body finish) (run_all s' (moved_actions f body) finish) (acts_all body finish finish (λ n. refl)) on on' h)
-          (record m { draft = Building (none_of s.items) })
+          (create_moved at names (run_all s body finish) (run_all s' (moved_actions f body) finish) (acts_all body finish finish (λ n. refl)) on on' h)) m
       acts (With at section) on on' h m =
-          scoped_moved (run_all s section) (run_all s' (moved_actions f section)) (λ q q' w. acts_all section q q' w) (change on) (change on')
-          (change_moved on on' h) (record m { draft = Amending m.spec })
+          section_moved at (Amending m.spec) (scoped (run_all s section) (change on)) (scoped (run_all s' (moved_actions f section)) (change on'))
+          (scoped_moved (run_all s section) (run_all s' (moved_actions f section)) (λ q q' w. acts_all section q q' w) (change on) (change on')
+          (change_moved on on' h)) m
       acts (Declare how at o) on on' h m =
           finds o m (λ g. declare m.draft how g.number at on m) (λ g. declare m.draft how g.number (f at) on' m)
           (λ g. declare_moved m.draft how g.number at on on' h m)

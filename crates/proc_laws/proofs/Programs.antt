@@ -9,15 +9,16 @@ use Rattle.jade_syntax.specs.Numbering.{same_name}
 use Rattle.jade_syntax.specs.Objects.{amount, sizes}
 use Rattle.jade_meaning.specs.declared.resolve.Range.{Range}
 use Rattle.jade_meaning.specs.Course.{Setting, inputs, range_from, finish, child_start, root_course}
-use Rattle.proc_expand.specs.Source.{SourceProgram}
-use Rattle.proc_expand.specs.SourceMeaning.{source_course, no_calls, all_calls}
-use Rattle.proc_expand.specs.Expansion.{Each, is_among, item_name, block_names, AreFresh, expanded_program, sets_all, all_expansions, no_expansions}
-use Rattle.proc_expand.proofs.Basics.{by_case, no_both, bound, among_here, among_more, each_among, same_self, not_same}
-use Rattle.proc_expand.proofs.Evaluations.{Renames}
-use Rattle.proc_expand.proofs.Scopes.{behind_child}
-use Rattle.proc_expand.proofs.Statements.{acts_all, NoItem}
-use Rattle.proc_expand.proofs.Replacing.{known_of, or_left, or_right, or_second}
-use Rattle.proc_expand.proofs.Calls.{all_agree, all_grow, none_agree, none_grow}
+use Rattle.proc_laws.specs.Source.{SourceProgram}
+use Rattle.proc_laws.specs.SourceMeaning.{source_course, no_calls, all_calls}
+use Rattle.proc_laws.specs.Expansion.{Each, item_name, block_names, AreFresh, expanded_program, sets_all, all_expansions, no_expansions}
+use Rattle.proc_expand.specs.Names.{is_among}
+use Rattle.proc_laws.proofs.Basics.{by_case, no_both, bound, among_here, among_more, each_among, same_self, not_same}
+use Rattle.proc_laws.proofs.Evaluations.{Renames}
+use Rattle.proc_laws.proofs.Scopes.{behind_child}
+use Rattle.proc_laws.proofs.Statements.{acts_all, NoItem}
+use Rattle.proc_laws.proofs.Replacing.{known_of, or_left, or_right, or_second}
+use Rattle.proc_laws.proofs.Calls.{all_agree, all_grow, none_agree, none_grow}
 
 inputs_bound : (its : List Item) (ns : List ℤ) (is : Name → Bool) → ((x : Name) → is_among (map item_name its) x ≡ true → is x ≡ true)
     → Each is (bound (inputs its ns))

@@ -3,9 +3,10 @@ use Rattle.std.proofs.Common.{◌≡◌, ℕ, ◌+◌, Bool, true, false, List, 
 use Rattle.std.specs.Prelude.{◌||◌, if◌then◌else◌}
 use Rattle.jade_syntax.specs.Abstract.{Name}
 use Rattle.jade_syntax.specs.Numbering.{same_name}
-use Rattle.proc_expand.specs.Expansion.{is_among, place_among, first_places, replacement}
-use Rattle.proc_expand.proofs.Basics.{by_case, no_both, same_either, same_self, same_from, not_same, place_below, place_one}
-use Rattle.proc_expand.proofs.Evaluations.{Renames}
+use Rattle.proc_laws.specs.Expansion.{replacement}
+use Rattle.proc_expand.specs.Names.{is_among, place_among, first_places}
+use Rattle.proc_laws.proofs.Basics.{by_case, no_both, same_either, same_self, same_from, not_same, place_below, place_one}
+use Rattle.proc_laws.proofs.Evaluations.{Renames}
 
 -- an item, or a name that is replaced
 abbrev pub known_of : (items names : List Name) → Name → Bool

@@ -6,9 +6,9 @@ use Rattle.jade_syntax.specs.declared.tree.ValueKind.TheVariants.{Int}
 use Rattle.jade_syntax.specs.Abstract.{Name, AbstractProgram, Whole, Variable, Cell, Alone}
 use Rattle.jade_meaning.specs.Course.{limit_blame}
 use Rattle.jade_meaning.specs.Answer.{Faulted, Cells, run_answer, stopping_run}
-use Rattle.proc_expand.specs.Source.{Store, Call, Done, Then, SourceProgram}
-use Rattle.proc_expand.specs.SourceMeaning.{source_course}
-use Rattle.proc_expand.specs.Expansion.{expanded_program}
+use Rattle.proc_laws.specs.Source.{Store, Call, Done, Then, SourceProgram}
+use Rattle.proc_laws.specs.SourceMeaning.{source_course}
+use Rattle.proc_laws.specs.Expansion.{expanded_program}
 use Rattle.proc_expand.specs.Written.{fresh_name}
 use Rattle.jade_meaning.specs.Course.{root_course}
 

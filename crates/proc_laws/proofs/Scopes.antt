@@ -7,10 +7,11 @@ use Rattle.jade_meaning.specs.declared.values.Value.{Value}
 use Rattle.jade_meaning.specs.Course.{Environment, Setting, Mine, On, value_of, assigned, copied, leave, scoped, step}
 use Rattle.jade_meaning.specs.Course.{Steps, Ends, limit_blame}
 use Rattle.std.specs.Prelude.{nat_lt, Some}
-use Rattle.proc_expand.specs.Expansion.{Each, is_among}
-use Rattle.proc_expand.proofs.Basics.{by_case, no_both, Apart, bound, moved, absent, assigned_within, drop_front, length_moved, drop_moved}
-use Rattle.proc_expand.proofs.Basics.{not_same}
-use Rattle.proc_expand.proofs.Evaluations.{Renames, Sees, seeing, choose_same}
+use Rattle.proc_laws.specs.Expansion.{Each}
+use Rattle.proc_expand.specs.Names.{is_among}
+use Rattle.proc_laws.proofs.Basics.{by_case, no_both, Apart, bound, moved, absent, assigned_within, drop_front, length_moved, drop_moved}
+use Rattle.proc_laws.proofs.Basics.{not_same}
+use Rattle.proc_laws.proofs.Evaluations.{Renames, Sees, seeing, choose_same}
 
 -- variables of a body: known names that are no item's
 abbrev pub Held : (items : List Name) (known : Name → Bool) → Environment → Type 0

@@ -3,18 +3,18 @@ use Rattle.std.proofs.Common.{◌≡◌, ℕ, zero, suc, ◌≤◌, Bool, true, 
 use Rattle.std.specs.Prelude.{not, ℤ, pos, ◌+ℤ◌, IsTrue, Option, Some, None, slice_set}
 use Rattle.jade_base.specs.declared.place.Pos.{Pos}
 use Rattle.jade_base.specs.declared.rights.Rights.{Rights}
-use Rattle.jade_base.specs.declared.report.FaultKind.TheVariants.{Cover}
+use Rattle.jade_base.specs.declared.report.FaultKind.TheVariants.{Cover, Commute}
 use Rattle.jade_base.specs.Rights.{join}
 use Rattle.jade_syntax.specs.declared.tree.DeclareWord.{DeclareWord}
 use Rattle.jade_syntax.specs.Abstract.{Name, Expression}
 use Rattle.jade_meaning.specs.declared.values.Value.TheVariants.{IntOf}
 use Rattle.jade_meaning.specs.Values.{whole, holds, turn_count}
-use Rattle.jade_meaning.specs.Specification.{Specification, rights_on, covers, fitted}
+use Rattle.jade_meaning.specs.Specification.{Specification, rights_on, covers, fitted, is_commuting, may_commute}
 use Rattle.jade_meaning.specs.Changes.{declared, amended}
 use Rattle.jade_meaning.specs.Course.{Creates, Changes, Environment, Setting, Mine, On, Draft, NoDraft, Building, Amending, bind, assigned, scoped}
-use Rattle.jade_meaning.specs.Course.{choose, fault, finish, place_of, reach, write_cell, eval, turns, create, change, declare, amend, none_of}
+use Rattle.jade_meaning.specs.Course.{choose, fault, finish, place_of, reach, write_cell, eval, turns, section_begins, create, create_covered, change, declare, amend, none_of}
 use Rattle.jade_meaning.specs.Course.{run, run_all, copied, drafted, working, child_start}
-use Rattle.proc_expand.specs.Source.{
+use Rattle.proc_laws.specs.Source.{
   SourceAction,
   Local,
   Assign,
@@ -30,13 +30,14 @@ use Rattle.proc_expand.specs.Source.{
   Done,
   Then,
 }
-use Rattle.proc_expand.specs.SourceMeaning.{Calls, act, act_all}
-use Rattle.proc_expand.specs.Expansion.{Each, is_among, names_in, place_names, argument_names, action_names, block_names, renamed, renamed_place}
-use Rattle.proc_expand.specs.Expansion.{Expansions, expanded, expanded_all, sets, sets_all}
-use Rattle.proc_expand.proofs.Basics.{by_case, no_both, each_left, each_right, moved, not_true}
-use Rattle.proc_expand.proofs.Evaluations.{Renames, Elsewhere, Sees, seeing, choose_same, reach_same, write_same, place_same, evals, finds}
-use Rattle.proc_expand.proofs.Scopes.{Held, Behind, AreItems, Follows, step_same, scoped_same, sees_of, moved_assignment, source_assignment}
-use Rattle.proc_expand.proofs.Scopes.{moved_copied, behind_child, held_drop, held_assigned}
+use Rattle.proc_laws.specs.SourceMeaning.{Calls, act, act_all}
+use Rattle.proc_laws.specs.Expansion.{Each, names_in, place_names, argument_names, action_names, block_names, renamed, renamed_place}
+use Rattle.proc_expand.specs.Names.{is_among}
+use Rattle.proc_laws.specs.Expansion.{Expansions, expanded, expanded_all, sets, sets_all}
+use Rattle.proc_laws.proofs.Basics.{by_case, no_both, each_left, each_right, moved, not_true}
+use Rattle.proc_laws.proofs.Evaluations.{Renames, Elsewhere, Sees, seeing, choose_same, reach_same, write_same, place_same, evals, finds}
+use Rattle.proc_laws.proofs.Scopes.{Held, Behind, AreItems, Follows, step_same, scoped_same, sees_of, moved_assignment, source_assignment}
+use Rattle.proc_laws.proofs.Scopes.{moved_copied, behind_child, held_drop, held_assigned}
 
 -- what stands for calls takes numbers upward
 abbrev pub Grows : Expansions → Type 0
@@ -136,12 +137,20 @@ module _ (s : Setting) (items : List Name) (given_items : AreItems s items) (fre
         let first : body (seeing start (own ++ s.given)) ≡ body' (seeing start (copied (map to names) e' ++ s.given)) =
         g own (held_copied names h p e) start
         ∙ ap (λ u. body' (seeing start (u ++ s.given))) (sym (moved_copied s items given_items fresh known to n0 r c b names h ls k)) in
-        choose_same (covers m.spec child)
+        choose_same (may_commute child) (create_covered s at names child body on) (fault Commute at)
+        (create_covered s at (map to names) child body' on') (fault Commute at) (seeing m e) (seeing m e')
+        (choose_same (covers m.spec child)
         (λ n. Creates child (body (child_start (copied names n.env ++ s.given) child)) (on (record n { draft = NoDraft }))) (fault Cover at)
         (λ n. Creates child (body' (child_start (copied (map to names) n.env ++ s.given) child)) (on' (record n { draft = NoDraft }))) (fault Cover at)
         (seeing m e) (seeing m e')
         (ap (λ u. Creates child u (on (seeing (record m { draft = NoDraft }) e))) first
-        ∙ ap (Creates child (body' (seeing start (copied (map to names) e' ++ s.given)))) (f ls k (record m { draft = NoDraft }))) refl
+        ∙ ap (Creates child (body' (seeing start (copied (map to names) e' ++ s.given)))) (f ls k (record m { draft = NoDraft }))) refl) refl
+
+    section_same : (at : Pos) (draft : Draft) (on on' : On) → Follows s items known to c on on'
+        → Follows s items known to c (section_begins at draft on) (section_begins at draft on')
+    section_same at draft on on' f ls k m =
+        choose_same (is_commuting m.spec) (fault Commute at) (λ n. on (record n { draft = draft })) (fault Commute at)
+        (λ n. on' (record n { draft = draft })) (seeing m (ls ++ s.given)) (seeing m (moved to ls ++ c)) refl (f ls k (record m { draft = draft }))
 
   mutual
     pub acts : (a : SourceAction) → Each known (action_names a) → (c : Environment) → Behind s items fresh known to n0 c → (n : ℕ) → n0 ≤ n
@@ -230,19 +239,21 @@ module _ (s : Setting) (items : List Name) (given_items : AreItems s items) (fre
         let free : Name → Bool = λ z. not (is_among items z) in
         let hb = each_right known (block_names section) (names ++ block_names body) h in
         let pb = each_right free (sets_all x.made) (map to names ++ sets_all y.made) p in
-        scoped_same s items known to c drops (act_all s calls section) (run_all s x.made)
+        section_same c b at (Building (none_of s.items)) (scoped (act_all s calls section) (create s at names (act_all s calls body finish) on))
+        (scoped (run_all s x.made) (create s at (map to names) (run_all s y.made finish) on'))
+        (scoped_same s items known to c drops (act_all s calls section) (run_all s x.made)
         (λ q q' w. acts_all section (each_left known (block_names section) (names ++ block_names body) h) c b n le
         (each_left free (sets_all x.made) (map to names ++ sets_all y.made) p) q q' w)
         (create s at names (act_all s calls body finish) on) (create s at (map to names) (run_all s y.made finish) on')
         (create_same c b at names (each_left known names (block_names body) hb) (each_left free (map to names) (sets_all y.made) pb)
         (act_all s calls body finish) (run_all s y.made finish)
         (acts_all body (each_right known names (block_names body) hb) s.given (behind_child s items given_items fresh known to n0 r) x.next
-        (omega (arith, le, up)) (each_right free (map to names) (sets_all y.made) pb) finish finish (λ us w z. refl)) on on' f)
-        ls k (record m { draft = Building (none_of s.items) })
+        (omega (arith, le, up)) (each_right free (map to names) (sets_all y.made) pb) finish finish (λ us w z. refl)) on on' f)) ls k m
     acts (With at section) h c b n le p on on' f ls k m =
         let x = expanded_all exps to section n in
-        scoped_same s items known to c drops (act_all s calls section) (run_all s x.made)
-        (λ q q' w. acts_all section h c b n le p q q' w) (change on) (change on') (change_same c b on on' f) ls k (record m { draft = Amending m.spec })
+        section_same c b at (Amending m.spec) (scoped (act_all s calls section) (change on)) (scoped (run_all s x.made) (change on'))
+        (scoped_same s items known to c drops (act_all s calls section) (run_all s x.made)
+        (λ q q' w. acts_all section h c b n le p q q' w) (change on) (change on') (change_same c b on on' f)) ls k m
     acts (Declare how at o) h c b n le p on on' f ls k m =
         finds s items fresh elsewhere known to n0 r (ls ++ s.given) (moved to ls ++ c) m (sees c b ls k) o h
         (λ g. declare m.draft how g.number at on (seeing m (ls ++ s.given))) (λ g. declare m.draft how g.number at on' (seeing m (moved to ls ++ c)))

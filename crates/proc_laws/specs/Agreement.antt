@@ -9,12 +9,11 @@ use Rattle.jade_syntax.specs.PlacedImage.{placed_program}
 use Rattle.jade_syntax.specs.StaticFaults.{static_faults}
 use Rattle.jade_parser.specs.Grammar.{IsReading}
 use Rattle.jade_meaning.specs.Course.{root_course}
-use Rattle.proc_expand.specs.Words.{word_of}
 use Rattle.proc_expand.specs.Refusals.{refusal}
 use Rattle.proc_expand.specs.Written.{MadeToken, expansion, expanded_text}
-use Rattle.proc_expand.specs.Moved.{moved_course}
-use Rattle.proc_expand.specs.SourceMeaning.{source_course}
-use Rattle.proc_expand.specs.SourceReading.{SourceText, IsSourceReading, source_of}
+use Rattle.proc_laws.specs.Moved.{moved_course}
+use Rattle.proc_laws.specs.SourceMeaning.{source_course}
+use Rattle.proc_laws.specs.SourceReading.{SourceText, IsSourceReading, source_of}
 
 -- the origin of a position: that of the token which begins there, the first of these beginning in this column; any other is the end's
 abbrev pub origin_from : ℕ → List MadeToken → Pos → Pos → Pos
@@ -34,12 +33,12 @@ pub record HasSource (l : TokenList) (p : Program) : Type 0 where
 -- what expansion owes
 abbrev pub Agreement : Type 0
 Agreement =
-    (l after : TokenList) → refusal (map (λ (t : TokenAt). word_of t.bytes) l.lexemes) ≡ None → reading (expanded_text l) ≡ Whole after
+    (l after : TokenList) → refusal l.lexemes ≡ None → reading (expanded_text l) ≡ Whole after
     → (p : Program) → IsReading after p → static_faults (placed_program p) ≡ [] → HasSource l p
 
 -- the same of whatever source the tokens read as
 abbrev pub AgreementOfReadings : Type 0
 AgreementOfReadings =
-    (l after : TokenList) → refusal (map (λ (t : TokenAt). word_of t.bytes) l.lexemes) ≡ None → reading (expanded_text l) ≡ Whole after
+    (l after : TokenList) → refusal l.lexemes ≡ None → reading (expanded_text l) ≡ Whole after
     → (p : Program) → IsReading after p → static_faults (placed_program p) ≡ [] → (q : SourceText) → IsSourceReading l q
     → (numbers : List ℤ) → (limit : ℕ) → moved_course (origin l) (root_course (program p) numbers limit) ≡ source_course (source_of q) numbers limit

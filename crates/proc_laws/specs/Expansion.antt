@@ -6,7 +6,8 @@ use Rattle.jade_syntax.specs.Abstract as plain
 use Rattle.jade_syntax.specs.Abstract.{Name, Expression, Whole, Truth, Variable, Group, Signed, Chain, Cell, Links, Last, Link, Place, Alone, Member}
 use Rattle.jade_syntax.specs.Abstract.{Action, Actions, AbstractProgram}
 use Rattle.jade_syntax.specs.Numbering.{same_name}
-use Rattle.proc_expand.specs.Source.{
+use Rattle.proc_expand.specs.Names.{is_among, first_places, place_among}
+use Rattle.proc_laws.specs.Source.{
   SourceAction,
   Local,
   Assign,
@@ -31,11 +32,6 @@ abbrev pub item_name : Item → Name
 item_name (Input x at) = x
 item_name (Single x at size) = x
 item_name (Family x at count size) = x
-
--- a name is among some
-abbrev pub is_among : List Name → Name → Bool
-is_among [] x = false
-is_among (y ∷ ys) x = if same_name x y then true else is_among ys x
 
 -- ---- the names of a source, in text order, without those of procedures
 
@@ -140,18 +136,6 @@ module _ (calls : Expansions) (to : Name → Name) where
     expanded_all (Then a more) n =
         let b = expanded a n in let d = expanded_all more b.next in
         record { made = plain.Then b.made d.made; next = d.next }
-
--- the names of a list at their first places, without items and without those seen before
-abbrev pub first_places : (items seen : List Name) → List Name → List Name
-first_places items seen [] = []
-first_places items seen (x ∷ xs) =
-    if is_among items x then first_places items seen xs
-    else (if is_among seen x then first_places items seen xs else x ∷ first_places items (x ∷ seen) xs)
-
--- at which place of a list a name stands first
-abbrev pub place_among : List Name → Name → ℕ
-place_among [] x = 0
-place_among (y ∷ ys) x = if same_name x y then 0 else suc (place_among ys x)
 
 -- the parameters of a call get the values of its arguments, and then comes the body
 abbrev pub declares : (Name → Name) → List Param → List Expression → Actions → Actions

@@ -7,8 +7,8 @@ use Rattle.jade_syntax.specs.Numbering.{same_name}
 use Rattle.jade_syntax.specs.Objects.{sizes}
 use Rattle.jade_meaning.specs.Values.{whole, holds, turn_count}
 use Rattle.jade_meaning.specs.Course.{Course, Environment, Setting, On, Building, Amending, eval, find, bind, assigned, reach, write_cell, place_of}
-use Rattle.jade_meaning.specs.Course.{choose, scoped, turns, step, create, finish, change, declare, none_of, inputs, child_start}
-use Rattle.proc_expand.specs.Source.{
+use Rattle.jade_meaning.specs.Course.{choose, scoped, turns, step, section_begins, create, finish, change, declare, none_of, inputs, child_start}
+use Rattle.proc_laws.specs.Source.{
   SourceAction,
   Local,
   Assign,
@@ -48,8 +48,8 @@ module _ (s : Setting) where
       act (For x low high body) on m =
           eval s low m (λ l. eval s high m (λ h. turns s.limit (turn_count (whole l) (whole h)) (whole l) x (act_all body) on m))
       act (Withonly at section names body) on m =
-          scoped (act_all section) (create s at names (act_all body finish) on) (record m { draft = Building (none_of s.items) })
-      act (With at section) on m = scoped (act_all section) (change on) (record m { draft = Amending m.spec })
+          section_begins at (Building (none_of s.items)) (scoped (act_all section) (create s at names (act_all body finish) on)) m
+      act (With at section) on m = section_begins at (Amending m.spec) (scoped (act_all section) (change on)) m
       act (Declare how at o) on m = find s o m (λ f. declare m.draft how f.number at on m)
       act (Call f args) on m = calls f args on m
 

@@ -21,8 +21,8 @@ use Rattle.jade_parser.specs.Spelled.{Fixed, Called, Part, Parts, plain, fixed, 
 use Rattle.jade_parser.specs.Statements.{kind_word, declare_word, object_parts, target_parts, name_parts}
 use Rattle.jade_parser.specs.Programs.{item_parts}
 use Rattle.jade_parser.specs.Grammar.{bytes_of, texts, positions}
-use Rattle.proc_expand.specs.Source as source
-use Rattle.proc_expand.specs.Source.{SourceAction, SourceActions, Param, Procedure, SourceProgram}
+use Rattle.proc_laws.specs.Source as source
+use Rattle.proc_laws.specs.Source.{SourceAction, SourceActions, Param, Procedure, SourceProgram}
 
 -- a parameter of a head
 pub record HeadParam : Type 0 where

@@ -5,13 +5,14 @@ ghost use Rattle.jade_base.specs.declared.place.Pos.{Pos};
 ghost use Rattle.jade_syntax.specs.Erased.{erased_program};
 ghost use Rattle.jade_syntax.specs.Placed.{PlacedProgram};
 ghost use Rattle.jade_syntax.specs.StaticFaults.{static_faults};
-ghost use Rattle.proc_expand.specs.Moved.{moved_course, moved_program};
+ghost use Rattle.proc_laws.specs.Moved.{moved_course, moved_program};
 ghost use Rattle.proc_expand.specs.Written.{fresh_name};
 ghost use Rattle.jade_meaning.specs.Course.{root_course};
 ghost use Rattle.jade_syntax.specs.Abstract.{Name};
-ghost use Rattle.proc_expand.specs.Source.{SourceProgram};
-ghost use Rattle.proc_expand.specs.SourceMeaning.{source_course};
-ghost use Rattle.proc_expand.specs.Expansion.{AreFresh, Each, block_names, expanded_program, sets_all, item_name, is_among};
+ghost use Rattle.proc_laws.specs.Source.{SourceProgram};
+ghost use Rattle.proc_laws.specs.SourceMeaning.{source_course};
+ghost use Rattle.proc_laws.specs.Expansion.{AreFresh, Each, block_names, expanded_program, sets_all, item_name};
+ghost use Rattle.proc_expand.specs.Names.{is_among};
 
 /// A law of programs with procedures, which does nothing: where the expanded program declares, hands
 /// to a task and assigns no item, it does what its source does.
