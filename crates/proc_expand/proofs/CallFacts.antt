@@ -1,5 +1,5 @@
 -- Calls: where they stand, and the commas between their arguments.
-use Rattle.std.proofs.Common.{◌≡◌, ℕ, zero, suc, ◌+◌, ◌-◌, ◌<◌, ◌≤◌, Bool, true, false, not, ◌&&◌, ◌||◌, List, [], ◌∷◌, length, drop, Option, Some, None, nat_eq, nat_lt, refl, sym, ap, ◌∙◌, arith}
+use Rattle.std.proofs.Common.{◌≡◌, ℕ, suc, ◌+◌, ◌<◌, ◌≤◌, Bool, true, false, not, ◌&&◌, ◌||◌, List, [], ◌∷◌, length, drop, Option, Some, None, nat_eq, nat_lt, refl, sym, ap, ◌∙◌, arith}
 use Rattle.std.specs.Prelude.{slice_index_or, if◌then◌else◌}
 use Rattle.std.specs.List.{list_any}
 use Rattle.std.proofs.lemmas.List.{drop_all}
@@ -9,12 +9,12 @@ use Rattle.proc_expand.specs.declared.sign.Sign.{Sign}
 use Rattle.proc_expand.specs.declared.sign.Sign.TheVariants.{Proc, Main, Else, Kind, ItemWord, Called, Opens, Closes, Semicolon, Comma, Other}
 use Rattle.proc_expand.specs.declared.sign.End.{End}
 use Rattle.proc_expand.specs.declared.sign.End.TheVariants.{Closed, Wrong, Never}
-use Rattle.proc_expand.specs.Words.{at, before, opens, opens_round, is_called, is_proc, is_comma, is_semicolon, is_else, same_bracket, closing, closing_from, closed_by, next_place, after_sign, after_end}
+use Rattle.proc_expand.specs.Words.{at, before, opens_round, is_called, is_proc, is_comma, is_semicolon, is_else, same_bracket, closing, closing_from, closed_by, next_place, after_sign, after_end}
 use Rattle.proc_expand.specs.Words.{first, some, earliest, end_place, AreEndsFrom, EndsWithin}
-use Rattle.proc_expand.specs.Refusals.{is_call, call_end, commas, commas_from, misplaced, within, ends_empty, ending_fails, call_fails}
-use Rattle.proc_expand.proofs.First.{index_any, plus_one, drop_at, drop_tail, by_case, eq_true, eq_same, eq_not, eq_false, lt_true, lt_is, lt_false, lt_not, both_left, both_right}
+use Rattle.proc_expand.specs.Refusals.{is_call, call_end, commas_from, within, ends_empty, ending_fails, call_fails}
+use Rattle.proc_expand.proofs.First.{index_any, plus_one, drop_at, drop_tail, by_case, eq_true, eq_same, eq_not, eq_false, lt_true, lt_is, lt_false, both_left, both_right}
 use Rattle.proc_expand.proofs.First.{first_same, first_either, one_at, first_one, first_place, first_none, earliest_none, earliest_assoc}
-use Rattle.proc_expand.proofs.Nested.{closing_opens, closed_in, wrong_in, known_end, at_index}
+use Rattle.proc_expand.proofs.Nested.{closing_opens, closed_in, wrong_in, known_end}
 use Rattle.proc_expand.proofs.Heads.{past_end, lies_within, opens_is}
 
 pub call_within : (ss : List Sign) (k : ℕ) → is_call ss k ≡ true → k + 1 < length ss
@@ -198,6 +198,7 @@ misfollows ss last semi is_other l g h =
   where
     two : last + 2 ≡ suc (last + 1)
     two = omega arith
+
     by : (a b : Bool) → (if a then (if b then Some (last + 2) else None) else Some (last + 1))
         ≡ earliest (if not a then Some (last + 1) else None) (if a && b then Some (last + 2) else None)
     by true true = refl
@@ -250,10 +251,12 @@ beyond j r e = by (nat_lt r e) refl
     either : (a b : Bool) → (a ≡ true → b ≡ true) → (a || b) ≡ b
     either true b f = sym (f refl)
     either false b f = refl
+
     other : (a b : Bool) → (b ≡ true → a ≡ true) → (a || b) ≡ a
     other true b f = refl
     other false true f = sym (f refl)
     other false false f = refl
+
     by : (t : Bool) → nat_lt r e ≡ t → (nat_lt j r || nat_lt j e) ≡ nat_lt j (if t then e else r)
     by true h = let l = lt_true r e h in
         either (nat_lt j r) (nat_lt j e) (λ g. let k = lt_true j r g in lt_is j e (omega (arith, k, l)))
@@ -272,6 +275,7 @@ reach_more ss k r now j h is =
     or_none : (a : Bool) → (a || false) ≡ a
     or_none true = refl
     or_none false = refl
+
     by : (t : Bool) (e : ℕ) → (nat_lt j r || (t && nat_lt j e)) ≡ nat_lt j (if t then (if nat_lt r e then e else r) else r)
     by true e = beyond j r e
     by false e = or_none (nat_lt j r)

@@ -1,5 +1,5 @@
 -- Signs at places, and the first place with a property.
-use Rattle.std.proofs.Common.{◌≡◌, ℕ, zero, suc, ◌+◌, ◌-◌, ◌<◌, ◌≤◌, ◌≢◌, Bool, true, false, ◌&&◌, ◌||◌, List, [], ◌∷◌, ◌++◌, length, get_or, take, drop, map, Option, Some, None, nat_eq, nat_lt}
+use Rattle.std.proofs.Common.{◌≡◌, ℕ, zero, suc, ◌+◌, ◌<◌, ◌≤◌, ◌≢◌, Bool, true, false, ◌&&◌, ◌||◌, List, [], ◌∷◌, ◌++◌, length, get_or, take, drop, Option, Some, None, nat_eq, nat_lt}
 use Rattle.std.proofs.Common.{refl, sym, ap, ◌∙◌, arith}
 use Rattle.std.specs.Prelude.{slice_index_or, slice_get, if◌then◌else◌}
 use Rattle.std.proofs.Math.Seq.{drop-cons}
@@ -162,6 +162,7 @@ first_one j n q l = by_case (q j) yes_here not_here
     yes_here h =
         first_only j n (λ k. nat_eq j k && q k) (λ k e. sym (eq_true j k (both_left (nat_eq j k) (q k) e))) (both_true (nat_eq j j) (q j) (eq_same j) h) (l h)
         ∙ ap (λ t. if t then Some j else None) (sym h)
+
     not_here : q j ≡ false → first n (λ k. nat_eq j k && q k) ≡ (if q j then Some j else None)
     not_here h =
         first_none n (λ k. nat_eq j k && q k) (λ k below. by_case (nat_eq j k)

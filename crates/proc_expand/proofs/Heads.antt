@@ -1,6 +1,6 @@
 -- Heads of procedures, sign by sign.
-use Rattle.std.proofs.Common.{◌≡◌, ℕ, zero, suc, ◌+◌, ◌-◌, ◌<◌, ◌≤◌, Bool, true, false, ◌&&◌, List, [], ◌∷◌, ◌++◌, length, drop, refl, sym, ap, ◌∙◌, arith}
-use Rattle.std.specs.Prelude.{slice_index_or, slice_get, Option, Some, None, not, nat_eq, if◌then◌else◌}
+use Rattle.std.proofs.Common.{◌≡◌, ℕ, zero, suc, ◌+◌, ◌<◌, ◌≤◌, Bool, true, false, ◌&&◌, List, [], ◌∷◌, ◌++◌, length, drop, refl, sym, ap, ◌∙◌, arith}
+use Rattle.std.specs.Prelude.{slice_index_or, slice_get, Some, None, not, nat_eq, if◌then◌else◌}
 use Rattle.std.proofs.lemmas.List.{length-append}
 use Rattle.std.proofs.Math.Seq.{get_or-append_seam}
 use Rattle.std.proofs.Math.ListN.{get_or-append}
@@ -12,8 +12,8 @@ use Rattle.proc_expand.specs.declared.sign.End.{End}
 use Rattle.proc_expand.specs.declared.sign.End.TheVariants.{Closed, Wrong, Never}
 use Rattle.proc_expand.specs.declared.procedures.Head.{Head}
 use Rattle.proc_expand.specs.Words.{at, bytes_at, is_kind, is_called, is_comma, opens_round, closes_round, opens_curly, closing, fails_at, first, tests, AreEndsFrom, EndsWithin}
-use Rattle.proc_expand.specs.Refusals.{head, misfit, with_params, after_params, params_from, params_of, head_from, body_end, proc_fails}
-use Rattle.proc_expand.proofs.First.{plus_one, drop_at, by_case, index_any, first_none, first_place, eq_true, eq_false}
+use Rattle.proc_expand.specs.Refusals.{head, with_params, after_params, params_from, body_end, proc_fails}
+use Rattle.proc_expand.proofs.First.{drop_at, by_case, index_any, first_none, first_place, eq_true, eq_false}
 use Rattle.proc_expand.proofs.Nested.{closed_in, wrong_in, known_end}
 
 -- past the end there is no sign

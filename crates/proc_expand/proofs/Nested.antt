@@ -1,6 +1,6 @@
 -- Brackets inside others: what is open around them waits until they are closed.
-use Rattle.std.proofs.Common.{◌≡◌, ℕ, zero, suc, ◌+◌, ◌-◌, ◌<◌, ◌≤◌, Bool, true, false, List, [], ◌∷◌, ◌++◌, length, drop, set, nat_eq, refl, sym, ap, ◌∙◌, arith}
-use Rattle.std.specs.Prelude.{Option, Some, None, slice_index_or, if◌then◌else◌}
+use Rattle.std.proofs.Common.{◌≡◌, ℕ, suc, ◌+◌, ◌<◌, ◌≤◌, Bool, true, false, List, [], ◌∷◌, ◌++◌, length, drop, set, nat_eq, refl, sym, ap, ◌∙◌, arith}
+use Rattle.std.specs.Prelude.{Some, None, slice_index_or, if◌then◌else◌}
 use Rattle.std.proofs.lemmas.List.{drop_all, length-drop, length-set, get_or-set_same, get_or-set_other}
 use Rattle.proc_expand.specs.declared.sign.Bracket.{Bracket}
 use Rattle.proc_expand.specs.declared.sign.Sign.{Sign}
@@ -8,7 +8,7 @@ use Rattle.proc_expand.specs.declared.sign.Sign.TheVariants.{Proc, Main, Else, K
 use Rattle.proc_expand.specs.declared.sign.End.{End}
 use Rattle.proc_expand.specs.declared.sign.End.TheVariants.{Closed, Wrong, Never}
 use Rattle.proc_expand.specs.Words.{at, opens, same_bracket, closing, closing_from, closed_by, next_place, after_sign, after_end, AreEndsFrom}
-use Rattle.proc_expand.proofs.First.{index_any, plus_one, drop_at, drop_tail, by_case, eq_true, eq_false}
+use Rattle.proc_expand.proofs.First.{index_any, drop_at, drop_tail, by_case, eq_true, eq_false}
 
 -- what is found of an open bracket once those inside it are closed
 abbrev pub resumed : List Sign → Bracket → End → End
@@ -214,6 +214,7 @@ one_known ss es k e l h is = record { as_many = length-set es k e ∙ h.as_many;
     here i t = let at : i ≡ k = eq_true i k t in
         ap (λ j. slice_index_or (set es k e) j Never) at ∙ get_or-set_same es k e Never (let m = h.as_many in omega (arith, l, m))
         ∙ is ∙ ap (closing ss) (sym at)
+
     there : (i : ℕ) → k ≤ i → i < length ss → opens (at ss i) ≡ true → nat_eq i k ≡ false → slice_index_or (set es k e) i Never ≡ closing ss i
     there i a b o f = let d = eq_false i k f in get_or-set_other es k i e Never d ∙ h.closed i (omega (arith, a, d)) b o
 
@@ -233,6 +234,7 @@ none_opens ss es k l h never = record { as_many = h.as_many; closed = λ i a b o
     opener Semicolon o f = absurd (cc)
     opener Comma o f = absurd (cc)
     opener Other o f = absurd (cc)
+
     here : (i : ℕ) → opens (at ss i) ≡ true → nat_eq i k ≡ true → slice_index_or es i Never ≡ closing ss i
     here i o t = let is : i ≡ k = eq_true i k t in
         absurd (opener (slice_index_or ss k Proc) (ap opens (index_any ss k Proc Other l) ∙ ap (λ j. opens (at ss j)) (sym is) ∙ o) never)

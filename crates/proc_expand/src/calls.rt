@@ -76,11 +76,7 @@ fn reach_after(signs: &[Sign], ends: &[End], place: usize, reach: usize) -> usiz
         return reach;
     }
     let end = end_place(signs, call_end(signs, ends, place));
-    if reach < end {
-        end
-    } else {
-        reach
-    }
+    if reach < end { end } else { reach }
 }
 
 /// Whether a `;` stands at a place within the brackets of a call, which reach so far.
@@ -203,7 +199,10 @@ fn failure_at(signs: &[Sign], ends: &[End], place: usize) -> Option<usize>
         return None;
     }
     let found = read_inside(signs, ends, place);
-    earliest(found.empty, ending_failure(signs, call_end(signs, ends, place)))
+    earliest(
+        found.empty,
+        ending_failure(signs, call_end(signs, ends, place)),
+    )
 }
 
 /// The first place at which a call fails.

@@ -84,7 +84,10 @@ fn word_of(text: &[u8]) -> Sign
         Sign::Else
     } else if same_name(text, b"int") || same_name(text, b"bool") {
         Sign::Kind
-    } else if same_name(text, b"input") || same_name(text, b"object") || same_name(text, b"objects") {
+    } else if same_name(text, b"input")
+        || same_name(text, b"object")
+        || same_name(text, b"objects")
+    {
         Sign::ItemWord
     } else if is_name(text) {
         Sign::Called

@@ -1,4 +1,4 @@
-use Rattle.std.proofs.Common.{rules, sym, ◌∙◌, arith}
+use Rattle.std.proofs.Common.{◌∙◌, arith}
 use Rattle.proc_expand.proofs.Nested.{known_end, opens_here, at_index}
 use Rattle.proc_expand.specs.declared.sign.Sign.TheVariants.{Opens}
 use Rattle.proc_expand.proofs.brackets.end_here.Goals as goal

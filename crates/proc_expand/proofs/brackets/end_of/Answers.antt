@@ -1,4 +1,4 @@
-use Rattle.std.proofs.Common.{rules, sym, ◌∙◌, arith}
+use Rattle.std.proofs.Common.{sym, ◌∙◌, arith}
 use Rattle.proc_expand.proofs.Nested.{step_inside, next_later}
 use Rattle.proc_expand.proofs.brackets.end_of.Goals as goal
 

@@ -1,4 +1,4 @@
-use Rattle.std.proofs.Common.{◌≡◌, ◌-◌, ◌+◌, ◌<◌, ◌≤◌, [], ◌∷◌, length, drop}
+use Rattle.std.proofs.Common.{◌≡◌, ◌-◌, ◌<◌, [], ◌∷◌, length, drop}
 use Rattle.proc_expand.specs.Words.{closing, closing_from}
 use Rattle.proc_expand.proofs.brackets.end_of.Given as goal
 

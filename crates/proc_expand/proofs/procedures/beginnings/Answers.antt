@@ -1,4 +1,4 @@
-use Rattle.std.proofs.Common.{◌≡◌, ◌+◌, [], ◌∷◌, ◌++◌, ◌&&◌, ◌||◌, not, suc, nat_eq, length, ap, sym, ◌∙◌, arith}
+use Rattle.std.proofs.Common.{[], ◌∷◌, ◌++◌, ◌&&◌, ◌||◌, not, nat_eq, ap, sym, ◌∙◌}
 use Rattle.proc_expand.specs.Words.{tests, some, open_before, open_after, at, before, is_proc, is_main, ends_item}
 use Rattle.proc_expand.specs.Refusals.{begins, is_outer_main}
 use Rattle.proc_expand.proofs.First.{plus_one}

@@ -1,4 +1,4 @@
-use Rattle.std.proofs.Common.{sym, ◌∙◌}
+use Rattle.std.proofs.Common.{◌∙◌}
 use Rattle.proc_expand.proofs.Heads.{begins_none, head_stops, body_fails, not_so, so_then}
 use Rattle.proc_expand.proofs.procedures.failure_at.Goals as goal
 

@@ -1,5 +1,5 @@
-use Rattle.std.proofs.Common.{◌≡◌, ◌+◌, ◌*◌, true, ◌∙◌, refl, sym, arith}
-use Rattle.proc_expand.specs.Words.{is_comma, at}
+use Rattle.std.proofs.Common.{◌+◌, ◌∙◌, refl, sym, arith}
+use Rattle.proc_expand.specs.Words.{is_comma}
 use Rattle.proc_expand.proofs.First.{both_left, both_right}
 use Rattle.proc_expand.proofs.Heads.{lies_within, place_listed}
 use Rattle.proc_expand.proofs.procedures.read_params.Goals as goal

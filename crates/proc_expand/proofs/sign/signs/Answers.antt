@@ -1,6 +1,6 @@
-use Rattle.std.proofs.Common.{◌≡◌, ap, ◌∙◌, sym, arith, take, ◌+◌, ◌++◌, [], ◌∷◌}
+use Rattle.std.proofs.Common.{ap, ◌∙◌, sym, ◌++◌, [], ◌∷◌}
 use Rattle.jade_lexer.specs.Lexemes.{token_of}
-use Rattle.proc_expand.specs.Words.{signs, sign_of}
+use Rattle.proc_expand.specs.Words.{sign_of}
 use Rattle.proc_expand.proofs.First.{signs_more}
 use Rattle.proc_expand.proofs.sign.signs.Goals as goal
 
