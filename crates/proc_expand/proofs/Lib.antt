@@ -1,0 +1,4 @@
+mod First
+mod Nested
+mod Heads
+mod CallFacts

@@ -1,0 +1,13 @@
+mod Basics
+mod Evaluations
+mod Scopes
+mod Statements
+mod Replacing
+mod Calls
+mod Programs
+mod Examples
+mod Moving
+mod Faultless
+mod Fresh
+mod Accepted
+mod RunExamples

@@ -1,0 +1,6 @@
+pub mod Source
+pub mod SourceMeaning
+pub mod Expansion
+pub mod Moved
+pub mod SourceReading
+pub mod Agreement

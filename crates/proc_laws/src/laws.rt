@@ -1,0 +1,37 @@
+//! What is proved of calls.
+
+ghost use Rattle.std.specs.Prelude.{◌≡◌, ℕ, List, [], ℤ, map, not, true};
+ghost use Rattle.jade_base.specs.declared.place.Pos.{Pos};
+ghost use Rattle.jade_syntax.specs.Erased.{erased_program};
+ghost use Rattle.jade_syntax.specs.Placed.{PlacedProgram};
+ghost use Rattle.jade_syntax.specs.StaticFaults.{static_faults};
+ghost use Rattle.proc_laws.specs.Moved.{moved_course, moved_program};
+ghost use Rattle.proc_expand.specs.Written.{fresh_name};
+ghost use Rattle.jade_meaning.specs.Course.{root_course};
+ghost use Rattle.jade_syntax.specs.Abstract.{Name};
+ghost use Rattle.proc_laws.specs.Source.{SourceProgram};
+ghost use Rattle.proc_laws.specs.SourceMeaning.{source_course};
+ghost use Rattle.proc_laws.specs.Expansion.{AreFresh, Each, block_names, expanded_program, sets_all, item_name};
+ghost use Rattle.proc_expand.specs.Names.{is_among};
+
+/// A law of programs with procedures, which does nothing: where the expanded program declares, hands
+/// to a task and assigns no item, it does what its source does.
+pub fn expanded_does_as_its_source()
+    ensures { (fresh : ℕ → Name) → (p : SourceProgram) → AreFresh fresh p
+        → Each (λ x. not (is_among (map item_name p.items) x)) (sets_all (expanded_program fresh p).main)
+        → (numbers : List ℤ) → (limit : ℕ)
+        → root_course (expanded_program fresh p) numbers limit ≡ source_course p numbers limit }
+{}
+
+/// A law of programs with procedures, which does nothing: where a program is the expansion of a source
+/// but for its places, its new names are those that the source's text leaves free, and it has no
+/// static fault, it does what the source does, with its faults at their origins.
+pub fn accepted_does_as_its_source()
+    ensures { (origin : Pos → Pos) → (names : List Name) → (q : SourceProgram)
+        → ((x : Name) → is_among (map item_name q.items) x ≡ true → is_among names x ≡ true)
+        → ((x : Name) → is_among (block_names q.main) x ≡ true → is_among names x ≡ true)
+        → (p : PlacedProgram) → static_faults p ≡ []
+        → moved_program origin (erased_program p) ≡ expanded_program (fresh_name names) q
+        → (numbers : List ℤ) → (limit : ℕ)
+        → moved_course origin (root_course (erased_program p) numbers limit) ≡ source_course q numbers limit }
+{}
