@@ -21,7 +21,8 @@ pub(crate) type TaskWorker<'c, N> = Worker<Capsule<'c, N>, Kept<N>>;
 pub(crate) type OtherDeque<'c, N> = Thief<Capsule<'c, N>>;
 
 /// The table of the run, how many objects it has, a room for each object with the tasks that wait for it, how often each
-/// object was freed, the tasks that are held back, the deques as thieves see them, and the signals.
+/// object was freed, the tasks that are held back, the first of them last, by worker 1 where its task has a content and
+/// else 0, the deques as thieves see them, and the signals.
 #[derive(Drop)]
 pub(crate) struct Board<'c, N: RunName> {
     pub table: ObjectTable<'c>,
@@ -29,6 +30,7 @@ pub(crate) struct Board<'c, N: RunName> {
     pub rooms: Rooms<'c, N>,
     pub freed: Vec<CachePadded<AtomicU64>>,
     pub held_back: Mutex<CapsuleList<'c, N>>,
+    pub holding: Vec<CachePadded<AtomicU64>>,
     pub others: Vec<OtherDeque<'c, N>>,
     pub signals: Signals,
     pub ghost of: { (table.mark ≡ N.mark) × (table.plan ≡ N.plan) } by { Of-prop table.mark N.mark table.plan N.plan },
@@ -41,6 +43,28 @@ impl<'c, N: RunName> Board<'c, N> {
     /// How often the object was freed, modulo 2^64.
     pub fn times_freed(&self, place: &Place<N>) -> u64 {
         self.freed[place.object.0 as usize].load(Ordering::SeqCst)
+    }
+
+    /// Tells the others whether the task of the worker at this place has a content.
+    pub fn note_holds(&self, place: usize, holds: bool) {
+        match self.holding.get(place) {
+            Some(mark) => mark.store(holds as u64, Ordering::SeqCst),
+            None => {}
+        }
+    }
+
+    /// Whether the tasks of so many workers have a content, other than the one at this place.
+    pub fn have_contents(&self, place: usize, many: u64) -> bool {
+        let mut count = 0u64;
+        for other in 0..self.holding.len() {
+            if other != place {
+                count = count.saturating_add(self.holding[other].load(Ordering::SeqCst));
+            }
+            if count >= many {
+                return true;
+            }
+        }
+        false
     }
 
     /// The object was freed once more.

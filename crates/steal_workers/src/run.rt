@@ -165,12 +165,14 @@ fn board_of<'c, N: RunName>(
     let objects = job.plan().objects();
     let rooms = Rooms::new(alloc, objects)?;
     let freed = counters(alloc, objects)?;
+    let holding = counters(alloc, workers)?;
     Ok(Board {
         table,
         objects,
         rooms,
         freed,
         held_back: Mutex::new(CapsuleList::new(alloc)),
+        holding,
         others,
         signals: Signals::new(workers as u64),
     })

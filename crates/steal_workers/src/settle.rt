@@ -5,7 +5,7 @@ use crate::keeper::{pass_of, with_one_more};
 use jade_base::Memory;
 use std::hint::spin_loop;
 use std::sync::Wait;
-use task_suspend::{Capsule, CapsuleList, Place, Resigned, RunName, Went};
+use task_suspend::{Capsule, CapsuleList, Place, Resigned, RunName, Went, put_in_order};
 
 /// So often a task is tried again where another has a turn. A turn is short, so it pays to stay.
 const BUSY_TRIES: u32 = 40;
@@ -56,12 +56,16 @@ pub(crate) fn settle<'c, N: RunName, R: Wait>(
     worker: &mut TaskWorker<'c, N>,
     went: Result<Went<'c, N>, Memory>,
     tries: Tries,
+    takes: bool,
 ) -> Result<Option<Hand<'c, N>>, Memory> {
     match went {
         Ok(Went::Waits(place, task)) => wait(rt, board, worker, place, task, tries),
         Ok(Went::Busy(task)) => pause(board, worker, task, tries),
         Ok(went) => {
             no_longer_waits(board, tries);
+            if takes {
+                took(board, worker);
+            }
             go_on(rt, board, worker, went)
         }
         Err(_) => Err(Memory),
@@ -75,6 +79,27 @@ fn no_longer_waits<'c, N: RunName>(board: &Board<'c, N>, tries: Tries) {
     }
 }
 
+// A take that was not in vain. Where it is the first one of a task that was created just now, it pays that more than one
+// worker works.
+fn took<'c, N: RunName>(board: &Board<'c, N>, worker: &mut TaskWorker<'c, N>) {
+    holds(board, worker, true);
+    if worker.was_born() && !board.signals.is_alone() && board.have_contents(worker.place(), 1) {
+        board.signals.eases();
+    }
+}
+
+/// Tells the others whether the worker's task has a content.
+pub(crate) fn holds<'c, N: RunName>(
+    board: &Board<'c, N>,
+    worker: &mut TaskWorker<'c, N>,
+    holds: bool,
+) {
+    match worker.holds(holds) {
+        Some(place) => board.note_holds(place, holds),
+        None => {}
+    }
+}
+
 // After a try that was not in vain; `settle` answers the other two itself.
 fn go_on<'c, N: RunName, R: Wait>(
     rt: &R,
@@ -85,11 +110,12 @@ fn go_on<'c, N: RunName, R: Wait>(
     worker.goes_on();
     match went {
         Went::Freed(place, task) => {
-            free(rt, board, worker, place)?;
+            free(rt, board, worker, place, task.is_ending())?;
             Ok(Some(Hand::of(task)))
         }
         Went::Parted(parent, child) => {
             part(rt, board, worker, parent)?;
+            worker.set_born(true);
             Ok(Some(Hand::of(child)))
         }
         Went::Ended(resigned) => {
@@ -136,29 +162,99 @@ fn part<'c, N: RunName, R: Wait>(
     parent: Capsule<'c, N>,
 ) -> Result<(), Memory> {
     if !board.signals.is_crowded() {
-        return make_ready(board, worker, parent);
+        return put_parent(board, worker, parent);
     }
     board.signals.task_held_back();
-    match board.held_back.lock(rt).push(parent) {
+    match put_in_order(&mut board.held_back.lock(rt), parent) {
         Ok(()) => Ok(()),
         Err(_) => Err(Memory),
     }
 }
 
-// The object was freed: the tasks that wait for it are ready. Where no task is counted as waiting, none
-// lies in its room, and one that is counted from now on is tried once more before it goes there.
+// Makes a parent ready. Where creations were in vain, nobody is called for it.
+fn put_parent<'c, N: RunName>(
+    board: &Board<'c, N>,
+    worker: &mut TaskWorker<'c, N>,
+    parent: Capsule<'c, N>,
+) -> Result<(), Memory> {
+    if !board.signals.is_narrow() {
+        return make_ready(board, worker, parent);
+    }
+    match worker.put(parent) {
+        Ok(()) => Ok(()),
+        Err(_) => Err(Memory),
+    }
+}
+
+// The object was freed: the first of the tasks that wait for it is ready, and where it is to read, all that are to read
+// and come before others. Where the task that freed it ends, the worker goes on with the first one. Where no task is
+// counted as waiting, none lies in its room, and one that is counted from now on is tried once more before it goes there.
 fn free<'c, N: RunName, R: Wait>(
     rt: &R,
     board: &Board<'c, N>,
     worker: &mut TaskWorker<'c, N>,
     place: Place<N>,
+    ends: bool,
 ) -> Result<(), Memory> {
     if !board.signals.has_waiting() {
         return Ok(());
     }
     board.count_freed(&place);
-    let tasks = board.rooms.drain(rt, place.object);
-    requeue(board, worker, tasks)
+    call_first(rt, board, worker, place, ends)
+}
+
+// The first of the tasks in an object's room is ready, and the readers behind it where it is one itself; the worker goes
+// on with the first one next, or all are found by others too.
+fn call_first<'c, N: RunName, R: Wait>(
+    rt: &R,
+    board: &Board<'c, N>,
+    worker: &mut TaskWorker<'c, N>,
+    place: Place<N>,
+    next: bool,
+) -> Result<(), Memory> {
+    let Some(first) = board.rooms.first(rt, place.object) else {
+        return Ok(());
+    };
+    let reads = first.is_to_read();
+    board.signals.task_left();
+    put_first(board, worker, first, next)?;
+    if reads {
+        return call_readers(rt, board, worker, place);
+    }
+    Ok(())
+}
+
+// The worker goes on with a task next, or others find it too.
+fn put_first<'c, N: RunName>(
+    board: &Board<'c, N>,
+    worker: &mut TaskWorker<'c, N>,
+    task: Capsule<'c, N>,
+    next: bool,
+) -> Result<(), Memory> {
+    if !next {
+        return make_ready(board, worker, task);
+    }
+    match worker.put_next(task) {
+        Ok(()) => Ok(()),
+        Err(task) => make_ready(board, worker, task),
+    }
+}
+
+// The readers that come before others in an object's room are ready.
+fn call_readers<'c, N: RunName, R: Wait>(
+    rt: &R,
+    board: &Board<'c, N>,
+    worker: &mut TaskWorker<'c, N>,
+    place: Place<N>,
+) -> Result<(), Memory> {
+    for _ in 0..u64::MAX {
+        let Some(task) = board.rooms.first_reader(rt, place.object) else {
+            return Ok(());
+        };
+        board.signals.task_left();
+        make_ready(board, worker, task)?;
+    }
+    Ok(())
 }
 
 /// Makes the tasks of a room ready. Most of them will wait again, so one sleeper at most is called. The
@@ -186,7 +282,7 @@ pub(crate) fn requeue<'c, N: RunName>(
 
 // The task waits for an object. It is counted as waiting and tried once more, and goes then to the
 // object's room. Where the object was freed since before the second try, nobody else may know that it
-// waits, so the room is drained.
+// waits, so the first of the room is tried again.
 fn wait<'c, N: RunName, R: Wait>(
     rt: &R,
     board: &Board<'c, N>,
@@ -197,6 +293,9 @@ fn wait<'c, N: RunName, R: Wait>(
 ) -> Result<Option<Hand<'c, N>>, Memory> {
     let Some(before) = tries.waited else {
         board.signals.task_waits();
+        if worker.was_born() && !board.have_contents(worker.place(), 2) {
+            board.signals.created_in_vain();
+        }
         let tries = Tries {
             busy: tries.busy,
             waited: Some(board.times_freed(&place)),
@@ -208,8 +307,7 @@ fn wait<'c, N: RunName, R: Wait>(
         Err(_) => return Err(Memory),
     }
     if board.times_freed(&place) != before {
-        let tasks = board.rooms.drain(rt, place.object);
-        requeue(board, worker, tasks)?;
+        call_first(rt, board, worker, place, true)?;
     }
     Ok(None)
 }

@@ -7,12 +7,12 @@ ghost use Rattle.task_suspend.specs.Ties.{TiedTo};
 ghost use Rattle.task_suspend.specs.steps.Facts.{TiedTo-prop};
 
 use crate::name::RunName;
-use jade_base::{Memory, Path};
+use jade_base::{Memory, Mode, Path};
 use object_table::TaskPass;
 use std::alloc::Global;
 use std::marker::PhantomData;
 use task_codegen::Compiled;
-use task_machine::Machine;
+use task_machine::{Ask, Machine};
 
 /// A task that runs: the pass and the machine of one task, at the same ask. What the ask that stands
 /// stands for is done on the objects below the number `from`; so many events of the task are done; and
@@ -43,6 +43,17 @@ pub(crate) fn boxed<'c>(alloc: Global, task: Running<'c>) -> Result<Box<Running<
         Ok(task) => Ok(task),
         Err(_) => Err(Memory),
     }
+}
+
+// Which path comes first: the first difference decides, and a longer path comes before its begin.
+fn comes_first(left: &[u32], right: &[u32]) -> bool {
+    let shared = left.len().min(right.len());
+    for i in 0..shared {
+        if left[i] != right[i] {
+            return left[i] < right[i];
+        }
+    }
+    left.len() > right.len()
 }
 
 impl<'c, N: RunName> Capsule<'c, N> {
@@ -84,6 +95,30 @@ impl<'c, N: RunName> Capsule<'c, N> {
         ensures { result.now ≡ self.now.task.value.pass.shows.seat.path }
     {
         self.task.pass.path()
+    }
+
+    /// Whether its task stands before another in the serial order, where what is left of a task comes
+    /// after all that it has created. It takes no memory.
+    pub fn is_before(&self, other: &Capsule<'c, N>) -> bool {
+        comes_first(self.path().numbers(), other.path().numbers())
+    }
+
+    /// Whether it asks for a content. It takes no memory.
+    pub fn is_taking(&self) -> bool {
+        matches!(self.task.machine.asked(), Some(Ask::Take(_, _)))
+    }
+
+    /// Whether it asks for a content for reading. It takes no memory.
+    pub fn is_to_read(&self) -> bool {
+        matches!(self.task.machine.asked(), Some(Ask::Take(_, Mode::Reading)))
+    }
+
+    /// Whether its task ends. It takes no memory.
+    pub fn is_ending(&self) -> bool {
+        matches!(
+            self.task.machine.asked(),
+            Some(Ask::End) | Some(Ask::Fault(_))
+        )
     }
 
     /// Whether an ask stands. It takes no memory.

@@ -11,7 +11,7 @@ pub mod tries;
 pub mod went;
 
 pub use capsule::{Capsule, Running};
-pub use list::CapsuleList;
+pub use list::{CapsuleList, put_in_order};
 pub use name::RunName;
 pub use rooms::Rooms;
 pub use tries::attempt;

@@ -3,7 +3,7 @@
 ghost use Rattle.std.specs.Prelude.{◌≡◌, ◌<◌, ℕ, IfOk};
 
 use crate::capsule::Capsule;
-use crate::list::CapsuleList;
+use crate::list::{CapsuleList, put_in_order};
 use crate::name::RunName;
 use jade_base::{Memory, ObjectId};
 use std::alloc::Global;
@@ -55,7 +55,27 @@ impl<'c, N: RunName> Rooms<'c, N> {
     ) -> Result<(), Capsule<'c, N>>
         requires { object.0 < self.now }
     {
-        self.rooms[object.0 as usize].lock(rt).push(capsule)
+        put_in_order(&mut self.rooms[object.0 as usize].lock(rt), capsule)
+    }
+
+    /// Takes the capsule that stands first in the serial order among those that lie in the object's
+    /// room. It takes no memory.
+    pub fn first<R: Wait>(&self, rt: &R, object: ObjectId) -> Option<Capsule<'c, N>>
+        requires { object.0 < self.now }
+    {
+        self.rooms[object.0 as usize].lock(rt).pop()
+    }
+
+    /// The same, where it asks for the content for reading. It takes no memory.
+    pub fn first_reader<R: Wait>(&self, rt: &R, object: ObjectId) -> Option<Capsule<'c, N>>
+        requires { object.0 < self.now }
+    {
+        let mut room = self.rooms[object.0 as usize].lock(rt);
+        let count = room.len();
+        if count > 0 && room.at(count - 1).is_to_read() {
+            return room.pop();
+        }
+        None
     }
 
     /// Takes all capsules that lie in the object's room. It takes no memory.

@@ -1,6 +1,6 @@
 //! Lists that hand back what finds no place.
 
-ghost use Rattle.std.specs.Prelude.{◌≡◌, List, [], ◌∷◌, ◌++◌, MatchResult, MatchOption};
+ghost use Rattle.std.specs.Prelude.{◌≡◌, ◌≤◌, ◌<◌, List, [], ◌∷◌, ◌++◌, Some, insert, length, slice_get, MatchResult, MatchOption};
 
 use std::alloc::Global;
 use std::marker::Model;
@@ -35,6 +35,32 @@ impl<T: Drop> Sequence<T> {
         ensures { MatchResult result (λ _. self.new ≡ self.old ++ item ∷ []) (λ back. (back ≡ item) × (self.new ≡ self.old)) }
     {
         match self.items.push(item) {
+            Ok(()) => Ok(()),
+            Err(refused) => Err(refused.value),
+        }
+    }
+
+    /// The number of items. It takes no memory.
+    pub fn len(&self) -> usize
+        ensures { result ≡ length self.now }
+    {
+        self.items.len()
+    }
+
+    /// The item at a place, counted from 0. It takes no memory.
+    pub fn at(&self, place: usize) -> &T
+        requires { place < length self.now }
+        ensures { slice_get self.now place ≡ Some result.now }
+    {
+        &self.items[place]
+    }
+
+    /// Adds an item at a place, or hands it back where there is no memory.
+    pub fn insert(&mut self, place: usize, item: T) -> Result<(), T>
+        requires { place ≤ length self.old }
+        ensures { MatchResult result (λ _. self.new ≡ insert self.old place item) (λ back. (back ≡ item) × (self.new ≡ self.old)) }
+    {
+        match self.items.insert(place, item) {
             Ok(()) => Ok(()),
             Err(refused) => Err(refused.value),
         }
