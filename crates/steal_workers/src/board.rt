@@ -9,10 +9,11 @@ use crate::signals::Signals;
 use crate::worker::Worker;
 use crossbeam_utils::CachePadded;
 use fair_deque::Thief;
+use jade_base::ObjectId;
 use object_table::ObjectTable;
 use std::sync::Mutex;
 use std::sync::atomic::{AtomicU64, Ordering};
-use task_suspend::{Capsule, CapsuleList, Place, Rooms, RunName};
+use task_suspend::{Capsule, CapsuleLine, Rooms, RunName};
 
 /// A worker of the run.
 pub(crate) type TaskWorker<'c, N> = Worker<Capsule<'c, N>, Kept<N>>;
@@ -29,7 +30,7 @@ pub(crate) struct Board<'c, N: RunName> {
     pub objects: u32,
     pub rooms: Rooms<'c, N>,
     pub freed: Vec<CachePadded<AtomicU64>>,
-    pub held_back: Mutex<CapsuleList<'c, N>>,
+    pub held_back: Mutex<CapsuleLine<'c, N>>,
     pub holding: Vec<CachePadded<AtomicU64>>,
     pub others: Vec<OtherDeque<'c, N>>,
     pub signals: Signals,
@@ -41,8 +42,10 @@ pub(crate) struct Board<'c, N: RunName> {
 
 impl<'c, N: RunName> Board<'c, N> {
     /// How often the object was freed, modulo 2^64.
-    pub fn times_freed(&self, place: &Place<N>) -> u64 {
-        self.freed[place.object.0 as usize].load(Ordering::SeqCst)
+    pub fn times_freed(&self, object: ObjectId) -> u64
+        requires { object.0 < count_of N.plan }
+    {
+        self.freed[object.0 as usize].load(Ordering::SeqCst)
     }
 
     /// Tells the others whether the task of the worker at this place has a content.
@@ -68,7 +71,9 @@ impl<'c, N: RunName> Board<'c, N> {
     }
 
     /// The object was freed once more.
-    pub fn count_freed(&self, place: &Place<N>) {
-        self.freed[place.object.0 as usize].fetch_add(1, Ordering::SeqCst);
+    pub fn count_freed(&self, object: ObjectId)
+        requires { object.0 < count_of N.plan }
+    {
+        self.freed[object.0 as usize].fetch_add(1, Ordering::SeqCst);
     }
 }

@@ -118,7 +118,7 @@ fn search<'c, N: RunName, R: Wait>(
 
 // A task that was held back.
 fn let_go<'c, N: RunName, R: Wait>(rt: &R, board: &Board<'c, N>) -> Option<Capsule<'c, N>> {
-    let task = board.held_back.lock(rt).pop()?;
+    let task = board.held_back.lock(rt).take_first()?;
     board.signals.task_let_go();
     Some(task)
 }

@@ -2,10 +2,12 @@
 
 use crate::board::{Board, TaskWorker};
 use crate::keeper::{pass_of, with_one_more};
+use crate::letting::{Wish, freed, let_first_go, make_ready, taken};
 use jade_base::Memory;
 use std::hint::spin_loop;
 use std::sync::Wait;
-use task_suspend::{Capsule, CapsuleList, Place, Resigned, RunName, Went, put_in_order};
+use std::thread::yield_now;
+use task_suspend::{Capsule, CapsuleLine, Modes, Resigned, RunName, Waiter, Went};
 
 /// So often a task is tried again where another has a turn. A turn is short, so it pays to stay.
 const BUSY_TRIES: u32 = 40;
@@ -56,17 +58,17 @@ pub(crate) fn settle<'c, N: RunName, R: Wait>(
     worker: &mut TaskWorker<'c, N>,
     went: Result<Went<'c, N>, Memory>,
     tries: Tries,
-    takes: bool,
+    wish: Wish,
 ) -> Result<Option<Hand<'c, N>>, Memory> {
     match went {
-        Ok(Went::Waits(place, task)) => wait(rt, board, worker, place, task, tries),
+        Ok(Went::Waits(waiter)) => wait(rt, board, worker, waiter, tries),
         Ok(Went::Busy(task)) => pause(board, worker, task, tries),
         Ok(went) => {
             no_longer_waits(board, tries);
-            if takes {
+            if wish.takes() {
                 took(board, worker);
             }
-            go_on(rt, board, worker, went)
+            go_on(rt, board, worker, went, wish)
         }
         Err(_) => Err(Memory),
     }
@@ -106,11 +108,12 @@ fn go_on<'c, N: RunName, R: Wait>(
     board: &Board<'c, N>,
     worker: &mut TaskWorker<'c, N>,
     went: Went<'c, N>,
+    wish: Wish,
 ) -> Result<Option<Hand<'c, N>>, Memory> {
     worker.goes_on();
     match went {
         Went::Freed(place, task) => {
-            free(rt, board, worker, place, task.is_ending())?;
+            freed(rt, board, worker, place.object, wish)?;
             Ok(Some(Hand::of(task)))
         }
         Went::Parted(parent, child) => {
@@ -122,9 +125,12 @@ fn go_on<'c, N: RunName, R: Wait>(
             end(board, worker, resigned);
             Ok(None)
         }
-        Went::Ready(task) => Ok(Some(Hand::of(task))),
+        Went::Ready(task) => {
+            taken(rt, board, worker, wish)?;
+            Ok(Some(Hand::of(task)))
+        }
         Went::Busy(task) => Ok(Some(Hand::of(task))),
-        Went::Waits(_, task) => Ok(Some(Hand::of(task))),
+        Went::Waits(waiter) => Ok(Some(Hand::of(waiter.capsule))),
     }
 }
 
@@ -136,21 +142,6 @@ fn end<'c, N: RunName>(
 ) {
     let kept = with_one_more(board, worker.hand_over(), pass_of(resigned));
     worker.keep(kept);
-}
-
-// Makes a task ready, where other workers find it too.
-fn make_ready<'c, N: RunName>(
-    board: &Board<'c, N>,
-    worker: &mut TaskWorker<'c, N>,
-    task: Capsule<'c, N>,
-) -> Result<(), Memory> {
-    match worker.put(task) {
-        Ok(()) => {
-            board.signals.call_one();
-            Ok(())
-        }
-        Err(_) => Err(Memory),
-    }
 }
 
 // The worker goes on with the child. The parent is ready; where a crowd of tasks waits, it is held
@@ -165,7 +156,7 @@ fn part<'c, N: RunName, R: Wait>(
         return put_parent(board, worker, parent);
     }
     board.signals.task_held_back();
-    match put_in_order(&mut board.held_back.lock(rt), parent) {
+    match board.held_back.lock(rt).put(parent) {
         Ok(()) => Ok(()),
         Err(_) => Err(Memory),
     }
@@ -186,86 +177,15 @@ fn put_parent<'c, N: RunName>(
     }
 }
 
-// The object was freed: the first of the tasks that wait for it is ready, and where it is to read, all that are to read
-// and come before others. Where the task that freed it ends, the worker goes on with the first one. Where no task is
-// counted as waiting, none lies in its room, and one that is counted from now on is tried once more before it goes there.
-fn free<'c, N: RunName, R: Wait>(
-    rt: &R,
-    board: &Board<'c, N>,
-    worker: &mut TaskWorker<'c, N>,
-    place: Place<N>,
-    ends: bool,
-) -> Result<(), Memory> {
-    if !board.signals.has_waiting() {
-        return Ok(());
-    }
-    board.count_freed(&place);
-    call_first(rt, board, worker, place, ends)
-}
-
-// The first of the tasks in an object's room is ready, and the readers behind it where it is one itself; the worker goes
-// on with the first one next, or all are found by others too.
-fn call_first<'c, N: RunName, R: Wait>(
-    rt: &R,
-    board: &Board<'c, N>,
-    worker: &mut TaskWorker<'c, N>,
-    place: Place<N>,
-    next: bool,
-) -> Result<(), Memory> {
-    let Some(first) = board.rooms.first(rt, place.object) else {
-        return Ok(());
-    };
-    let reads = first.is_to_read();
-    board.signals.task_left();
-    put_first(board, worker, first, next)?;
-    if reads {
-        return call_readers(rt, board, worker, place);
-    }
-    Ok(())
-}
-
-// The worker goes on with a task next, or others find it too.
-fn put_first<'c, N: RunName>(
-    board: &Board<'c, N>,
-    worker: &mut TaskWorker<'c, N>,
-    task: Capsule<'c, N>,
-    next: bool,
-) -> Result<(), Memory> {
-    if !next {
-        return make_ready(board, worker, task);
-    }
-    match worker.put_next(task) {
-        Ok(()) => Ok(()),
-        Err(task) => make_ready(board, worker, task),
-    }
-}
-
-// The readers that come before others in an object's room are ready.
-fn call_readers<'c, N: RunName, R: Wait>(
-    rt: &R,
-    board: &Board<'c, N>,
-    worker: &mut TaskWorker<'c, N>,
-    place: Place<N>,
-) -> Result<(), Memory> {
-    for _ in 0..u64::MAX {
-        let Some(task) = board.rooms.first_reader(rt, place.object) else {
-            return Ok(());
-        };
-        board.signals.task_left();
-        make_ready(board, worker, task)?;
-    }
-    Ok(())
-}
-
-/// Makes the tasks of a room ready. Most of them will wait again, so one sleeper at most is called. The
-/// error is want of memory.
+/// Makes the tasks of a room ready, the first of them last, which is the one that the worker takes first.
+/// Most of them will wait again, so one sleeper at most is called. The error is want of memory.
 pub(crate) fn requeue<'c, N: RunName>(
     board: &Board<'c, N>,
     worker: &mut TaskWorker<'c, N>,
-    mut tasks: CapsuleList<'c, N>,
+    mut tasks: CapsuleLine<'c, N>,
 ) -> Result<(), Memory> {
     for count in 0..u64::MAX {
-        let Some(task) = tasks.pop() else {
+        let Some(task) = tasks.take_last() else {
             if count > 0 {
                 board.signals.call_one();
             }
@@ -282,15 +202,15 @@ pub(crate) fn requeue<'c, N: RunName>(
 
 // The task waits for an object. It is counted as waiting and tried once more, and goes then to the
 // object's room. Where the object was freed since before the second try, nobody else may know that it
-// waits, so the first of the room is tried again.
+// waits, so the first of the room is let go.
 fn wait<'c, N: RunName, R: Wait>(
     rt: &R,
     board: &Board<'c, N>,
     worker: &mut TaskWorker<'c, N>,
-    place: Place<N>,
-    task: Capsule<'c, N>,
+    waiter: Waiter<'c, N>,
     tries: Tries,
 ) -> Result<Option<Hand<'c, N>>, Memory> {
+    let object = waiter.place.object;
     let Some(before) = tries.waited else {
         board.signals.task_waits();
         if worker.was_born() && !board.have_contents(worker.place(), 2) {
@@ -298,22 +218,22 @@ fn wait<'c, N: RunName, R: Wait>(
         }
         let tries = Tries {
             busy: tries.busy,
-            waited: Some(board.times_freed(&place)),
+            waited: Some(board.times_freed(object)),
         };
+        let task = waiter.capsule;
         return Ok(Some(Hand { task, tries }));
     };
-    match board.rooms.put(rt, place.object, task) {
-        Ok(()) => {}
-        Err(_) => return Err(Memory),
+    if board.rooms.put(rt, waiter).is_err() {
+        return Err(Memory);
     }
-    if board.times_freed(&place) != before {
-        call_first(rt, board, worker, place, true)?;
+    if board.times_freed(object) != before {
+        let_first_go(rt, board, worker, object, Modes::ALL, true)?;
     }
     Ok(None)
 }
 
-// Another has a turn: the task is tried again after a while, and is given out of hand after some
-// tries.
+// Another has a turn: the task is tried again after a while. After some tries others are let run, and it
+// is given out of hand, where nobody is called for it, since it may go no further than here.
 fn pause<'c, N: RunName>(
     board: &Board<'c, N>,
     worker: &mut TaskWorker<'c, N>,
@@ -322,8 +242,11 @@ fn pause<'c, N: RunName>(
 ) -> Result<Option<Hand<'c, N>>, Memory> {
     if tries.busy >= BUSY_TRIES {
         no_longer_waits(board, tries);
-        make_ready(board, worker, task)?;
-        return Ok(None);
+        yield_now();
+        return match worker.put(task) {
+            Ok(()) => Ok(None),
+            Err(_) => Err(Memory),
+        };
     }
     for _ in 0..(1u32 << tries.busy.min(LONGEST_PAUSE)) {
         spin_loop();

@@ -3,6 +3,7 @@
 use crate::board::{Board, TaskWorker};
 use crate::gate::Gate;
 use crate::idle::next_task;
+use crate::letting::Wish;
 use crate::settle::{Hand, holds, settle};
 use std::alloc::Global;
 use std::sync::Wait;
@@ -59,12 +60,12 @@ fn turn<'c, N: RunName, G: Gate, R: Wait>(
 ) -> Option<Hand<'c, N>> {
     let Hand { task, tries } = hand;
     let task = through(rt, gate, task);
-    let takes = task.is_taking();
-    if task.is_ending() {
+    let wish = Wish::of(&task);
+    if wish.ends() {
         holds(board, worker, false);
     }
     let went = attempt(alloc, &board.table, task);
-    match settle(rt, board, worker, went, tries, takes) {
+    match settle(rt, board, worker, went, tries, wish) {
         Ok(next) => next,
         Err(_) => {
             board.signals.stop();
