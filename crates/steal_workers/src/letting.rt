@@ -9,6 +9,17 @@ use std::sync::Wait;
 use task_machine::Ask;
 use task_suspend::{Capsule, Modes, RunName};
 
+/// How a task is let go.
+#[derive(Clone, Copy)]
+pub(crate) enum How {
+    /// The worker goes on with it next, and no other sees it.
+    Next,
+    /// It is ready; where creations were in vain, nobody is called for it.
+    Offered,
+    /// It is ready, and one that sleeps is called.
+    Called,
+}
+
 /// What a task asks for before a try, as far as it tells whom the try may let go.
 #[derive(Clone, Copy)]
 pub(crate) enum Wish {
@@ -57,14 +68,15 @@ pub(crate) fn taken<'c, N: RunName, R: Wait>(
 ) -> Result<(), Memory> {
     match wish {
         Wish::Read(object) if object.0 < board.objects => {
-            first_of_some(rt, board, worker, object, Modes::CHANGING, false)
+            first_of_some(rt, board, worker, object, Modes::CHANGING, How::Called)
         }
         _ => Ok(()),
     }
 }
 
 /// An object was freed. Where its content came back, the first that waits for it is let go if it is to
-/// commute, and else in any case. The worker goes on with it next where its own task is about to end.
+/// commute, and else in any case. The worker goes on with it next where its own task ends and has passed
+/// its last gate.
 pub(crate) fn freed<'c, N: RunName, R: Wait>(
     rt: &R,
     board: &Board<'c, N>,
@@ -75,8 +87,9 @@ pub(crate) fn freed<'c, N: RunName, R: Wait>(
     requires { object.0 < count_of N.plan }
 {
     match wish {
-        Wish::Give => first_of_some(rt, board, worker, object, Modes::COMMUTING, true),
-        _ => first_of_some(rt, board, worker, object, Modes::ALL, wish.ends()),
+        Wish::Give => first_of_some(rt, board, worker, object, Modes::COMMUTING, How::Offered),
+        Wish::End => first_of_some(rt, board, worker, object, Modes::ALL, How::Next),
+        _ => first_of_some(rt, board, worker, object, Modes::ALL, How::Called),
     }
 }
 
@@ -88,7 +101,7 @@ fn first_of_some<'c, N: RunName, R: Wait>(
     worker: &mut TaskWorker<'c, N>,
     object: ObjectId,
     modes: Modes,
-    next: bool,
+    how: How,
 ) -> Result<(), Memory>
     requires { object.0 < count_of N.plan }
 {
@@ -96,19 +109,18 @@ fn first_of_some<'c, N: RunName, R: Wait>(
         return Ok(());
     }
     board.count_freed(object);
-    let_first_go(rt, board, worker, object, modes, next)
+    let_first_go(rt, board, worker, object, modes, how)
 }
 
 /// Lets the first of the tasks in an object's room go, if it asks for the content in one of these modes;
-/// and where it is to read, the readers right behind it. The worker goes on with the first one next, or
-/// others find it too.
+/// and where it is to read, the readers right behind it, of which others are told.
 pub(crate) fn let_first_go<'c, N: RunName, R: Wait>(
     rt: &R,
     board: &Board<'c, N>,
     worker: &mut TaskWorker<'c, N>,
     object: ObjectId,
     modes: Modes,
-    next: bool,
+    how: How,
 ) -> Result<(), Memory>
     requires { object.0 < count_of N.plan }
 {
@@ -117,7 +129,7 @@ pub(crate) fn let_first_go<'c, N: RunName, R: Wait>(
     };
     let reads = first.asks_in(Modes::READING);
     board.signals.task_left();
-    put_first(board, worker, first, next)?;
+    put_first(board, worker, first, how)?;
     if reads {
         return let_readers_go(rt, board, worker, object);
     }
@@ -143,19 +155,35 @@ fn let_readers_go<'c, N: RunName, R: Wait>(
     Ok(())
 }
 
-// The worker goes on with a task next, or others find it too.
+// Lets a task go.
 fn put_first<'c, N: RunName>(
     board: &Board<'c, N>,
     worker: &mut TaskWorker<'c, N>,
     task: Capsule<'c, N>,
-    next: bool,
+    how: How,
 ) -> Result<(), Memory> {
-    if !next {
+    match how {
+        How::Next => match worker.put_next(task) {
+            Ok(()) => Ok(()),
+            Err(task) => make_ready(board, worker, task),
+        },
+        How::Offered => offer(board, worker, task),
+        How::Called => make_ready(board, worker, task),
+    }
+}
+
+/// Makes a task ready. Where creations were in vain, nobody is called for it.
+pub(crate) fn offer<'c, N: RunName>(
+    board: &Board<'c, N>,
+    worker: &mut TaskWorker<'c, N>,
+    task: Capsule<'c, N>,
+) -> Result<(), Memory> {
+    if !board.signals.is_narrow() {
         return make_ready(board, worker, task);
     }
-    match worker.put_next(task) {
+    match worker.put(task) {
         Ok(()) => Ok(()),
-        Err(task) => make_ready(board, worker, task),
+        Err(_) => Err(Memory),
     }
 }
 

@@ -2,7 +2,7 @@
 
 use crate::board::{Board, TaskWorker};
 use crate::keeper::{pass_of, with_one_more};
-use crate::letting::{Wish, freed, let_first_go, make_ready, taken};
+use crate::letting::{How, Wish, freed, let_first_go, offer, taken};
 use jade_base::Memory;
 use std::hint::spin_loop;
 use std::sync::Wait;
@@ -153,25 +153,10 @@ fn part<'c, N: RunName, R: Wait>(
     parent: Capsule<'c, N>,
 ) -> Result<(), Memory> {
     if !board.signals.is_crowded() {
-        return put_parent(board, worker, parent);
+        return offer(board, worker, parent);
     }
     board.signals.task_held_back();
     match board.held_back.lock(rt).put(parent) {
-        Ok(()) => Ok(()),
-        Err(_) => Err(Memory),
-    }
-}
-
-// Makes a parent ready. Where creations were in vain, nobody is called for it.
-fn put_parent<'c, N: RunName>(
-    board: &Board<'c, N>,
-    worker: &mut TaskWorker<'c, N>,
-    parent: Capsule<'c, N>,
-) -> Result<(), Memory> {
-    if !board.signals.is_narrow() {
-        return make_ready(board, worker, parent);
-    }
-    match worker.put(parent) {
         Ok(()) => Ok(()),
         Err(_) => Err(Memory),
     }
@@ -227,7 +212,7 @@ fn wait<'c, N: RunName, R: Wait>(
         return Err(Memory);
     }
     if board.times_freed(object) != before {
-        let_first_go(rt, board, worker, object, Modes::ALL, true)?;
+        let_first_go(rt, board, worker, object, Modes::ALL, How::Next)?;
     }
     Ok(None)
 }

@@ -3,6 +3,7 @@
 #![tactic(auto)]
 
 pub mod capsule;
+pub mod laws;
 pub mod line;
 pub mod modes;
 pub mod name;
