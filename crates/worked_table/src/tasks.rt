@@ -136,11 +136,7 @@ impl<'c, N: RunName> Tasks<'c, N> {
     }
 
     /// Puts a task that waits into the object's room, or back where there is none.
-    fn wait<R: Wait>(
-        &mut self,
-        rt: &R,
-        waiter: Waiter<'c, N>,
-    ) -> Result<Answer, Stop> {
+    fn wait<R: Wait>(&mut self, rt: &R, waiter: Waiter<'c, N>) -> Result<Answer, Stop> {
         let object = waiter.place.object;
         if object.0 as usize >= self.rooms.len() {
             return self.keep(waiter.capsule, Answer::Waits(object));
