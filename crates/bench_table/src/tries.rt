@@ -55,8 +55,8 @@ fn drive<'c, N: RunName>(
             }
             Ok(Went::Parted(parent, child)) => return Ok(Came::Parted(parent, child)),
             Ok(Went::Ended(resigned)) => return Ok(Came::Ended(resigned)),
-            Ok(Went::Waits(_, task)) => {
-                drop(task);
+            Ok(Went::Waits(waiter)) => {
+                drop(waiter);
                 return Err(Stop::Waits);
             }
             Err(_) => return Err(Stop::Failed),

@@ -1,5 +1,6 @@
-//! Deques of ready tasks, one for each worker, first in, first out, under a rule: what was put into
-//! a deque is what was taken out of it and what still lies there, each task once.
+//! Deques of ready tasks, one for each worker, under a rule: what was put into a deque is what was taken out of it and what still lies there, each task once.
+//!
+//! The owner takes the task that it put last, and others take the one that was put first.
 //!
 //! The rule holds at every moment, whatever the threads do. It is over the histories of all handles
 //! of a deque: its owner's, and that of each visit by which others steal. What each call adds to the
@@ -97,12 +98,12 @@ pub type Thief<T> = Stealer<T, Global, History<T>, Fair>;
 /// A visit of another worker to a deque, with its history.
 pub type Visit<T> = Pass<T, History<T>, Global>;
 
-/// An empty deque, first in, first out.
+/// An empty deque, of which the owner takes what it put last.
 pub fn empty<T: Drop>(alloc: Global) -> Result<Owner<T>, AllocError>
     ensures history { IfOk result (λ owner. worker_view owner ≡ history [] []) }
-    ensures fifo { IfOk result (λ owner. worker_flavor owner ≡ 0) }
+    ensures lifo { IfOk result (λ owner. worker_flavor owner ≡ 1) }
 {
-    Owner::<T>::fifo_as(alloc, FIRST_SLOTS)
+    Owner::<T>::lifo_as(alloc, FIRST_SLOTS)
 }
 
 /// The deque for another worker.
@@ -177,8 +178,8 @@ mod tests {
         assert_eq!(rt; waiting(&mut owner), 3);
         let mut visit = visit(&thief);
         assert_eq!(rt; steal_task(&thief, &mut visit).success(), Some(3));
-        assert_eq!(rt; take_task(&mut owner), Some(1));
         assert_eq!(rt; take_task(&mut owner), Some(4));
+        assert_eq!(rt; take_task(&mut owner), Some(1));
         assert_eq!(rt; take_task(&mut owner), None);
         assert_eq!(rt; waiting(&mut owner), 0);
         Ok(())

@@ -85,7 +85,7 @@ fn look_again<'c, N: RunName, R: Wait>(
     worker: &mut TaskWorker<'c, N>,
 ) -> Option<Capsule<'c, N>> {
     let rounds = worker.count_in_vain();
-    if rounds > YIELD_ROUNDS {
+    if rounds > YIELD_ROUNDS || board.signals.is_narrow() {
         return sleep(rt, board, worker, rounds);
     }
     if rounds > SPIN_ROUNDS {
@@ -118,7 +118,7 @@ fn search<'c, N: RunName, R: Wait>(
 
 // A task that was held back.
 fn let_go<'c, N: RunName, R: Wait>(rt: &R, board: &Board<'c, N>) -> Option<Capsule<'c, N>> {
-    let task = board.held_back.lock(rt).pop()?;
+    let task = board.held_back.lock(rt).take_first()?;
     board.signals.task_let_go();
     Some(task)
 }
@@ -132,11 +132,37 @@ fn sleep<'c, N: RunName, R: Wait>(
     rounds: u32,
 ) -> Option<Capsule<'c, N>> {
     let heard = board.signals.lie_down();
-    let found = look_everywhere(rt, board, worker, rounds);
+    let mut found = look_everywhere(rt, board, worker, rounds);
     if found.is_none() && !board.signals.is_over() {
-        board.signals.sleep(rt, heard, rest_time(rounds));
+        found = rest(rt, board, worker, heard, rounds);
     }
     board.signals.get_up();
+    found
+}
+
+// Sleeps for a while; where others are not called for parents, one of the workers that sleep looks about
+// after a short time, and the others sleep long.
+fn rest<'c, N: RunName, R: Wait>(
+    rt: &R,
+    board: &Board<'c, N>,
+    worker: &mut TaskWorker<'c, N>,
+    heard: u32,
+    rounds: u32,
+) -> Option<Capsule<'c, N>> {
+    if !board.signals.is_narrow() {
+        board.signals.sleep(rt, heard, rest_time(rounds));
+        return None;
+    }
+    if !board.signals.begins_to_scout() {
+        board.signals.sleep(rt, heard, rest_time(u32::MAX));
+        return None;
+    }
+    board.signals.sleep(rt, heard, board.signals.nap());
+    let found = search(rt, board, worker);
+    board.signals.ends_scouting();
+    if found.is_none() {
+        board.signals.scouted_in_vain();
+    }
     found
 }
 
@@ -165,7 +191,8 @@ fn look_everywhere<'c, N: RunName, R: Wait>(
     }
     match worker.take() {
         Some(task) => Some(task),
-        None => let_go(rt, board),
+        None if rounds % SLEEPS_BETWEEN == 0 => let_go(rt, board),
+        None => None,
     }
 }
 

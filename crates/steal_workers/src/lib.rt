@@ -7,6 +7,7 @@ mod crew;
 mod gate;
 mod idle;
 mod keeper;
+mod letting;
 mod run;
 mod settle;
 mod signals;

@@ -22,7 +22,7 @@ use std::sync::atomic::AtomicU64;
 use std::sync::{Mutex, Wait};
 use std::thread::Threads;
 use task_codegen::Compiled;
-use task_suspend::{Capsule, CapsuleList, Rooms, RunName};
+use task_suspend::{Capsule, CapsuleLine, Rooms, RunName};
 
 /// What is run: the code of a program, a number for each of its inputs, and the limit of its steps.
 #[derive(Clone, Copy)]
@@ -165,12 +165,14 @@ fn board_of<'c, N: RunName>(
     let objects = job.plan().objects();
     let rooms = Rooms::new(alloc, objects)?;
     let freed = counters(alloc, objects)?;
+    let holding = counters(alloc, workers)?;
     Ok(Board {
         table,
         objects,
         rooms,
         freed,
-        held_back: Mutex::new(CapsuleList::new(alloc)),
+        held_back: Mutex::new(CapsuleLine::new(alloc)),
+        holding,
         others,
         signals: Signals::new(workers as u64),
     })

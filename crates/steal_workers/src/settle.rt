@@ -2,10 +2,12 @@
 
 use crate::board::{Board, TaskWorker};
 use crate::keeper::{pass_of, with_one_more};
+use crate::letting::{How, Wish, freed, let_first_go, offer, taken};
 use jade_base::Memory;
 use std::hint::spin_loop;
 use std::sync::Wait;
-use task_suspend::{Capsule, CapsuleList, Place, Resigned, RunName, Went};
+use std::thread::yield_now;
+use task_suspend::{Capsule, CapsuleLine, Modes, Resigned, RunName, Waiter, Went};
 
 /// So often a task is tried again where another has a turn. A turn is short, so it pays to stay.
 const BUSY_TRIES: u32 = 40;
@@ -56,13 +58,17 @@ pub(crate) fn settle<'c, N: RunName, R: Wait>(
     worker: &mut TaskWorker<'c, N>,
     went: Result<Went<'c, N>, Memory>,
     tries: Tries,
+    wish: Wish,
 ) -> Result<Option<Hand<'c, N>>, Memory> {
     match went {
-        Ok(Went::Waits(place, task)) => wait(rt, board, worker, place, task, tries),
+        Ok(Went::Waits(waiter)) => wait(rt, board, worker, waiter, tries),
         Ok(Went::Busy(task)) => pause(board, worker, task, tries),
         Ok(went) => {
             no_longer_waits(board, tries);
-            go_on(rt, board, worker, went)
+            if wish.takes() {
+                took(board, worker);
+            }
+            go_on(rt, board, worker, went, wish)
         }
         Err(_) => Err(Memory),
     }
@@ -75,30 +81,56 @@ fn no_longer_waits<'c, N: RunName>(board: &Board<'c, N>, tries: Tries) {
     }
 }
 
+// A take that was not in vain. Where it is the first one of a task that was created just now, it pays that more than one
+// worker works.
+fn took<'c, N: RunName>(board: &Board<'c, N>, worker: &mut TaskWorker<'c, N>) {
+    holds(board, worker, true);
+    if worker.was_born() && !board.signals.is_alone() && board.have_contents(worker.place(), 1) {
+        board.signals.eases();
+    }
+}
+
+/// Tells the others whether the worker's task has a content.
+pub(crate) fn holds<'c, N: RunName>(
+    board: &Board<'c, N>,
+    worker: &mut TaskWorker<'c, N>,
+    holds: bool,
+) {
+    match worker.holds(holds) {
+        Some(place) => board.note_holds(place, holds),
+        None => {}
+    }
+}
+
 // After a try that was not in vain; `settle` answers the other two itself.
 fn go_on<'c, N: RunName, R: Wait>(
     rt: &R,
     board: &Board<'c, N>,
     worker: &mut TaskWorker<'c, N>,
     went: Went<'c, N>,
+    wish: Wish,
 ) -> Result<Option<Hand<'c, N>>, Memory> {
     worker.goes_on();
     match went {
         Went::Freed(place, task) => {
-            free(rt, board, worker, place)?;
+            freed(rt, board, worker, place.object, wish)?;
             Ok(Some(Hand::of(task)))
         }
         Went::Parted(parent, child) => {
             part(rt, board, worker, parent)?;
+            worker.set_born(true);
             Ok(Some(Hand::of(child)))
         }
         Went::Ended(resigned) => {
             end(board, worker, resigned);
             Ok(None)
         }
-        Went::Ready(task) => Ok(Some(Hand::of(task))),
+        Went::Ready(task) => {
+            taken(rt, board, worker, wish)?;
+            Ok(Some(Hand::of(task)))
+        }
         Went::Busy(task) => Ok(Some(Hand::of(task))),
-        Went::Waits(_, task) => Ok(Some(Hand::of(task))),
+        Went::Waits(waiter) => Ok(Some(Hand::of(waiter.capsule))),
     }
 }
 
@@ -112,21 +144,6 @@ fn end<'c, N: RunName>(
     worker.keep(kept);
 }
 
-// Makes a task ready, where other workers find it too.
-fn make_ready<'c, N: RunName>(
-    board: &Board<'c, N>,
-    worker: &mut TaskWorker<'c, N>,
-    task: Capsule<'c, N>,
-) -> Result<(), Memory> {
-    match worker.put(task) {
-        Ok(()) => {
-            board.signals.call_one();
-            Ok(())
-        }
-        Err(_) => Err(Memory),
-    }
-}
-
 // The worker goes on with the child. The parent is ready; where a crowd of tasks waits, it is held
 // back, so that it does not run ahead of its children.
 fn part<'c, N: RunName, R: Wait>(
@@ -136,40 +153,24 @@ fn part<'c, N: RunName, R: Wait>(
     parent: Capsule<'c, N>,
 ) -> Result<(), Memory> {
     if !board.signals.is_crowded() {
-        return make_ready(board, worker, parent);
+        return offer(board, worker, parent);
     }
     board.signals.task_held_back();
-    match board.held_back.lock(rt).push(parent) {
+    match board.held_back.lock(rt).put(parent) {
         Ok(()) => Ok(()),
         Err(_) => Err(Memory),
     }
 }
 
-// The object was freed: the tasks that wait for it are ready. Where no task is counted as waiting, none
-// lies in its room, and one that is counted from now on is tried once more before it goes there.
-fn free<'c, N: RunName, R: Wait>(
-    rt: &R,
-    board: &Board<'c, N>,
-    worker: &mut TaskWorker<'c, N>,
-    place: Place<N>,
-) -> Result<(), Memory> {
-    if !board.signals.has_waiting() {
-        return Ok(());
-    }
-    board.count_freed(&place);
-    let tasks = board.rooms.drain(rt, place.object);
-    requeue(board, worker, tasks)
-}
-
-/// Makes the tasks of a room ready. Most of them will wait again, so one sleeper at most is called. The
-/// error is want of memory.
+/// Makes the tasks of a room ready, the first of them last, which is the one that the worker takes first.
+/// Most of them will wait again, so one sleeper at most is called. The error is want of memory.
 pub(crate) fn requeue<'c, N: RunName>(
     board: &Board<'c, N>,
     worker: &mut TaskWorker<'c, N>,
-    mut tasks: CapsuleList<'c, N>,
+    mut tasks: CapsuleLine<'c, N>,
 ) -> Result<(), Memory> {
     for count in 0..u64::MAX {
-        let Some(task) = tasks.pop() else {
+        let Some(task) = tasks.take_last() else {
             if count > 0 {
                 board.signals.call_one();
             }
@@ -186,36 +187,38 @@ pub(crate) fn requeue<'c, N: RunName>(
 
 // The task waits for an object. It is counted as waiting and tried once more, and goes then to the
 // object's room. Where the object was freed since before the second try, nobody else may know that it
-// waits, so the room is drained.
+// waits, so the first of the room is let go.
 fn wait<'c, N: RunName, R: Wait>(
     rt: &R,
     board: &Board<'c, N>,
     worker: &mut TaskWorker<'c, N>,
-    place: Place<N>,
-    task: Capsule<'c, N>,
+    waiter: Waiter<'c, N>,
     tries: Tries,
 ) -> Result<Option<Hand<'c, N>>, Memory> {
+    let object = waiter.place.object;
     let Some(before) = tries.waited else {
         board.signals.task_waits();
+        if worker.was_born() && !board.have_contents(worker.place(), 2) {
+            board.signals.created_in_vain();
+        }
         let tries = Tries {
             busy: tries.busy,
-            waited: Some(board.times_freed(&place)),
+            waited: Some(board.times_freed(object)),
         };
+        let task = waiter.capsule;
         return Ok(Some(Hand { task, tries }));
     };
-    match board.rooms.put(rt, place.object, task) {
-        Ok(()) => {}
-        Err(_) => return Err(Memory),
+    if board.rooms.put(rt, waiter).is_err() {
+        return Err(Memory);
     }
-    if board.times_freed(&place) != before {
-        let tasks = board.rooms.drain(rt, place.object);
-        requeue(board, worker, tasks)?;
+    if board.times_freed(object) != before {
+        let_first_go(rt, board, worker, object, Modes::ALL, How::Next)?;
     }
     Ok(None)
 }
 
-// Another has a turn: the task is tried again after a while, and is given out of hand after some
-// tries.
+// Another has a turn: the task is tried again after a while. After some tries others are let run, and it
+// is given out of hand, where nobody is called for it, since it may go no further than here.
 fn pause<'c, N: RunName>(
     board: &Board<'c, N>,
     worker: &mut TaskWorker<'c, N>,
@@ -224,8 +227,11 @@ fn pause<'c, N: RunName>(
 ) -> Result<Option<Hand<'c, N>>, Memory> {
     if tries.busy >= BUSY_TRIES {
         no_longer_waits(board, tries);
-        make_ready(board, worker, task)?;
-        return Ok(None);
+        yield_now();
+        return match worker.put(task) {
+            Ok(()) => Ok(None),
+            Err(_) => Err(Memory),
+        };
     }
     for _ in 0..(1u32 << tries.busy.min(LONGEST_PAUSE)) {
         spin_loop();

@@ -8,6 +8,15 @@ use std::time::Duration;
 /// So many tasks may wait in the rooms before those that create more are held back.
 const WAITING_TASKS: u64 = 16;
 
+/// Where so many more creations were in vain than not, others are not called for parents.
+const NARROW: u64 = 8;
+
+/// The greatest count of creations in vain.
+const NARROWEST: u64 = 48;
+
+/// The shortest time in microseconds after which a scout looks about.
+const SHORTEST_NAP: u64 = 50;
+
 /// Flags, counts and a bell. What is written in a run has a cache line of its own, since all workers
 /// read the flags before each try.
 #[derive(Drop)]
@@ -25,6 +34,9 @@ pub(crate) struct Signals {
     asleep: CachePadded<AtomicU64>,
     // How often those that sleep were called.
     bell: CachePadded<AtomicU64>,
+    // How many creations were in vain of late, and whether a scout is out.
+    vain: CachePadded<AtomicU64>,
+    scout: AtomicBool,
 }
 
 /// A count that stands at 0, with a cache line of its own.
@@ -44,6 +56,8 @@ impl Signals {
             idle: padded_count(),
             asleep: padded_count(),
             bell: padded_count(),
+            vain: padded_count(),
+            scout: AtomicBool::new(false),
         }
     }
 
@@ -104,15 +118,76 @@ impl Signals {
         self.held_back.fetch_sub(1, Ordering::SeqCst);
     }
 
+    // Whether no more tasks are to wait: a crowd does, or where creations were in vain any.
+    fn is_full(&self) -> bool {
+        if self.is_narrow() {
+            self.has_waiting()
+        } else {
+            self.is_crowded()
+        }
+    }
+
     /// Whether a task that is held back may go on: no crowd waits, or no worker has a task.
     pub fn may_let_go(&self) -> bool {
         self.has_held_back()
-            && (!self.is_crowded() || self.idle.load(Ordering::SeqCst) >= self.workers)
+            && (!self.is_full() || self.idle.load(Ordering::SeqCst) >= self.workers)
     }
 
     /// Whether a task is held back.
     pub fn has_held_back(&self) -> bool {
         self.held_back.load(Ordering::SeqCst) > 0
+    }
+
+    /// Whether all other workers have no task.
+    pub fn is_alone(&self) -> bool {
+        self.idle.load(Ordering::SeqCst).saturating_add(1) >= self.workers
+    }
+
+    /// A task that was created waited at its first take, while no two others had contents.
+    pub fn created_in_vain(&self) {
+        if self.vain.load(Ordering::SeqCst) < NARROWEST {
+            self.vain.fetch_add(1, Ordering::SeqCst);
+        }
+    }
+
+    /// A scout found nothing.
+    pub fn scouted_in_vain(&self) {
+        let vain = self.vain.load(Ordering::SeqCst);
+        if vain > 0 {
+            self.vain.store(vain - 1, Ordering::SeqCst);
+        }
+    }
+
+    /// A task that was created went on, while another had a content.
+    pub fn eases(&self) {
+        let vain = self.vain.load(Ordering::SeqCst);
+        if vain > 0 {
+            self.vain.store(vain / 2, Ordering::SeqCst);
+            if vain >= NARROW {
+                self.call_one();
+            }
+        }
+    }
+
+    /// Whether creations were in vain, so that one worker is as fast as more.
+    pub fn is_narrow(&self) -> bool {
+        self.vain.load(Ordering::SeqCst) >= NARROW
+    }
+
+    /// Whether the caller is the scout from now on: there was none.
+    pub fn begins_to_scout(&self) -> bool {
+        !self.scout.swap(true, Ordering::SeqCst)
+    }
+
+    /// The scout is back.
+    pub fn ends_scouting(&self) {
+        self.scout.store(false, Ordering::SeqCst);
+    }
+
+    /// How long a scout sleeps before it looks about.
+    pub fn nap(&self) -> Duration {
+        let level = (self.vain.load(Ordering::SeqCst) / NARROW).min(NARROWEST / NARROW);
+        Duration::from_micros(SHORTEST_NAP << level)
     }
 
     /// A worker has no task.

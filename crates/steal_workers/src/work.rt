@@ -3,7 +3,8 @@
 use crate::board::{Board, TaskWorker};
 use crate::gate::Gate;
 use crate::idle::next_task;
-use crate::settle::{Hand, settle};
+use crate::letting::Wish;
+use crate::settle::{Hand, holds, settle};
 use std::alloc::Global;
 use std::sync::Wait;
 use task_suspend::{Capsule, RunName, attempt};
@@ -34,6 +35,8 @@ fn carry<'c, N: RunName, G: Gate, R: Wait>(
     worker: &mut TaskWorker<'c, N>,
     task: Capsule<'c, N>,
 ) {
+    holds(board, worker, false);
+    worker.set_born(false);
     let mut hand = Hand::of(task);
     for _ in rt.forever() {
         if board.signals.is_stopped() {
@@ -57,8 +60,12 @@ fn turn<'c, N: RunName, G: Gate, R: Wait>(
 ) -> Option<Hand<'c, N>> {
     let Hand { task, tries } = hand;
     let task = through(rt, gate, task);
+    let wish = Wish::of(&task);
+    if wish.ends() {
+        holds(board, worker, false);
+    }
     let went = attempt(alloc, &board.table, task);
-    match settle(rt, board, worker, went, tries) {
+    match settle(rt, board, worker, went, tries, wish) {
         Ok(next) => next,
         Err(_) => {
             board.signals.stop();

@@ -2,13 +2,19 @@
 
 use crossbeam_deque::Steal;
 use fair_deque::{Owner, Thief, put_task, steal_task, take_task, visit};
+use std::mem;
 
-/// A worker: its place among the workers, for how many rounds it has found nothing that goes on, its
-/// ready tasks, and the passes of tasks that have ended, as one, with all that they have to hand in.
+/// A worker: its place among the workers, for how many rounds it has found nothing that goes on, the
+/// task that it goes on with next, which others don't see, its ready tasks, whether the others see that
+/// its task has a content, whether its task was created just now and has taken nothing yet, and the
+/// passes of tasks that have ended, as one, with all that they have to hand in.
 #[derive(Drop)]
 pub(crate) struct Worker<T: Drop, P: Drop> {
     place: usize,
     vain: u32,
+    next: Option<T>,
+    holds: bool,
+    born: bool,
     local: Owner<T>,
     kept: Option<P>,
 }
@@ -19,9 +25,36 @@ impl<T: Drop, P: Drop> Worker<T, P> {
         Worker {
             place,
             vain: 0,
+            next: None,
+            holds: false,
+            born: false,
             local,
             kept: None,
         }
+    }
+
+    /// Its place among the workers.
+    pub fn place(&mut self) -> usize {
+        self.place
+    }
+
+    /// Notes whether the others see that its task has a content; its place, where they saw it otherwise.
+    pub fn holds(&mut self, holds: bool) -> Option<usize> {
+        if self.holds == holds {
+            return None;
+        }
+        self.holds = holds;
+        Some(self.place)
+    }
+
+    /// Notes whether its task was created just now.
+    pub fn set_born(&mut self, born: bool) {
+        self.born = born;
+    }
+
+    /// Whether its task was created just now, and has taken nothing yet; it is tried at a take now.
+    pub fn was_born(&mut self) -> bool {
+        mem::replace(&mut self.born, false)
     }
 
     /// One round more in which it found nothing that goes on; how many there are now.
@@ -40,9 +73,21 @@ impl<T: Drop, P: Drop> Worker<T, P> {
         put_task(&mut self.local, task)
     }
 
-    /// Takes a ready task of its own.
+    /// Goes on with this task next, unless there is one already: then it hands it back.
+    pub fn put_next(&mut self, task: T) -> Result<(), T> {
+        if self.next.is_some() {
+            return Err(task);
+        }
+        self.next = Some(task);
+        Ok(())
+    }
+
+    /// Takes the task that it goes on with next, or a ready one of its own.
     pub fn take(&mut self) -> Option<T> {
-        take_task(&mut self.local)
+        match self.next.take() {
+            Some(task) => Some(task),
+            None => take_task(&mut self.local),
+        }
     }
 
     /// Takes a ready task of another worker: the next one after its own place is the first to be asked.

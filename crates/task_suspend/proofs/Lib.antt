@@ -3,3 +3,4 @@ pub mod Touching
 pub mod Tying
 pub mod Beginning
 pub mod Trying
+pub mod Asking

@@ -211,7 +211,7 @@ pub data Frees (object : ObjectId) (a b : Carried) : Type 0 where
 abbrev pub WentAs : {N : Type 0} {g : Ghosts N} → Capsule N g → Went N g → Type 0
 WentAs a (went.Ready b) = GoesOn (carried a) (carried b)
 WentAs a (went.Busy b) = FindsTaken (carried a) (carried b)
-WentAs a (went.Waits p b) = Waits p.object (carried a) (carried b)
+WentAs a (went.Waits w) = Waits w.place.object (carried a) (carried w.capsule)
 WentAs a (went.Freed p b) = Frees p.object (carried a) (carried b)
 WentAs a (went.Parted b c) = Parts (carried a) (carried b) (carried c)
 WentAs a (went.Ended r) = Resigns (carried a) r.task.value.pass

@@ -3,16 +3,19 @@
 ghost use Rattle.std.specs.Prelude.{◌≡◌, IfOk, ◌-◌, ◌^◌, ◌+◌, ◌%◌, is_some, length, true, false, None};
 ghost use Rattle.jade_syntax.specs.Objects.{input_names};
 ghost use Rattle.object_table.specs.Rule.{first_view};
+ghost use Rattle.task_suspend.specs.Asked.{asks, is_take_in};
 ghost use Rattle.task_suspend.specs.Ties.{TiedTo};
 ghost use Rattle.task_suspend.specs.steps.Facts.{TiedTo-prop};
 
+use crate::modes::Modes;
 use crate::name::RunName;
 use jade_base::{Memory, Path};
 use object_table::TaskPass;
 use std::alloc::Global;
 use std::marker::PhantomData;
 use task_codegen::Compiled;
-use task_machine::Machine;
+use task_machine::{Ask, Machine};
+use task_roll::OnPath;
 
 /// A task that runs: the pass and the machine of one task, at the same ask. What the ask that stands
 /// stands for is done on the objects below the number `from`; so many events of the task are done; and
@@ -42,6 +45,14 @@ pub(crate) fn boxed<'c>(alloc: Global, task: Running<'c>) -> Result<Box<Running<
     match Box::new(alloc, task) {
         Ok(task) => Ok(task),
         Err(_) => Err(Memory),
+    }
+}
+
+impl<'c, N: RunName> OnPath for Capsule<'c, N> {
+    ghost task = { λ c. c.task.value.pass.shows.seat.path };
+
+    fn path(&self) -> &Path {
+        self.task.pass.path()
     }
 }
 
@@ -84,6 +95,23 @@ impl<'c, N: RunName> Capsule<'c, N> {
         ensures { result.now ≡ self.now.task.value.pass.shows.seat.path }
     {
         self.task.pass.path()
+    }
+
+    /// What its task asks for; none where no ask stands. It takes no memory.
+    pub fn asked(&self) -> Option<Ask>
+        ensures { result ≡ self.now.task.value.machine.ask }
+    {
+        self.task.machine.asked()
+    }
+
+    /// Whether it asks for a content in one of these modes. It takes no memory.
+    pub fn asks_in(&self, modes: Modes) -> bool
+        ensures { result ≡ asks (is_take_in modes) self.now.task.value.machine.ask }
+    {
+        match self.task.machine.asked() {
+            Some(Ask::Take(_, mode)) => modes.has(mode),
+            _ => false,
+        }
     }
 
     /// Whether an ask stands. It takes no memory.

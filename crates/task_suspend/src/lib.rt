@@ -3,16 +3,20 @@
 #![tactic(auto)]
 
 pub mod capsule;
-pub mod list;
+pub mod laws;
+pub mod line;
+pub mod modes;
 pub mod name;
+pub mod room;
 pub mod rooms;
-pub mod sequence;
 pub mod tries;
+pub mod waiting;
 pub mod went;
 
 pub use capsule::{Capsule, Running};
-pub use list::CapsuleList;
+pub use line::CapsuleLine;
+pub use modes::Modes;
 pub use name::RunName;
 pub use rooms::Rooms;
 pub use tries::attempt;
-pub use went::{Place, Resigned, Went};
+pub use went::{Place, Resigned, Waiter, Went};

@@ -8,11 +8,12 @@ ghost use Rattle.object_table.specs.Calls.{Next, TriedAs};
 ghost use Rattle.task_machine.specs.Stages.{rights_at};
 ghost use Rattle.task_machine.specs.Machines.{made_at, amended_at};
 ghost use Rattle.task_machine.specs.Asks.{enters_from, shifts_from, leaves_from, follows};
+ghost use Rattle.task_suspend.specs.Waits.{waits_for};
 ghost use Rattle.task_suspend.specs.Tries.{WentAs, ending};
 
 use crate::capsule::{Capsule, Running, boxed};
 use crate::name::RunName;
-use crate::went::{Place, Resigned, Went};
+use crate::went::{Place, Resigned, Waiter, Went};
 use jade_base::{Blame, Memory, Mode, ObjectId, Rights};
 use object_table::{ObjectTable, Taken, TaskPass, Tried};
 use std::alloc::Global;
@@ -72,6 +73,15 @@ fn place<N: RunName>(object: ObjectId) -> Place<N>
     }
 }
 
+// A task that waits for an object.
+fn that_waits<'c, N: RunName>(place: Place<N>, capsule: Capsule<'c, N>) -> Waiter<'c, N>
+    requires { waits_for place.object.0 capsule ≡ true }
+    ensures place { result.place ≡ place }
+    ensures capsule { result.capsule ≡ capsule.entry }
+{
+    Waiter { place, capsule }
+}
+
 // No ask stands: the task goes on to the next one, past the cells that it touches on the way.
 fn go_on<'c, N: RunName>(alloc: Global, mut capsule: Capsule<'c, N>) -> Result<Went<'c, N>, Memory>
     requires { capsule.task.value.machine.ask ≡ None }
@@ -112,7 +122,7 @@ fn take<'c, N: RunName>(
         }
         Taken::NotYet(keeper) => {
             drop(keeper);
-            Ok(Went::Waits(place(object), capsule))
+            Ok(Went::Waits(that_waits(place(object), capsule)))
         }
         Taken::Busy(_) => Ok(Went::Busy(capsule)),
     }

@@ -1,8 +1,9 @@
 //! How a try went.
 
-ghost use Rattle.std.specs.Prelude.{◌≡◌, ◌<◌};
+ghost use Rattle.std.specs.Prelude.{◌≡◌, ◌<◌, true};
 ghost use Rattle.object_table.specs.Views.{count_of};
 ghost use Rattle.object_table.specs.Calls.{IsGone};
+ghost use Rattle.task_suspend.specs.Waits.{waits_for};
 ghost use Rattle.task_suspend.specs.steps.Facts.{Gone-prop};
 
 use crate::capsule::{Capsule, Running};
@@ -16,6 +17,14 @@ pub struct Place<N: RunName> {
     pub object: ObjectId,
     pub name: PhantomData<N>,
     pub ghost inside: { object.0 < count_of N.plan },
+}
+
+/// A task of the run `N` that asks for the content of an object, and waits for it.
+#[derive(Drop)]
+pub struct Waiter<'c, N: RunName> {
+    pub place: Place<N>,
+    pub capsule: Capsule<'c, N>,
+    pub ghost waits: { waits_for place.object.0 capsule ≡ true },
 }
 
 /// A task of the run `N` that has ended, as its pass knows. It lies where it ran, so that it is small
@@ -34,8 +43,9 @@ pub enum Went<'c, N: RunName> {
     Ready(Capsule<'c, N>),
     /// Another pass has a turn at the word that was tried; nothing is done.
     Busy(Capsule<'c, N>),
-    /// An earlier task keeps this one from the object; nothing is done.
-    Waits(Place<N>, Capsule<'c, N>),
+    /// An earlier task, or the one that has the content out, keeps this one from the object; nothing is
+    /// done.
+    Waits(Waiter<'c, N>),
     /// It is done, and a task that waits for the object may go on.
     Freed(Place<N>, Capsule<'c, N>),
     /// A child was created: the parent, which goes on, and the child, at its begin.

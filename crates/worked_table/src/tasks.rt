@@ -8,7 +8,7 @@ use jade_base::{Memory, ObjectId};
 use object_table::ObjectTable;
 use std::alloc::Global;
 use std::sync::Wait;
-use task_suspend::{Capsule, Resigned, Rooms, RunName, Went};
+use task_suspend::{Capsule, Resigned, Rooms, RunName, Waiter, Went};
 
 /// What came of a try.
 #[derive(Clone, Copy)]
@@ -121,7 +121,7 @@ impl<'c, N: RunName> Tasks<'c, N> {
         match went {
             Ok(Went::Ready(task)) => self.keep(task, Answer::Done),
             Ok(Went::Busy(task)) => self.keep(task, Answer::Busy),
-            Ok(Went::Waits(place, task)) => self.wait(rt, place.object, task),
+            Ok(Went::Waits(waiter)) => self.wait(rt, waiter),
             Ok(Went::Freed(place, task)) => self.keep(task, Answer::Freed(place.object)),
             Ok(Went::Parted(parent, child)) => self.part(parent, child),
             Ok(Went::Ended(resigned)) => Ok(self.end(table, resigned)),
@@ -136,16 +136,12 @@ impl<'c, N: RunName> Tasks<'c, N> {
     }
 
     /// Puts a task that waits into the object's room, or back where there is none.
-    fn wait<R: Wait>(
-        &mut self,
-        rt: &R,
-        object: ObjectId,
-        task: Capsule<'c, N>,
-    ) -> Result<Answer, Stop> {
+    fn wait<R: Wait>(&mut self, rt: &R, waiter: Waiter<'c, N>) -> Result<Answer, Stop> {
+        let object = waiter.place.object;
         if object.0 as usize >= self.rooms.len() {
-            return self.keep(task, Answer::Waits(object));
+            return self.keep(waiter.capsule, Answer::Waits(object));
         }
-        match self.rooms.put(rt, object, task) {
+        match self.rooms.put(rt, waiter) {
             Ok(()) => Ok(Answer::Lies(object)),
             Err(_) => Err(Stop::Failed),
         }
@@ -157,7 +153,7 @@ impl<'c, N: RunName> Tasks<'c, N> {
         let before = self.live.len();
         if (object.0 as usize) < self.rooms.len() {
             let mut list = self.rooms.drain(rt, object);
-            while let Some(task) = list.pop() {
+            while let Some(task) = list.take_last() {
                 self.put(task)?;
             }
         }

@@ -1,10 +1,11 @@
-use Rattle.std.proofs.Common.{ℕ, ◌<◌, Ok, ◌∙◌, refl, sym, subst}
+use Rattle.std.proofs.Common.{ℕ, ◌<◌, Ok, ◌∙◌, ap, refl, sym, subst}
 use Rattle.jade_meaning.specs.Plan.{RunPlan}
 use Rattle.object_table.specs.Views.{count_of}
 use Rattle.object_table.specs.Calls.{TakenAs}
 use Rattle.object_table.specs.declared.answers.Taken.{Taken}
 use Rattle.task_machine.specs.declared.machine.Ask.TheVariants as ask
 use Rattle.task_suspend.specs.Ties.{Tied}
+use Rattle.task_suspend.proofs.Asking.{asks_for}
 use Rattle.task_suspend.proofs.Tying.{take_inside, take_next, supply_asks, took, kept_by, busy}
 use Rattle.jade_meaning.specs.Talk.{Take}
 use Rattle.object_table.specs.Calls.{IsBusy}
@@ -36,6 +37,12 @@ place-requires g c =
     let was_asked = rw (← c.deref_mut-task.ensures.value) at c.requires.asked in
     take_inside g.N.RunName.mark g.N.RunName.plan x.pass x.machine x.from x.events tied c.args.object c.args.mode was_asked
     (c.stands.ensures (ask.Take c.args.object c.args.mode) was_asked)
+
+pub that_waits-requires : goal.that_waits-requires
+that_waits-requires g c =
+    let x = c.deref_mut-task.result.now in
+    let was_asked = rw (← c.deref_mut-task.ensures.value) at c.requires.asked in
+    asks_for c.place.result.object.0 c.args.object c.args.mode x.machine.ask was_asked (ap (λ o. o.0) (sym c.place.ensures))
 
 pub take-requires-clause-mark : goal.take-requires-clause-mark
 take-requires-clause-mark g c = (rw (← c.deref_mut-task.ensures.value) at c.args.capsule.tied).table ∙ sym c.requires.table.0
@@ -110,7 +117,7 @@ returns-in-NotYet g c =
     let was_asked = rw (← c.deref_mut-task.ensures.value) at c.requires.asked in
     let q = c.take.new.pass in
     let P : Taken → Type 0 = λ r. TakenAs c.args.object.0 c.args.mode x.pass.shows (Ok r) q.shows in
-    rw (← c.deref_mut-task.ensures.value, c.place.ensures) (record {
+    rw (← c.deref_mut-task.ensures.value, c.that_waits.ensures.place, c.that_waits.ensures.capsule, c.place.ensures) (record {
       mode = c.args.mode;
       asked = was_asked;
       keeper = c.in-NotYet.keeper;
