@@ -194,7 +194,7 @@ pub record FindsTaken (a b : Carried) : Type 0 where
   pub read : b.pass.shows ≡ found_busy (place_of (roll_of a) event) a.pass.shows
   pub unmoved : Unmoved a b
 
--- a task that goes on, and nobody else may by what it did
+-- a task that goes on and frees nothing: by what it did another may go on only past a version that it keeps since then
 pub data GoesOn (a b : Carried) : Type 0 where
   advances : Advances a b → GoesOn a b
   takes : Takes a b → GoesOn a b
