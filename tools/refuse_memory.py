@@ -69,12 +69,24 @@ main {
     }
 }
 """
+SUMS = """objects part[2] : 1;
+object sum : 1;
+main {
+    for j in 0 .. 4 {
+        withonly { rd(part[j % 2]); cm(sum); } do (j) { sum[0] = sum[0] + part[j % 2][0] + j; }
+    }
+    withonly { rd_wr(sum); } do () { sum[0] = sum[0] * 2; }
+}
+"""
 ONE_TASK = "object s : 1; main { withonly { wr(s); } do () { s[0] = 5; } s[0] = s[0] + 1; }\n"
 RUNS = (
     (["run", "1", "1000"], ONE_TASK, "s = 6\n"),
     (["run", "4", "1000"], ONE_TASK, "s = 6\n"),
     (["serial", "1000", "7"], COLUMN, "col[0] = 0 7\ncol[1] = 10 7\ncol[2] = 30 7\ncol[3] = 60 7\n"),
     (["run", "4", "1000", "7"], COLUMN, "col[0] = 0 7\ncol[1] = 10 7\ncol[2] = 30 7\ncol[3] = 60 7\n"),
+    (["serial", "1000"], SUMS, "part[0] = 0\npart[1] = 0\nsum = 12\n"),
+    (["run", "1", "1000"], SUMS, "part[0] = 0\npart[1] = 0\nsum = 12\n"),
+    (["run", "4", "1000"], SUMS, "part[0] = 0\npart[1] = 0\nsum = 12\n"),
 )
 
 
