@@ -1,4 +1,5 @@
-//! Names in scope, each with a value: the newest of a name counts, and is found in constant time.
+//! Names in scope, each with a value: the newest of a name counts, and is found by one look-up in a
+//! hash map, however many there are.
 #![tactic(auto)]
 
 mod scope;

@@ -98,7 +98,7 @@ impl<'n, V: Copy + Drop> NameScope<'n, V> {
         }
     }
 
-    /// The value of the newest entry of a name, in constant time. It takes no memory.
+    /// The value of the newest entry of a name, by one look-up in a hash map. It takes no memory.
     pub fn get(&self, name: &[u8]) -> Option<V>
         ensures { result ≡ lookup (same_name name.now) self.now }
     {

@@ -264,8 +264,8 @@ fn bad_place(raw: &Raw, own: usize, body: &Body) -> Option<usize>
     None
 }
 
-/// Code that keeps the rules of docs/CODE.md, so that it is never stuck. Contracts see what is in
-/// it.
+/// Code that keeps the rules of docs/CODE.md: each of its instructions is in range, whatever its
+/// slots hold. Contracts see what is in it.
 #[derive(Debug, Drop)]
 pub struct Code {
     raw: Raw,
