@@ -1,5 +1,5 @@
 -- Groups with one member more, and members whose turns are their own alone; what holds of every group and turn is jade_meaning's.
-use Rattle.std.proofs.Common.{◌≡◌, ◌≢◌, ℕ, Bool, true, false, List, [], ◌∷◌, ◌++◌, sym, ap, ◌∙◌}
+use Rattle.std.proofs.Common.{◌≡◌, ◌≢◌, ℕ, Bool, true, false, List, [], ◌∷◌, ◌++◌, sym, ap, ◌∙◌, refl}
 use Rattle.std.specs.Prelude.{ℤ, if◌then◌else◌, slice_set}
 use Rattle.std.proofs.lemmas.Bool.{ne_eqb, eq-eqb}
 use Rattle.jade_meaning.specs.Serial.{Mark, Path, Store, after, same_path}
