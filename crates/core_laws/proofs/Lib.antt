@@ -1,6 +1,7 @@
 mod OnePlay
 mod WhatIsLeft
 mod ByPlace
+mod ChildPlace
 mod Creations
 mod Counting
 mod Uncommuting

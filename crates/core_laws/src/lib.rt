@@ -43,10 +43,12 @@ pub fn some_is_left()
 
 /// What a live task holds of an object on which it does not commute, has kept or may take next is
 /// the meaning's content at its place: what the writes of parts with lesser keys and its own so far
-/// make of zeros.
+/// make of zeros. So is the version that is kept for its next child, at the place where this child
+/// begins.
 pub fn contents_by_place()
     ensures { (p : Program) (ns : List ℤ) (limit : ℕ) → ContentsByPlace p ns limit }
 {
+    jade_meaning::laws::keeps();
     schedule_core::laws::contents_are_serial();
 }
 
