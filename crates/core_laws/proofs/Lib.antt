@@ -9,3 +9,4 @@ mod PlainContents
 mod KeyOrder
 mod LeftOrder
 mod FullLists
+mod ReadOrder

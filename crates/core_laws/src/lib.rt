@@ -20,6 +20,7 @@ ghost use Rattle.core_laws.specs.KeyOrder.{WorksStandByKey};
 ghost use Rattle.core_laws.specs.LeftOrder.{SomeLeftInOrder};
 ghost use Rattle.core_laws.specs.OnePlay.{PicksDecide};
 ghost use Rattle.core_laws.specs.PlainContents.{PlainContents};
+ghost use Rattle.core_laws.specs.ReadOrder.{ReadsStandByKey};
 ghost use Rattle.core_laws.specs.Room.{ChildrenAreFew};
 ghost use Rattle.core_laws.specs.WhatIsLeft.{SomeIsLeft, WhatIsLeft};
 
@@ -78,6 +79,15 @@ pub fn children_are_few()
 /// their parts, but those of tasks that commute on it.
 pub fn works_stand_by_key()
     ensures { (p : AbstractProgram) (ns : List ℤ) (limit : ℕ) (turns : ℕ → List Path) → WorksStandByKey p ns limit turns }
+{
+    jade_meaning::laws::keeps();
+}
+
+/// In the meaning, by any turn lists, a read of a task that does not commute stands behind the works
+/// on its object of parts before its own, and before those of parts behind it. So where a live task
+/// that does not commute has yet to read, its read stands among the works by the key of its part.
+pub fn reads_stand_by_key()
+    ensures { (p : AbstractProgram) (ns : List ℤ) (limit : ℕ) (turns : ℕ → List Path) → ReadsStandByKey p ns limit turns }
 {
     jade_meaning::laws::keeps();
 }
