@@ -1,9 +1,12 @@
 -- The tasks before one that takes an object for its turn do nothing there, and what they leave waiting is sole.
-use Rattle.std.proofs.Common.{◌≡◌, ◌≢◌, ℕ, suc, Bool, true, false, not, ◌||◌, ◌&&◌, List, [], ◌∷◌, ◌++◌, map, refl, sym, ap, ◌∙◌, subst, Option, Some, None, arith, append-nil, append_assoc}
+use Rattle.std.proofs.Common.{◌≡◌, ◌≢◌, ℕ, zero, suc, ◌<◌, ◌+◌, add-zero, Bool, true, false, not, ◌||◌, ◌&&◌, List, [], ◌∷◌, ◌++◌, map, length, refl, sym, ap, ◌∙◌, subst, Option, Some, None, arith, append-nil, append_assoc}
+use Rattle.std.specs.Prelude.{nat_lt, if◌then◌else◌}
+use Rattle.std.proofs.lemmas.List.{get_or_past}
+use Rattle.std.proofs.lemmas.Bool.{ltb-true, ltb-false}
 use Rattle.jade_base.specs.declared.rights.Right.{Right}
 use Rattle.jade_base.specs.declared.rights.Rights.{Rights}
-use Rattle.jade_base.specs.Rights.{is_immediate, is_there, covered}
-use Rattle.jade_meaning.specs.Specification.{Specification, rights_on, objects, commuting_on, allows_commuting}
+use Rattle.jade_base.specs.Rights.{no_rights, is_immediate, is_there, covered}
+use Rattle.jade_meaning.specs.Specification.{Specification, rights_on, numbers, objects, commuting_on, commuting_among, allows_commuting}
 use Rattle.jade_meaning.specs.Course.{Course}
 use Rattle.jade_base.specs.Rights.{may_read, may_write}
 use Rattle.jade_meaning.specs.Talk.{made_immediate}

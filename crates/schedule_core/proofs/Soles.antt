@@ -1,5 +1,5 @@
 -- A commuting body works on its own object alone, and all of its marks are its own.
-use Rattle.std.proofs.Common.{◌≡◌, ◌≢◌, ℕ, suc, true, map, sym, ◌∙◌, subst, Some, None, append-nil, refl}
+use Rattle.std.proofs.Common.{◌≡◌, ◌≢◌, ℕ, suc, true, List, map, sym, ap, ◌∙◌, subst, Some, None, append-nil, refl}
 use Rattle.jade_meaning.specs.Specification.{Specification, rights_on, commuting_on, allows_commuting}
 use Rattle.jade_meaning.specs.Course.{Course}
 use Rattle.jade_base.specs.Rights.{may_write}
