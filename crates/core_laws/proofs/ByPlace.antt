@@ -1,9 +1,10 @@
 -- What a live task has is the meaning's content at its place.
 use Rattle.std.proofs.Common.{◌≡◌, ℕ, suc, ◌+◌, Bool, true, false, ◌||◌, List, [], ◌∷◌, ◌++◌, Some, None, refl, sym, ap, ◌∙◌, arith}
-use Rattle.std.specs.Prelude.{ℤ, pred, nat_eq, slice_set, if◌then◌else◌}
+use Rattle.std.specs.Prelude.{ℤ, pred, nat_eq, slice_get, slice_set, if◌then◌else◌}
 use Rattle.std.specs.List.{filter_map, cons_option}
 use Rattle.std.proofs.lemmas.Bool.{ne_eqb}
 use Rattle.jade_base.specs.Places.{same_path, is_before, key}
+use Rattle.jade_base.specs.Rights.{is_there}
 use Rattle.jade_syntax.specs.declared.tree.Program.{Program}
 use Rattle.jade_syntax.specs.Image.{program}
 use Rattle.jade_syntax.specs.Objects.{sizes}
@@ -11,15 +12,22 @@ use Rattle.jade_meaning.specs.Laws.{Every, deeds, but_turn}
 use Rattle.jade_meaning.specs.Serial.{Path, Mark, Deed, DidTurn, DidRead, DidWrite, DidCreate, DidEnd, deeds_at, zeros, at_object}
 use Rattle.jade_meaning.specs.Talk.{Event, Enter, Enroll, Take, TouchRead, TouchWrite, Wants, Give, Leave, Shift, Resign}
 use Rattle.jade_meaning.specs.Turns.{marks_by}
+use Rattle.object_shelf.specs.declared.queue.Entry.{Entry}
+use Rattle.object_shelf.specs.Shelves.{find, content_for}
+use Rattle.object_shelf.specs.Views.{ObjectView}
+use Rattle.task_roll.specs.declared.note.PartNote.{PartNote}
+use Rattle.schedule_core.specs.declared.steps.Seat.{Seat}
+use Rattle.schedule_core.specs.ByNumber.{shelf_at}
+use Rattle.schedule_core.specs.Plain.{Reached}
 use Rattle.schedule_core.specs.Places.{upto}
-use Rattle.schedule_core.specs.Remains.{Behind, ContentsAreSerial}
+use Rattle.schedule_core.specs.Remains.{Behind, HasIt, ContentsAreSerial}
 use Rattle.schedule_core.specs.Serially.{events_done}
 use Rattle.schedule_core.specs.Soundness.{and_then}
 use Rattle.schedule_core.specs.Works.{Work, Wrote, Turned, work_on, works_on, worked}
-use Rattle.core_laws.specs.ByPlace.{writes_among, before_place, ContentsByPlace}
+use Rattle.core_laws.specs.ByPlace.{writes_among, before_place, content_at}
 
 -- how many works are writes of the task at a path
-abbrev own_many : Path → List Work → ℕ
+abbrev pub own_many : Path → List Work → ℕ
 own_many p [] = 0
 own_many p (Turned q ∷ ws) = own_many p ws
 own_many p (Wrote q k c v ∷ ws) = if same_path q p then suc (own_many p ws) else own_many p ws
@@ -35,7 +43,7 @@ own_both p (Wrote q k c v ∷ a) b = go (same_path q p) (own_both p a b)
     go false e = e
 
 -- how many deeds write to an object
-abbrev writes_in : ℕ → List Deed → ℕ
+abbrev pub writes_in : ℕ → List Deed → ℕ
 writes_in o [] = 0
 writes_in o (DidWrite q c v ∷ ds) = if nat_eq q o then suc (writes_in o ds) else writes_in o ds
 writes_in o (DidTurn q ∷ ds) = writes_in o ds
@@ -78,7 +86,7 @@ events_write o (Shift q a ∷ es) = events_write o es
 events_write o (Resign b n ∷ es) = events_write o es
 
 -- a task's own writes among the works of a run are those of its deeds there
-marks_write : (o : ℕ) (p : Path) (ms : List Mark) → writes_in o (deeds_at p ms) ≡ own_many p (works_on o ms)
+pub marks_write : (o : ℕ) (p : Path) (ms : List Mark) → writes_in o (deeds_at p ms) ≡ own_many p (works_on o ms)
 marks_write o p [] = refl
 marks_write o p (m ∷ ms) = one m.deed (same_path m.path p) refl (marks_write o p ms)
   where
@@ -114,7 +122,7 @@ marks_write o p (m ∷ ms) = one m.deed (same_path m.path p) refl (marks_write o
         go false = h
 
 -- none of the works that do not stand before a place is taken
-none_after : (p : Path) (n : ℕ) (ws : List Work) → Every (Behind p n) ws → (xs : List ℤ) → worked (before_place p n 0 ws) xs ≡ xs
+pub none_after : (p : Path) (n : ℕ) (ws : List Work) → Every (Behind p n) ws → (xs : List ℤ) → worked (before_place p n 0 ws) xs ≡ xs
 none_after p n [] h xs = refl
 none_after p n (Turned q ∷ ws) h xs = none_after p n ws h.1 xs
 none_after p n (Wrote q k c v ∷ ws) h xs = go (same_path q p) (is_before (key q k) (key p n)) h.0 (none_after p n ws h.1 xs)
@@ -126,7 +134,7 @@ none_after p n (Wrote q k c v ∷ ws) h xs = go (same_path q p) (is_before (key 
     go false false f e = e
 
 -- the works that are gone are taken as far as they stand before a place or are the task's own
-all_gone : (p : Path) (n : ℕ) (later gone : List Work) (xs : List ℤ)
+pub all_gone : (p : Path) (n : ℕ) (later gone : List Work) (xs : List ℤ)
     → worked (before_place p n (own_many p gone) (gone ++ later)) xs ≡ worked (before_place p n 0 later) (worked (upto p n gone) xs)
 all_gone p n later [] xs = refl
 all_gone p n later (Turned q ∷ ws) xs = all_gone p n later ws xs
@@ -144,25 +152,26 @@ all_gone p n later (Wrote q k c v ∷ ws) xs = go (same_path q p) (is_before (ke
     go false true e f = e
     go false false e f = f
 
-pub contents_by_place : (p : Program) (ns : List ℤ) (limit : ℕ) → ContentsAreSerial p ns limit → ContentsByPlace p ns limit
-contents_by_place p ns limit c = record {
-  has = λ k roll ss notes reached rest i s live o e there some plain has.
-      let h = c.places k roll ss notes reached rest in
-      let ms = marks_by (program p) ns limit (and_then ss rest) in
-      let d = writes_among o (events_done s.walker) in
-      let later = works_on o h.remains.left in
-      let zero = at_object (zeros (sizes p.items)) o in
-      let behind = h.behind i s live o e there some plain has in
-      let own = ap (writes_in o) (h.remains.own i s live) ∙ writes_both o (deeds (events_done s.walker)) (filter_map but_turn (deeds_at s.path h.remains.left)) in
-      let whole = sym (but_turns_write o (deeds_at s.path ms)) ∙ own in
-      let done = events_write o (events_done s.walker) in
-      let left = but_turns_write o (deeds_at s.path h.remains.left) ∙ marks_write o s.path h.remains.left in
-      let all = sym (marks_write o s.path ms) in
-      let two = ap (own_many s.path) (h.remains.first o) ∙ own_both s.path (h.remains.gone o) later in
-      let many : own_many s.path (h.remains.gone o) ≡ d = omega (arith, whole, done, left, all, two) in
-      h.stand i s live o e there some
-      ∙ sym (none_after s.path s.children later behind (worked (upto s.path s.children (h.remains.gone o)) zero))
-      ∙ sym (all_gone s.path s.children later (h.remains.gone o) zero)
-      ∙ ap (λ n. worked (before_place s.path s.children n (h.remains.gone o ++ later)) zero) many
-      ∙ ap (λ ws. worked (before_place s.path s.children d ws) zero) (sym (h.remains.first o));
-}
+pub has_by_place : (p : Program) (ns : List ℤ) (limit : ℕ) → ContentsAreSerial p ns limit → (k : ℕ) (roll : List Seat) (ss : List ObjectView) (notes : List PartNote)
+    → Reached p ns limit k roll ss notes → (rest : ℕ → List Path) → (i : ℕ) (s : Seat) → slice_get roll i ≡ Some s → (o : ℕ) (e : Entry)
+    → find s.path (shelf_at ss o).queue ≡ Some e → is_there e.rights.reads || is_there e.rights.writes ≡ true → is_there e.rights.commutes ≡ false
+    → HasIt s ss o e → content_for s.path (shelf_at ss o) ≡ content_at p s o (marks_by (program p) ns limit (and_then ss rest))
+has_by_place p ns limit c k roll ss notes reached rest i s live o e there some plain has =
+    let h = c.places k roll ss notes reached rest in
+    let ms = marks_by (program p) ns limit (and_then ss rest) in
+    let d = writes_among o (events_done s.walker) in
+    let later = works_on o h.remains.left in
+    let zero = at_object (zeros (sizes p.items)) o in
+    let behind = h.behind i s live o e there some plain has in
+    let own = ap (writes_in o) (h.remains.own i s live) ∙ writes_both o (deeds (events_done s.walker)) (filter_map but_turn (deeds_at s.path h.remains.left)) in
+    let whole = sym (but_turns_write o (deeds_at s.path ms)) ∙ own in
+    let done = events_write o (events_done s.walker) in
+    let left = but_turns_write o (deeds_at s.path h.remains.left) ∙ marks_write o s.path h.remains.left in
+    let all = sym (marks_write o s.path ms) in
+    let two = ap (own_many s.path) (h.remains.first o) ∙ own_both s.path (h.remains.gone o) later in
+    let many : own_many s.path (h.remains.gone o) ≡ d = omega (arith, whole, done, left, all, two) in
+    h.stand i s live o e there some
+    ∙ sym (none_after s.path s.children later behind (worked (upto s.path s.children (h.remains.gone o)) zero))
+    ∙ sym (all_gone s.path s.children later (h.remains.gone o) zero)
+    ∙ ap (λ n. worked (before_place s.path s.children n (h.remains.gone o ++ later)) zero) many
+    ∙ ap (λ ws. worked (before_place s.path s.children d ws) zero) (sym (h.remains.first o))

@@ -27,14 +27,14 @@ use Rattle.schedule_core.proofs.Soles.{proper_sole, bared_proper}
 use Rattle.core_laws.specs.KeyOrder.{task_of_work, key_of_work, TakesTurn, MayPrecede, WorksStandByKey}
 
 -- nothing stands before itself, and what is no later than a key is no later than a later one
-not_itself : (c : Path) → is_before c c ≡ false
+pub not_itself : (c : Path) → is_before c c ≡ false
 not_itself c = go (is_before c c) refl
   where
     go : (b : Bool) → is_before c c ≡ b → b ≡ false
     go true e = sym e ∙ asym c c e
     go false e = refl
 
-no_later : (c d z : Path) → is_before c d ≡ true → is_before c z ≡ false → is_before d z ≡ false
+pub no_later : (c d z : Path) → is_before c d ≡ true → is_before c z ≡ false → is_before d z ≡ false
 no_later c d z lt le = go (is_before d z) refl
   where
     go : (b : Bool) → is_before d z ≡ b → is_before d z ≡ false
@@ -42,7 +42,7 @@ no_later c d z lt le = go (is_before d z) refl
     go false e = e
 
 -- works of one more list of marks
-works_both : (o : ℕ) (a b : List Mark) → works_on o (a ++ b) ≡ works_on o a ++ works_on o b
+pub works_both : (o : ℕ) (a b : List Mark) → works_on o (a ++ b) ≡ works_on o a ++ works_on o b
 works_both o a b = filter_map-append (λ (m : Mark). work_on o m.deed m.path m.children) a b
 
 glue : (o : ℕ) (ws : List Work) (a b : List Mark) → (ws ++ works_on o a) ++ works_on o b ≡ ws ++ works_on o (a ++ b)
@@ -70,7 +70,7 @@ no_works o (m ∷ ms) h = ap (λ (ws : List Work). cons_option (work_on o m.deed
     one (DidEnd x n) e = refl
 
 -- a member's turn works on its own object alone, in the task's first part
-abbrev Simple : Member → Type 0
+abbrev pub Simple : Member → Type 0
 Simple q = Sole q × ((s : Store) → Every (λ (m : Mark). (m.path ≡ q.path) × (m.children ≡ 0)) (turn q s))
 
 -- works of the first part of a task
@@ -111,7 +111,7 @@ turn_first q [] b h = absurd h
 turn_first q (w ∷ a) b (inl e) = inl e
 turn_first q (w ∷ a) b (inr h) = inr (turn_first q a b h)
 
-turn_last : (q : Path) (a b : List Work) → TakesTurn q b → TakesTurn q (a ++ b)
+pub turn_last : (q : Path) (a b : List Work) → TakesTurn q b → TakesTurn q (a ++ b)
 turn_last q [] b h = h
 turn_last q (w ∷ a) b h = inr (turn_last q a b h)
 
@@ -132,6 +132,21 @@ sorted_more all new (w ∷ ws) h =
 sorted_both : (all a b : List Work) → Sorted all a → Sorted all b → Every (λ (w : Work). Every (MayPrecede all w) b) a → Sorted all (a ++ b)
 sorted_both all [] b h g k = g
 sorted_both all (w ∷ a) b h g k = (every_append (MayPrecede all w) a b h.0 k.0, sorted_both all a b h.1 g k.1)
+
+-- what a child does has its key before what its parent does next
+pub child_ends : (p : Path) (k j : ℕ) → is_before (key (p ++ k ∷ []) j) (key p (suc k)) ≡ true
+child_ends p k j = yes_before (p ++ k ∷ []) p j (suc k) (child_first p k) away
+  where
+    tail : (p q : Path) → p ++ k ∷ [] ≡ p ++ q → k ∷ [] ≡ q
+    tail [] q e = e
+    tail (i ∷ p) q e = tail p q (cc)
+
+    first : (q : Path) → k ∷ [] ≡ q → From (suc k) q → ⊥
+    first [] e f = absurd (cc)
+    first (i ∷ q) e f = let h : k ≡ i = cc in omega (arith, f, h)
+
+    away : NotFrom p (suc k) (p ++ k ∷ [])
+    away q e f = first q (tail p q e) f
 
 -- a work that the first part of a task at a path may follow
 abbrev Yields : Path → List Work → Work → Type 0
@@ -271,20 +286,6 @@ module _ (o : ℕ) where
     no_work_last : (ms : List Mark) (m : Mark) → work_on o m.deed m.path m.children ≡ None → works_on o (ms ++ m ∷ []) ≡ works_on o ms
     no_work_last ms m e =
         works_both o ms (m ∷ []) ∙ ap (λ (z : Option Work). works_on o ms ++ cons_option z []) e ∙ append-nil (works_on o ms)
-
-    child_ends : (p : Path) (k j : ℕ) → is_before (key (p ++ k ∷ []) j) (key p (suc k)) ≡ true
-    child_ends p k j = yes_before (p ++ k ∷ []) p j (suc k) (child_first p k) away
-      where
-        tail : (p q : Path) → p ++ k ∷ [] ≡ p ++ q → k ∷ [] ≡ q
-        tail [] q e = e
-        tail (i ∷ p) q e = tail p q (cc)
-
-        first : (q : Path) → k ∷ [] ≡ q → From (suc k) q → ⊥
-        first [] e f = absurd (cc)
-        first (i ∷ q) e f = let h : k ≡ i = cc in omega (arith, f, h)
-
-        away : NotFrom p (suc k) (p ++ k ∷ [])
-        away q e f = first q (tail p q e) f
 
     run_keeps : {spec : Specification} {c : Course} → Proper spec c → (p : Path) (k n : ℕ) (w : World) (ws : List Work) (top : Path)
         → ((j : ℕ) → is_before (key p j) top ≡ true) → State ws w.waiting (key p k)

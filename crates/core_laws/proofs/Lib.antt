@@ -1,6 +1,7 @@
 mod OnePlay
 mod WhatIsLeft
 mod ByPlace
+mod ChildPlace
 mod Creations
 mod Counting
 mod Uncommuting
@@ -8,3 +9,4 @@ mod PlainContents
 mod KeyOrder
 mod LeftOrder
 mod FullLists
+mod ReadOrder

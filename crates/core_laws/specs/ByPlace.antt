@@ -5,6 +5,7 @@ use Rattle.jade_base.specs.Rights.{is_there}
 use Rattle.jade_syntax.specs.declared.tree.Program.{Program}
 use Rattle.jade_syntax.specs.Image.{program}
 use Rattle.jade_syntax.specs.Objects.{sizes}
+use Rattle.jade_meaning.specs.Laws.{child_path}
 use Rattle.jade_meaning.specs.Serial.{Path, Mark, zeros, at_object}
 use Rattle.jade_meaning.specs.Talk.{Event, Enter, Enroll, Take, TouchRead, TouchWrite, Wants, Give, Leave, Shift, Resign}
 use Rattle.jade_meaning.specs.Turns.{marks_by}
@@ -43,10 +44,13 @@ before_place p n d (Wrote q k c v ∷ ws) =
     if same_path q p then (if nat_eq d 0 then before_place p n 0 ws else Wrote q k c v ∷ before_place p n (pred d) ws)
     else (if is_before (key q k) (key p n) then Wrote q k c v ∷ before_place p n d ws else before_place p n d ws)
 
--- the content of an object at a live task's place in a run: what the writes before it make of zeros
+-- the content of an object at such a place in a run: what the writes before it make of zeros
+abbrev pub content_before : Program → Path → (children own object : ℕ) → List Mark → List ℤ
+content_before p path n d o run = worked (before_place path n d (works_on o run)) (at_object (zeros (sizes p.items)) o)
+
+-- the same at a live task's place
 abbrev pub content_at : Program → Seat → ℕ → List Mark → List ℤ
-content_at p s o run =
-    worked (before_place s.path s.children (writes_among o (events_done s.walker)) (works_on o run)) (at_object (zeros (sizes p.items)) o)
+content_at p s o run = content_before p s.path s.children (writes_among o (events_done s.walker)) o run
 
 -- What a live task holds of an object on which it does not commute, has kept or may take next is the meaning's content at its place: by all turn
 -- lists that go on from those in the objects.
@@ -55,3 +59,8 @@ pub record ContentsByPlace (p : Program) (ns : List ℤ) (limit : ℕ) : Type 0 
       → (i : ℕ) (s : Seat) → slice_get roll i ≡ Some s → (o : ℕ) (e : Entry) → find s.path (shelf_at ss o).queue ≡ Some e
       → is_there e.rights.reads || is_there e.rights.writes ≡ true → is_there e.rights.commutes ≡ false → HasIt s ss o e
       → content_for s.path (shelf_at ss o) ≡ content_at p s o (marks_by (program p) ns limit (and_then ss rest))
+  -- and so is the version that is kept for its next child, once the rights of this child are entered, at the place where the child begins
+  pub child : (k : ℕ) (roll : List Seat) (ss : List ObjectView) (notes : List PartNote) → Reached p ns limit k roll ss notes → (rest : ℕ → List Path)
+      → (i : ℕ) (s : Seat) → slice_get roll i ≡ Some s → (o : ℕ) (e : Entry) → find (child_path s.path s.children) (shelf_at ss o).queue ≡ Some e
+      → (xs : List ℤ) → e.version ≡ Some xs
+      → xs ≡ content_before p (child_path s.path s.children) 0 0 o (marks_by (program p) ns limit (and_then ss rest))

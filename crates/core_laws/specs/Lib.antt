@@ -6,3 +6,4 @@ pub mod Room
 pub mod KeyOrder
 pub mod LeftOrder
 pub mod FullListsGoOn
+pub mod ReadOrder

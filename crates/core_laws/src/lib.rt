@@ -20,6 +20,7 @@ ghost use Rattle.core_laws.specs.KeyOrder.{WorksStandByKey};
 ghost use Rattle.core_laws.specs.LeftOrder.{SomeLeftInOrder};
 ghost use Rattle.core_laws.specs.OnePlay.{PicksDecide};
 ghost use Rattle.core_laws.specs.PlainContents.{PlainContents};
+ghost use Rattle.core_laws.specs.ReadOrder.{ReadsStandByKey};
 ghost use Rattle.core_laws.specs.Room.{ChildrenAreFew};
 ghost use Rattle.core_laws.specs.WhatIsLeft.{SomeIsLeft, WhatIsLeft};
 
@@ -43,10 +44,12 @@ pub fn some_is_left()
 
 /// What a live task holds of an object on which it does not commute, has kept or may take next is
 /// the meaning's content at its place: what the writes of parts with lesser keys and its own so far
-/// make of zeros.
+/// make of zeros. So is the version that is kept for its next child, at the place where this child
+/// begins.
 pub fn contents_by_place()
     ensures { (p : Program) (ns : List ℤ) (limit : ℕ) → ContentsByPlace p ns limit }
 {
+    jade_meaning::laws::keeps();
     schedule_core::laws::contents_are_serial();
 }
 
@@ -76,6 +79,15 @@ pub fn children_are_few()
 /// their parts, but those of tasks that commute on it.
 pub fn works_stand_by_key()
     ensures { (p : AbstractProgram) (ns : List ℤ) (limit : ℕ) (turns : ℕ → List Path) → WorksStandByKey p ns limit turns }
+{
+    jade_meaning::laws::keeps();
+}
+
+/// In the meaning, by any turn lists, a read of a task that does not commute stands behind the works
+/// on its object of parts before its own, and before those of parts behind it. So where a live task
+/// that does not commute has yet to read, its read stands among the works by the key of its part.
+pub fn reads_stand_by_key()
+    ensures { (p : AbstractProgram) (ns : List ℤ) (limit : ℕ) (turns : ℕ → List Path) → ReadsStandByKey p ns limit turns }
 {
     jade_meaning::laws::keeps();
 }

@@ -152,26 +152,21 @@ pub record SpentOne (v w : View) : Type 0 where
   pub tickets : v.tickets ≡ suc w.tickets
   pub tries : w ≡ record w { tries = v.tries; place = v.place; word = v.word; note = v.note }
 
--- a ticket is spent, of those that the pass had or got first
+-- a ticket is spent: of those that the pass had, where these are more than two, or else of those that it got first
 pub record Spent (o : ℕ) (v w : View) : Type 0 where
   pub stocked : View
-  pub got : (stocked ≡ v) ⊎ Restocked o v stocked
+  pub got : ((2 < v.tickets) × (stocked ≡ v)) ⊎ ((v.tickets ≤ 2) × Restocked o v stocked)
   pub one : SpentOne stocked w
 
 -- what a try at a creation answers
 abbrev pub EnrolledAs : ℕ → (steps : ℕ) → View → Tried → View → Type 0
 EnrolledAs o steps v tried.Done w = Bore steps v w × Spent o v w
-EnrolledAs o steps v (tried.Busy n) w = IsBusy n o v w
+EnrolledAs o steps v (tried.Busy n) w = (v.tickets ≤ 2) × IsBusy n o v w
 
 -- what a try to get tickets answers
 abbrev pub RestockedAs : ℕ → View → Tried → View → Type 0
 RestockedAs o v tried.Done w = Restocked o v w
 RestockedAs o v (tried.Busy n) w = IsBusy n o v w
-
--- a pass has tickets for a creation, and may have got some
-abbrev pub ProvidedAs : ℕ → View → Tried → View → Type 0
-ProvidedAs o v tried.Done w = (2 < w.tickets) × ((w ≡ v) ⊎ Restocked o v w)
-ProvidedAs o v (tried.Busy n) w = IsBusy n o v w
 
 -- a pass has nothing to hand in
 abbrev pub Empty : View → Type 0

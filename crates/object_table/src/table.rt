@@ -248,8 +248,8 @@ impl<'c> ObjectTable<'c> {
 
     /// The creation of the next child, which is the pass's next event; the part that ends with it has
     /// so many steps, and the pass has a note of it, on which it spends a ticket. The child then has its
-    /// seat, and `split` makes its pass. No word is tried for it, but where the pass wants tickets: then
-    /// it is one try to get them, at the roll's. The error is want of memory, and leaves the pass and the
+    /// seat, and `split` makes its pass. No word is tried for it, but where the pass has fewer than three
+    /// tickets: then it is one try to get some, at the roll's. The error is want of memory, and leaves the pass and the
     /// objects as before.
     pub fn enroll(&self, alloc: Global, pass: &mut TaskPass, steps: u64) -> Result<Tried, Memory>
         requires mark { pass.old.mark ≡ self.now.mark }

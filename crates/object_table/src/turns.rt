@@ -11,7 +11,7 @@ ghost use Rattle.object_table.specs.Tallies.{TallyView, most, restocked, receive
 ghost use Rattle.object_table.specs.Views.{word_of, worth};
 ghost use Rattle.object_table.specs.Plays.{tried_at, is_all_in, without_kid, joined};
 ghost use Rattle.object_table.specs.Touches.{held_at, put_held};
-ghost use Rattle.object_table.specs.Calls.{Next, TakenAs, TriedAs, EnrolledAs, RestockedAs, ProvidedAs, Restocked, SpentOne, HandedInAs, HandedIn, AsBefore, Did, Bore, Ended, IsBusy, IsGone};
+ghost use Rattle.object_table.specs.Calls.{Next, TakenAs, TriedAs, EnrolledAs, RestockedAs, Restocked, SpentOne, HandedInAs, HandedIn, AsBefore, Did, Bore, Ended, IsBusy, IsGone};
 ghost use Rattle.schedule_core.specs.declared.steps.Seat.{Seat as SeatOf};
 ghost use Rattle.object_table.specs.steps.Kept.{Rests, Fits, FitsRoll, Laid, GotTurn, Leaves, Laws};
 ghost use Rattle.object_table.specs.steps.Kept.{shown, IsObject, IsRoll, IsKidOf, HandedAs, EnteredAs};
@@ -186,24 +186,6 @@ fn restock(words: &Words, task: &mut Task, place: usize) -> Result<Tried, Memory
     }
     supply(words, task, place);
     Ok(Tried::Done)
-}
-
-// A live task has tickets for a creation: one for the part that ends with it, one for the child, and
-// one for itself. Where it wants more, it is one try to get them.
-fn provide(words: &Words, task: &mut Task, place: usize) -> Result<Tried, Memory>
-    requires fits { FitsRoll words.now.table_id words.now.key task.old place }
-    requires rests { Rests task.old }
-    requires live { (shown task.old).live ≡ true }
-    ensures mark { task.new.seat.table_id ≡ task.old.seat.table_id }
-    ensures rests { Rests task.new }
-    ensures answer { IfOk result (λ r. ProvidedAs place (shown task.old) r (shown task.new)) }
-    ensures unchanged { OnErr result (AsBefore (shown task.old) (shown task.new)) }
-{
-    if task.tickets < 3 {
-        restock(words, task, place)
-    } else {
-        Ok(Tried::Done)
-    }
 }
 
 // The turn at the roll is left with more tickets, which the slot counts already.
@@ -602,7 +584,8 @@ pub(crate) fn enroll_at(
     Ok(Tried::Done)
 }
 
-// The same, by a pass that may want tickets first: after they are got nothing may want memory.
+// The same, by a pass that wants tickets first: one for the part that ends with the creation, one for
+// the child, and one for itself. After they are got nothing may want memory.
 fn enroll_with_more(
     words: &Words,
     alloc: Global,
@@ -614,6 +597,7 @@ fn enroll_with_more(
     requires fits { FitsRoll words.now.table_id words.now.key task.old place }
     requires rests { Rests task.old }
     requires next { (t : TaskOf) × Next (Enroll t steps) (shown task.old) }
+    requires poor { task.old.tickets < 3 }
     requires count { children ≡ task.old.children + 1 }
     ensures mark { task.new.seat.table_id ≡ task.old.seat.table_id }
     ensures rests { Rests task.new }
@@ -621,7 +605,7 @@ fn enroll_with_more(
     ensures unchanged { OnErr result (AsBefore (shown task.old) (shown task.new)) }
 {
     let spare = SpareNote::of(alloc, &task.path)?;
-    match provide(words, task, place)? {
+    match restock(words, task, place)? {
         Tried::Done => {
             bear(words, task, spare, children, steps);
             Ok(Tried::Done)

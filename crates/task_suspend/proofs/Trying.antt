@@ -29,7 +29,7 @@ module _ (o steps : ℕ) (v w : View) (r : Tried) where
   enrolled_done e h = let P : Tried → Type 0 = λ x. EnrolledAs o steps v x w in (subst P e h).0
 
   pub enrolled_busy : (n : ℕ) → r ≡ tried.Busy n → EnrolledAs o steps v r w → IsBusy n o v w
-  enrolled_busy n e h = let P : Tried → Type 0 = λ x. EnrolledAs o steps v x w in subst P e h
+  enrolled_busy n e h = let P : Tried → Type 0 = λ x. EnrolledAs o steps v x w in (subst P e h).1
 
 -- after a creation the task is live, and the child has no pass
 pub bore_live : (steps : ℕ) (v w : View) → Bore steps v w → v.live ≡ true → w.live ≡ true
