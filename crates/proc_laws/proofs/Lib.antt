@@ -11,3 +11,4 @@ mod Faultless
 mod Fresh
 mod Accepted
 mod RunExamples
+mod TreeImages

@@ -49,10 +49,17 @@ mutual
     Done : Spokens
     Then : Spoken → Spokens → Spokens
 
+-- a procedure
+pub record SpokenProcedure : Type 0 where
+  pub name : Name
+  pub at : Pos
+  pub params : List HeadParam
+  pub body : Spokens
+
 -- what stands before `main`: an item, a procedure, or one that is never called, of which nothing is read
 pub data Piece : Type 0 where
   AnItem : Item → Piece
-  AProcedure : Name → Pos → List HeadParam → Spokens → Piece
+  AProcedure : SpokenProcedure → Piece
   Unread : List (List ℕ) → Piece
 
 -- a whole source
@@ -117,8 +124,8 @@ proc_part = plain (Called (112 ∷ 114 ∷ 111 ∷ 99 ∷ []))
 
 abbrev pub piece_parts : Piece → Parts
 piece_parts (AnItem i) = item_parts i
-piece_parts (AProcedure x at params body) =
-    proc_part ∷ marked (Called x) at ∷ fixed sign.LeftParen ∷ (head_params params ++ fixed sign.RightParen ∷ spoken_block body)
+piece_parts (AProcedure p) =
+    proc_part ∷ marked (Called p.name) p.at ∷ fixed sign.LeftParen ∷ (head_params p.params ++ fixed sign.RightParen ∷ spoken_block p.body)
 piece_parts (Unread tokens) = map (λ t. plain (Called t)) tokens
 
 abbrev pub source_parts : SourceText → Parts
@@ -147,18 +154,23 @@ abbrev mutual
 abbrev pub items_of : List Piece → List Item
 items_of [] = []
 items_of (AnItem i ∷ ps) = i ∷ items_of ps
-items_of (AProcedure x at params body ∷ ps) = items_of ps
+items_of (AProcedure p ∷ ps) = items_of ps
 items_of (Unread tokens ∷ ps) = items_of ps
 
-abbrev pub procedures_of : List Piece → List Procedure
-procedures_of [] = []
-procedures_of (AnItem i ∷ ps) = procedures_of ps
-procedures_of (AProcedure x at params body ∷ ps) =
-    record { name = x; params = map (λ (p : HeadParam). record { kind = p.kind; name = p.name }) params; body = spoken_actions body } ∷ procedures_of ps
-procedures_of (Unread tokens ∷ ps) = procedures_of ps
+abbrev pub spoken_procedures : List Piece → List SpokenProcedure
+spoken_procedures [] = []
+spoken_procedures (AnItem i ∷ ps) = spoken_procedures ps
+spoken_procedures (AProcedure p ∷ ps) = p ∷ spoken_procedures ps
+spoken_procedures (Unread tokens ∷ ps) = spoken_procedures ps
+
+abbrev pub param : HeadParam → Param
+param p = record { kind = p.kind; name = p.name }
+
+abbrev pub procedure : SpokenProcedure → Procedure
+procedure p = record { name = p.name; params = map param p.params; body = spoken_actions p.body }
 
 abbrev pub source_of : SourceText → SourceProgram
-source_of q = record { items = items_of q.pieces; procedures = procedures_of q.pieces; main = spoken_actions q.main }
+source_of q = record { items = items_of q.pieces; procedures = map procedure (spoken_procedures q.pieces); main = spoken_actions q.main }
 
 -- ---- its reading
 
@@ -189,13 +201,13 @@ abbrev mutual
 -- the parts of what is read
 abbrev pub read_parts : Piece → Parts
 read_parts (AnItem i) = item_parts i
-read_parts (AProcedure x at params body) = marked (Called x) at ∷ (head_params params ++ spoken_block body)
+read_parts (AProcedure p) = marked (Called p.name) p.at ∷ (head_params p.params ++ spoken_block p.body)
 read_parts (Unread tokens) = []
 
 -- the body of a procedure stands in some kind of block
 abbrev pub somewhere : Piece → Bool
 somewhere (AnItem i) = true
-somewhere (AProcedure x at params body) = all_placed Main body || all_placed Section body || all_placed Amends body
+somewhere (AProcedure p) = all_placed Main p.body || all_placed Section p.body || all_placed Amends p.body
 somewhere (Unread tokens) = true
 
 pub record IsSourceReading (ts : TokenList) (q : SourceText) : Type 0 where

@@ -10,9 +10,14 @@ ghost use Rattle.proc_expand.specs.Written.{fresh_name};
 ghost use Rattle.jade_meaning.specs.Course.{root_course};
 ghost use Rattle.jade_syntax.specs.Abstract.{Name};
 ghost use Rattle.proc_laws.specs.Source.{SourceProgram};
+ghost use Rattle.proc_laws.specs.SourceReading.{SourceText, source_of};
+ghost use Rattle.proc_laws.specs.ExpandedTree.{expanded_tree};
+ghost use Rattle.jade_syntax.specs.Image.{program};
 ghost use Rattle.proc_laws.specs.SourceMeaning.{source_course};
 ghost use Rattle.proc_laws.specs.Expansion.{AreFresh, Each, block_names, expanded_program, sets_all, item_name};
 ghost use Rattle.proc_expand.specs.Names.{is_among};
+
+use erased_places::laws::erased_is_program;
 
 /// A law of programs with procedures, which does nothing: where the expanded program declares, hands
 /// to a task and assigns no item, it does what its source does.
@@ -22,6 +27,15 @@ pub fn expanded_does_as_its_source()
         → (numbers : List ℤ) → (limit : ℕ)
         → root_course (expanded_program fresh p) numbers limit ≡ source_course p numbers limit }
 {}
+
+/// A law of programs with procedures, which does nothing: the tree of an expanded program is the
+/// expansion of its source.
+pub fn tree_is_the_expansion()
+    ensures { (fresh : ℕ → Name) → (q : SourceText)
+        → program (expanded_tree fresh q) ≡ expanded_program fresh (source_of q) }
+{
+    erased_is_program();
+}
 
 /// A law of programs with procedures, which does nothing: where a program is the expansion of a source
 /// but for its places, its new names are those that the source's text leaves free, and it has no

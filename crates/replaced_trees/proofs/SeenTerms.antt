@@ -8,7 +8,7 @@ use Rattle.jade_syntax.specs.declared.tree.UnaryOp.{UnaryOp}
 use Rattle.jade_syntax.specs.declared.tree.Atom.{Atom, roll-Atom, fold-roll-Atom, map-Atom}
 use Rattle.jade_syntax.specs.declared.tree.Atom.TheOpen.{Atom-F, CellRef-F, Compare-F, AndExpr-F, Expr-F, Sum-F, Product-F}
 use Rattle.jade_syntax.specs.declared.tree.AndExpr.{AndExpr, roll-AndExpr, out-roll-AndExpr, fold-roll-AndExpr}
-use Rattle.jade_syntax.specs.declared.tree.CellRef.{CellRef, roll-CellRef, fold-roll-CellRef, map-CellRef}
+use Rattle.jade_syntax.specs.declared.tree.CellRef.{CellRef, roll-CellRef, fold-roll-CellRef, map-CellRef, out-CellRef, fold_out-CellRef}
 use Rattle.jade_syntax.specs.declared.tree.Compare.{Compare, roll-Compare, out-roll-Compare, fold-roll-Compare, map-Compare}
 use Rattle.jade_syntax.specs.declared.tree.Expr.{Expr, roll-Expr, out-roll-Expr, fold-roll-Expr, ind-Expr}
 use Rattle.jade_syntax.specs.declared.tree.Product.{Product, roll-Product, out-roll-Product, fold-roll-Product}
@@ -21,41 +21,12 @@ use Rattle.jade_syntax.specs.Forms as general
 use Rattle.jade_syntax.specs.PlacedImage as placed
 use Rattle.jade_syntax.specs.PlacedImage.{Reference, Linked, forms, chained, compared, term, and_term, reference, compare_term, product_term, sum_term, unary_term, atom_term}
 use Rattle.jade_syntax.proofs.Opened as opened
+use Rattle.replaced_trees.proofs.Made.{and_made, expr_made, sum_made, product_made, compare_made}
 use Rattle.replaced_trees.specs.Replaced.{at_atom, at_and, at_cell, at_compare, at_expr, at_product, at_sum, at_unary, right_side}
 use Rattle.replaced_trees.specs.Replaced.{expr_replaced, and_replaced, cell_replaced, compare_replaced, sum_replaced, product_replaced}
-use Rattle.replaced_trees.specs.Replaced.{unary_replaced, atom_replaced, term_replaced, links_replaced, place_replaced}
+use Rattle.replaced_trees.specs.Replaced.{unary_replaced, atom_replaced, term_replaced, links_replaced, place_replaced, reference_replaced}
 
--- ---- what a node that is made is seen as
-
-and_made : (f : Compare) (r : List (Pos × Compare))
-    → and_term (roll-AndExpr (record { first = f; rest = r })) ≡ chained (compare_term f) (map (general.and_link forms) r)
-and_made f r = opened.and_opens forms (roll-AndExpr (record { first = f; rest = r }))
-    ∙ ap (λ (x : AndExpr-F Atom AndExpr CellRef Compare Expr Product Sum Unary). chained (compare_term x.first) (map (general.and_link forms) x.rest))
-    (out-roll-AndExpr (record { first = f; rest = r }))
-
-expr_made : (f : AndExpr) (r : List (Pos × AndExpr))
-    → term (roll-Expr (record { first = f; rest = r })) ≡ chained (and_term f) (map (general.or_link forms) r)
-expr_made f r = opened.expr_opens forms (roll-Expr (record { first = f; rest = r }))
-    ∙ ap (λ (x : Expr-F Atom AndExpr CellRef Compare Expr Product Sum Unary). chained (and_term x.first) (map (general.or_link forms) x.rest))
-    (out-roll-Expr (record { first = f; rest = r }))
-
-sum_made : (f : Product) (r : List (SumOp × Pos × Product))
-    → sum_term (roll-Sum (record { first = f; rest = r })) ≡ chained (product_term f) (map (general.sum_link forms) r)
-sum_made f r = opened.sum_opens forms (roll-Sum (record { first = f; rest = r }))
-    ∙ ap (λ (x : Sum-F Atom AndExpr CellRef Compare Expr Product Sum Unary). chained (product_term x.first) (map (general.sum_link forms) x.rest))
-    (out-roll-Sum (record { first = f; rest = r }))
-
-product_made : (f : Unary) (r : List (ProductOp × Pos × Unary))
-    → product_term (roll-Product (record { first = f; rest = r })) ≡ chained (unary_term f) (map (general.product_link forms) r)
-product_made f r = opened.product_opens forms (roll-Product (record { first = f; rest = r }))
-    ∙ ap (λ (x : Product-F Atom AndExpr CellRef Compare Expr Product Sum Unary). chained (unary_term x.first) (map (general.product_link forms) x.rest))
-    (out-roll-Product (record { first = f; rest = r }))
-
-compare_made : (l : Sum) (o : Option (Relation × Pos × Sum))
-    → compare_term (roll-Compare (record { left = l; right = o })) ≡ compared (sum_term l) (general.compared_with forms o)
-compare_made l o = opened.compare_opens forms (roll-Compare (record { left = l; right = o }))
-    ∙ ap (λ (x : Compare-F Atom AndExpr CellRef Compare Expr Product Sum Unary). compared (sum_term x.left) (general.compared_with forms x.right))
-    (out-roll-Compare (record { left = l; right = o }))
+-- ---- what an atom and a cell that are made are seen as
 
 atom_made : (f : Atom-F Atom AndExpr CellRef Compare Expr Product Sum Unary) → atom_term (roll-Atom f)
     ≡ general.at_atom forms (map-Atom Atom AndExpr CellRef Compare Expr Product Sum Unary Term Term Reference Term Term Term Term Term atom_term and_term
@@ -72,9 +43,6 @@ cell_made f = fold-roll-CellRef Term Term Reference Term Term Term Term Term (ge
 module _ (to : Name → Name) (home : Pos → Pos) where
   abbrev link_replaced : Linked → Linked
   link_replaced l = record { operator = l.operator; at = home l.at; operand = term_replaced to home l.operand }
-
-  abbrev pub reference_replaced : Reference → Reference
-  reference_replaced r = record { place = place_replaced to home r.place; cell = term_replaced to home r.cell }
 
   links_seen : (ls : List Linked) → links_replaced to home (placed.links ls) ≡ placed.links (map link_replaced ls)
   links_seen [] = refl
@@ -103,9 +71,9 @@ module _ (to : Name → Name) (home : Pos → Pos) where
     and_seen x xs =
         ap and_term (fold-roll-AndExpr Atom AndExpr CellRef Compare Expr Product Sum Unary (at_atom to home) (at_and to home) (at_cell to home)
         (at_compare to home) (at_expr to home) (at_product to home) (at_sum to home) (at_unary to home) (record { first = d x; rest = and_rest xs }))
-        ∙ and_made (compare_replaced to home (d x)) (and_rest_made xs) ∙ (λ i. chained (same x i) (and_links xs i))
+        ∙ and_made forms (compare_replaced to home (d x)) (and_rest_made xs) ∙ (λ i. chained (same x i) (and_links xs i))
         ∙ sym (chain_seen (compare_term (d x)) (map (general.and_link forms) (and_rest xs)))
-        ∙ sym (ap (term_replaced to home) (and_made (d x) (and_rest xs)))
+        ∙ sym (ap (term_replaced to home) (and_made forms (d x) (and_rest xs)))
 
   module _ {B : Type 0} (b : B → AndExpr) (same : (x : B) → and_term (and_replaced to home (b x)) ≡ term_replaced to home (and_term (b x))) where
     abbrev or_rest : List (Pos × B) → List (Pos × AndExpr)
@@ -123,9 +91,9 @@ module _ (to : Name → Name) (home : Pos → Pos) where
     or_seen x xs =
         ap term (fold-roll-Expr Atom AndExpr CellRef Compare Expr Product Sum Unary (at_atom to home) (at_and to home) (at_cell to home)
         (at_compare to home) (at_expr to home) (at_product to home) (at_sum to home) (at_unary to home) (record { first = b x; rest = or_rest xs }))
-        ∙ expr_made (and_replaced to home (b x)) (or_rest_made xs) ∙ (λ i. chained (same x i) (or_links xs i))
+        ∙ expr_made forms (and_replaced to home (b x)) (or_rest_made xs) ∙ (λ i. chained (same x i) (or_links xs i))
         ∙ sym (chain_seen (and_term (b x)) (map (general.or_link forms) (or_rest xs)))
-        ∙ sym (ap (term_replaced to home) (expr_made (b x) (or_rest xs)))
+        ∙ sym (ap (term_replaced to home) (expr_made forms (b x) (or_rest xs)))
 
   module _ {H : Type 0} (h : H → Unary) (same : (x : H) → unary_term (unary_replaced to home (h x)) ≡ term_replaced to home (unary_term (h x))) where
     abbrev product_rest : List (ProductOp × Pos × H) → List (ProductOp × Pos × Unary)
@@ -147,9 +115,9 @@ module _ (to : Name → Name) (home : Pos → Pos) where
     product_seen x xs =
         ap product_term (fold-roll-Product Atom AndExpr CellRef Compare Expr Product Sum Unary (at_atom to home) (at_and to home) (at_cell to home)
         (at_compare to home) (at_expr to home) (at_product to home) (at_sum to home) (at_unary to home) (record { first = h x; rest = product_rest xs }))
-        ∙ product_made (unary_replaced to home (h x)) (product_rest_made xs) ∙ (λ i. chained (same x i) (product_links xs i))
+        ∙ product_made forms (unary_replaced to home (h x)) (product_rest_made xs) ∙ (λ i. chained (same x i) (product_links xs i))
         ∙ sym (chain_seen (unary_term (h x)) (map (general.product_link forms) (product_rest xs)))
-        ∙ sym (ap (term_replaced to home) (product_made (h x) (product_rest xs)))
+        ∙ sym (ap (term_replaced to home) (product_made forms (h x) (product_rest xs)))
 
   module _ {F : Type 0} (f : F → Product) (same : (x : F) → product_term (product_replaced to home (f x)) ≡ term_replaced to home (product_term (f x))) where
     abbrev sum_rest : List (SumOp × Pos × F) → List (SumOp × Pos × Product)
@@ -171,9 +139,9 @@ module _ (to : Name → Name) (home : Pos → Pos) where
     sum_seen x xs =
         ap sum_term (fold-roll-Sum Atom AndExpr CellRef Compare Expr Product Sum Unary (at_atom to home) (at_and to home) (at_cell to home)
         (at_compare to home) (at_expr to home) (at_product to home) (at_sum to home) (at_unary to home) (record { first = f x; rest = sum_rest xs }))
-        ∙ sum_made (product_replaced to home (f x)) (sum_rest_made xs) ∙ (λ i. chained (same x i) (sum_links xs i))
+        ∙ sum_made forms (product_replaced to home (f x)) (sum_rest_made xs) ∙ (λ i. chained (same x i) (sum_links xs i))
         ∙ sym (chain_seen (product_term (f x)) (map (general.sum_link forms) (sum_rest xs)))
-        ∙ sym (ap (term_replaced to home) (sum_made (f x) (sum_rest xs)))
+        ∙ sym (ap (term_replaced to home) (sum_made forms (f x) (sum_rest xs)))
 
   -- ---- signs
 
@@ -197,7 +165,7 @@ module _ (to : Name → Name) (home : Pos → Pos) where
 
   module _ {A B C D E F G H : Type 0} (a : A → Atom) (b : B → AndExpr) (c : C → CellRef) (d : D → Compare) (e : E → Expr) (f : F → Product) (g : G → Sum)
       (h : H → Unary)
-      (cells : (x : C) → reference (cell_replaced to home (c x)) ≡ reference_replaced (reference (c x)))
+      (cells : (x : C) → reference (cell_replaced to home (c x)) ≡ reference_replaced to home (reference (c x)))
       (exprs : (x : E) → term (expr_replaced to home (e x)) ≡ term_replaced to home (term (e x)))
       (sums : (x : G) → sum_term (sum_replaced to home (g x)) ≡ term_replaced to home (sum_term (g x))) where
     abbrev atom_of : Atom-F A B C D E F G H → Atom-F Atom AndExpr CellRef Compare Expr Product Sum Unary
@@ -240,20 +208,20 @@ module _ (to : Name → Name) (home : Pos → Pos) where
 
     cell_at : (n : List ℕ) (p : Pos) (o : Option E) (x : E)
         → reference (cell_replaced to home (roll-CellRef (cell_of (record { name = n; pos = p; family = o; cell = x }))))
-        ≡ reference_replaced (reference (roll-CellRef (cell_of (record { name = n; pos = p; family = o; cell = x }))))
+        ≡ reference_replaced to home (reference (roll-CellRef (cell_of (record { name = n; pos = p; family = o; cell = x }))))
     cell_at n p None x =
         ap reference (cell_tree (cell_of (record { name = n; pos = p; family = None; cell = x })))
         ∙ cell_made (record { name = to n; pos = home p; family = None; cell = expr_replaced to home (e x) })
         ∙ (λ i. record { place = syntax.Alone (to n) (home p); cell = exprs x i })
-        ∙ sym (ap reference_replaced (cell_made (cell_of (record { name = n; pos = p; family = None; cell = x }))))
+        ∙ sym (ap (reference_replaced to home) (cell_made (cell_of (record { name = n; pos = p; family = None; cell = x }))))
     cell_at n p (Some o) x =
         ap reference (cell_tree (cell_of (record { name = n; pos = p; family = Some o; cell = x })))
         ∙ cell_made (record { name = to n; pos = home p; family = Some (expr_replaced to home (e o)); cell = expr_replaced to home (e x) })
         ∙ (λ i. record { place = syntax.Member (to n) (home p) (exprs o i); cell = exprs x i })
-        ∙ sym (ap reference_replaced (cell_made (cell_of (record { name = n; pos = p; family = Some o; cell = x }))))
+        ∙ sym (ap (reference_replaced to home) (cell_made (cell_of (record { name = n; pos = p; family = Some o; cell = x }))))
 
     cell_seen_at : (y : CellRef-F A B C D E F G H) → reference (cell_replaced to home (roll-CellRef (cell_of y)))
-        ≡ reference_replaced (reference (roll-CellRef (cell_of y)))
+        ≡ reference_replaced to home (reference (roll-CellRef (cell_of y)))
     cell_seen_at y = cell_at y.name y.pos y.family y.cell
 
     abbrev compare_of : Compare-F A B C D E F G H → Compare-F Atom AndExpr CellRef Compare Expr Product Sum Unary
@@ -270,13 +238,13 @@ module _ (to : Name → Name) (home : Pos → Pos) where
         → compare_term (compare_replaced to home (roll-Compare (compare_of (record { left = x; right = o }))))
         ≡ term_replaced to home (compare_term (roll-Compare (compare_of (record { left = x; right = o }))))
     compare_at x None =
-        ap compare_term (compare_tree (compare_of (record { left = x; right = None }))) ∙ compare_made (sum_replaced to home (g x)) None ∙ sums x
-        ∙ sym (ap (term_replaced to home) (compare_made (g x) None))
+        ap compare_term (compare_tree (compare_of (record { left = x; right = None }))) ∙ compare_made forms (sum_replaced to home (g x)) None ∙ sums x
+        ∙ sym (ap (term_replaced to home) (compare_made forms (g x) None))
     compare_at x (Some o) =
         ap compare_term (compare_tree (compare_of (record { left = x; right = Some o })))
-        ∙ compare_made (sum_replaced to home (g x)) (Some (o.0, home o.1, sum_replaced to home (g o.2)))
+        ∙ compare_made forms (sum_replaced to home (g x)) (Some (o.0, home o.1, sum_replaced to home (g o.2)))
         ∙ (λ i. syntax.Chain (sums x i) (syntax.Link (Relates o.0) (home o.1) (sums o.2 i) syntax.Last))
-        ∙ sym (ap (term_replaced to home) (compare_made (g x) (Some (o.0, o.1, g o.2))))
+        ∙ sym (ap (term_replaced to home) (compare_made forms (g x) (Some (o.0, o.1, g o.2))))
 
     compare_seen_at : (y : Compare-F A B C D E F G H) → compare_term (compare_replaced to home (roll-Compare (compare_of y)))
         ≡ term_replaced to home (compare_term (roll-Compare (compare_of y)))
@@ -285,7 +253,7 @@ module _ (to : Name → Name) (home : Pos → Pos) where
   pub expr_seen : (e : Expr) → term (expr_replaced to home e) ≡ term_replaced to home (term e)
   expr_seen e = ind-Expr (λ x. atom_term (atom_replaced to home x) ≡ term_replaced to home (atom_term x))
       (λ x. and_term (and_replaced to home x) ≡ term_replaced to home (and_term x))
-      (λ x. reference (cell_replaced to home x) ≡ reference_replaced (reference x))
+      (λ x. reference (cell_replaced to home x) ≡ reference_replaced to home (reference x))
       (λ x. compare_term (compare_replaced to home x) ≡ term_replaced to home (compare_term x))
       (λ x. term (expr_replaced to home x) ≡ term_replaced to home (term x))
       (λ x. product_term (product_replaced to home x) ≡ term_replaced to home (product_term x))
@@ -302,3 +270,26 @@ module _ (to : Name → Name) (home : Pos → Pos) where
       (λ x y k. rw (← k) (product_seen (λ z. z.0) (λ z. z.1) y.first y.rest))
       (λ x y k. rw (← k) (sum_seen (λ z. z.0) (λ z. z.1) y.first y.rest))
       (λ x y k. rw (← k) (unary_seen y.signs y.atom.0 y.atom.1)) e
+
+  -- a cell, its node opened
+  node_seen : (n : List ℕ) (p : Pos) (o : Option Expr) (x : Expr)
+      → reference (at_cell to home (map-CellRef Atom AndExpr CellRef Compare Expr Product Sum Unary Atom AndExpr CellRef Compare Expr Product Sum Unary
+      (atom_replaced to home) (and_replaced to home) (cell_replaced to home) (compare_replaced to home) (expr_replaced to home)
+      (product_replaced to home) (sum_replaced to home) (unary_replaced to home) (record { name = n; pos = p; family = o; cell = x })))
+      ≡ reference_replaced to home (general.at_cell forms (map-CellRef Atom AndExpr CellRef Compare Expr Product Sum Unary Term Term Reference Term Term Term Term
+      Term atom_term and_term reference compare_term term product_term sum_term unary_term (record { name = n; pos = p; family = o; cell = x })))
+  node_seen n p None x =
+      cell_made (record { name = to n; pos = home p; family = None; cell = expr_replaced to home x })
+      ∙ (λ i. record { place = syntax.Alone (to n) (home p); cell = expr_seen x i })
+  node_seen n p (Some o) x =
+      cell_made (record { name = to n; pos = home p; family = Some (expr_replaced to home o); cell = expr_replaced to home x })
+      ∙ (λ i. record { place = syntax.Member (to n) (home p) (expr_seen o i); cell = expr_seen x i })
+
+  pub cell_seen : (c : CellRef) → reference (cell_replaced to home c) ≡ reference_replaced to home (reference c)
+  cell_seen c =
+      ap reference (fold_out-CellRef Atom AndExpr CellRef Compare Expr Product Sum Unary (at_atom to home) (at_and to home) (at_cell to home)
+      (at_compare to home) (at_expr to home) (at_product to home) (at_sum to home) (at_unary to home) c)
+      ∙ node_seen (out-CellRef c).name (out-CellRef c).pos (out-CellRef c).family (out-CellRef c).cell
+      ∙ sym (ap (reference_replaced to home) (fold_out-CellRef Term Term Reference Term Term Term Term Term (general.at_atom forms) (general.at_and forms)
+      (general.at_cell forms) (general.at_compare forms) (general.at_expr forms) (general.at_product forms) (general.at_sum forms)
+      (general.at_unary forms) c))

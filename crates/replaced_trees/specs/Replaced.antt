@@ -3,6 +3,7 @@ use Rattle.std.specs.Prelude.{ℕ, List, map, Option, Some, None}
 use Rattle.jade_base.specs.declared.place.Pos.{Pos}
 use Rattle.jade_syntax.specs.Abstract.{Name}
 use Rattle.jade_syntax.specs.Placed.{Term, Whole, Truth, Variable, Group, Signed, Chain, Cell, Links, Last, Link, Object, Alone, Member}
+use Rattle.jade_syntax.specs.PlacedImage.{Reference}
 use Rattle.jade_syntax.specs.declared.tree.Relation.{Relation}
 use Rattle.jade_syntax.specs.declared.tree.Number.{Number}
 use Rattle.jade_syntax.specs.declared.tree.ObjectRef.{ObjectRef}
@@ -112,3 +113,7 @@ module _ (to : Name → Name) (home : Pos → Pos) where
     pub place_replaced : Object → Object
     place_replaced (Alone x at) = Alone (to x) (home at)
     place_replaced (Member x at e) = Member (to x) (home at) (term_replaced e)
+
+  -- a cell: its object and its index
+  abbrev pub reference_replaced : Reference → Reference
+  reference_replaced r = record { place = place_replaced r.place; cell = term_replaced r.cell }
