@@ -12,3 +12,4 @@ mod Fresh
 mod Accepted
 mod RunExamples
 mod TreeImages
+mod TokensToSource

@@ -36,9 +36,9 @@ use Rattle.replaced_trees.proofs.SeenTerms.{expr_seen, cell_seen}
 use Rattle.proc_laws.specs.Source.{SourceAction}
 use Rattle.proc_laws.specs.Expansion.{renamed, renamed_links, renamed_place, Made, Expansions, expanded, expanded_all, declares, item_name, replaced, replacement}
 use Rattle.proc_laws.specs.Expansion.{call_made, and_call, all_expansions, no_expansions, expanded_program}
-use Rattle.proc_laws.specs.SourceReading as source
-use Rattle.proc_laws.specs.SourceReading.{HeadParam, Spoken, Spokens, SpokenProcedure, SourceText, param, procedure, spoken_action, spoken_actions}
-use Rattle.proc_laws.specs.SourceReading.{spoken_procedures, items_of, source_of}
+use Rattle.proc_laws.specs.SourceTree as source
+use Rattle.proc_laws.specs.SourceTree.{HeadParam, Spoken, Spokens, SpokenProcedure, SourceText, param, procedure, spoken_action, spoken_actions}
+use Rattle.proc_laws.specs.SourceTree.{spoken_procedures, items_of, source_of}
 use Rattle.proc_laws.specs.ExpandedTree.{expr_renamed, cell_renamed, object_renamed, named_renamed, truth_at, CallTrees, tree, trees, declared_at}
 use Rattle.proc_laws.specs.ExpandedTree.{call_tree, and_tree, all_trees, no_trees, expanded_tree}
 

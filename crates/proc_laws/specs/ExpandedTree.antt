@@ -19,7 +19,7 @@ use Rattle.jade_syntax.specs.Abstract.{Name}
 use Rattle.jade_syntax.specs.Numbering.{same_name}
 use Rattle.replaced_trees.specs.Replaced.{expr_replaced, cell_replaced, object_replaced}
 use Rattle.proc_laws.specs.Expansion.{Made, item_name, replaced, replacement}
-use Rattle.proc_laws.specs.SourceReading.{
+use Rattle.proc_laws.specs.SourceTree.{
   HeadParam,
   Spoken,
   Local,

@@ -2,6 +2,5 @@ pub mod Source
 pub mod SourceMeaning
 pub mod Expansion
 pub mod Moved
-pub mod SourceReading
+pub mod SourceTree
 pub mod ExpandedTree
-pub mod Agreement
