@@ -1,5 +1,5 @@
 -- What is kept of a node that is made, whatever is kept of each form.
-use Rattle.std.proofs.Common.{◌≡◌, List, [], Option, None, Bool, refl, ap, ◌∙◌, map}
+use Rattle.std.proofs.Common.{◌≡◌, List, Option, ap, ◌∙◌, map}
 use Rattle.jade_base.specs.declared.place.Pos.{Pos}
 use Rattle.jade_syntax.specs.declared.tree.Relation.{Relation}
 use Rattle.jade_syntax.specs.declared.tree.SumOp.{SumOp}

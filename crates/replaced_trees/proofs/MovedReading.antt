@@ -1,5 +1,5 @@
 -- Tokens at other places are read as the program with these.
-use Rattle.std.proofs.Common.{◌≡◌, ℕ, zero, suc, ◌+◌, ◌<◌, Bool, true, ◌&&◌, List, [], ◌∷◌, Option, Some, None, length, refl, ap, sym, ◌∙◌, map, arith, subst}
+use Rattle.std.proofs.Common.{◌≡◌, ℕ, zero, suc, ◌+◌, ◌<◌, ◌&&◌, List, [], ◌∷◌, Option, Some, None, length, refl, ap, sym, ◌∙◌, map, arith, subst}
 use Rattle.std.specs.Prelude.{nat_le}
 use Rattle.std.specs.List.{list_all}
 use Rattle.std.proofs.lemmas.List.{length-map}
@@ -11,8 +11,8 @@ use Rattle.jade_syntax.specs.declared.tree.Program.{Program}
 use Rattle.jade_parser.specs.Spelled.{Token, Fixed, Called, Counted, Unknown, Part, Parts, Agrees, KeptAt, pos_in, is_valid, tokens_of}
 use Rattle.jade_parser.specs.Kinds.{token_bytes}
 use Rattle.jade_parser.specs.Programs.{program_parts}
-use Rattle.jade_parser.specs.Grammar.{IsReading, bytes_of, texts, positions}
-use Rattle.replaced_trees.specs.Parts.{token_replaced, part_replaced, parts_replaced, kept_replaced}
+use Rattle.jade_parser.specs.Grammar.{IsReading, bytes_of}
+use Rattle.replaced_trees.specs.Parts.{token_replaced, parts_replaced, kept_replaced}
 use Rattle.replaced_trees.specs.MovedTree.{tree_moved, token_moved, tokens_moved}
 use Rattle.replaced_trees.proofs.MovedStatements.{program_spelt, body_stands}
 

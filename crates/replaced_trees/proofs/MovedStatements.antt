@@ -1,5 +1,5 @@
 -- A program whose places are replaced: its tokens, what it is seen as, and where its statements stand.
-use Rattle.std.proofs.Common.{◌≡◌, ℕ, Bool, true, ◌&&◌, List, [], ◌∷◌, ◌++◌, Option, Some, None, refl, ap, sym, ◌∙◌, map}
+use Rattle.std.proofs.Common.{◌≡◌, ℕ, true, ◌&&◌, List, [], ◌∷◌, ◌++◌, Option, Some, None, refl, ap, sym, ◌∙◌, map}
 use Rattle.std.specs.List.{flat_map, list_all}
 use Rattle.std.proofs.lemmas.List.{map-append}
 use Rattle.jade_base.specs.declared.place.Pos.{Pos}
@@ -8,7 +8,7 @@ use Rattle.jade_syntax.specs.declared.shapes.place.BlockKind.TheVariants.{Main, 
 use Rattle.jade_syntax.specs.declared.tree.Atom.{Atom}
 use Rattle.jade_syntax.specs.declared.tree.Atom.TheOpen.{CellRef-F}
 use Rattle.jade_syntax.specs.declared.tree.AndExpr.{AndExpr}
-use Rattle.jade_syntax.specs.declared.tree.CellRef.{CellRef, roll-CellRef, out-CellRef, out-roll-CellRef, fold_out-CellRef, map-CellRef}
+use Rattle.jade_syntax.specs.declared.tree.CellRef.{CellRef, out-CellRef, out-roll-CellRef, fold_out-CellRef, map-CellRef}
 use Rattle.jade_syntax.specs.declared.tree.Compare.{Compare}
 use Rattle.jade_syntax.specs.declared.tree.DeclareWord.{DeclareWord}
 use Rattle.jade_syntax.specs.declared.tree.DeclareWord.TheVariants.{Rd, Wr, RdWr, DfRd, DfWr, DfRdWr, Cm, NoRd, NoWr, NoRdWr}
@@ -29,7 +29,7 @@ use Rattle.jade_syntax.specs.Placed as syntax
 use Rattle.jade_syntax.specs.Placed.{Term, Links, Object, Mention, Phrase, Phrases}
 use Rattle.jade_syntax.specs.PlacedImage as placed
 use Rattle.jade_syntax.specs.PlacedImage.{forms, statement_forms, term, member, mentioned, phrase, phrases, reference, placed_program, Reference}
-use Rattle.jade_syntax.specs.Shapes.{is_placed, declares, is_main}
+use Rattle.jade_syntax.specs.Shapes.{is_placed, is_main}
 use Rattle.jade_syntax.proofs.Opened as opened
 use Rattle.jade_syntax.proofs.Placing as placing
 use Rattle.jade_parser.specs.declared.Sign.{Sign}
@@ -43,7 +43,7 @@ use Rattle.jade_parser.specs.Programs.{item_parts, program_parts}
 use Rattle.jade_reading.specs.Unplaced.{moved, moved_links, moved_object, moved_mention, moved_phrase, moved_phrases, moved_item, moved_program}
 use Rattle.replaced_trees.specs.Replaced.{at_atom, at_and, at_cell, at_compare, at_expr, at_product, at_sum, at_unary, expr_replaced, and_replaced}
 use Rattle.replaced_trees.specs.Replaced.{cell_replaced, compare_replaced, sum_replaced, product_replaced, unary_replaced, atom_replaced}
-use Rattle.replaced_trees.specs.Replaced.{index_replaced, term_replaced, links_replaced, place_replaced, reference_replaced}
+use Rattle.replaced_trees.specs.Replaced.{index_replaced, term_replaced, links_replaced, place_replaced}
 use Rattle.replaced_trees.specs.Parts.{part_replaced, parts_replaced}
 use Rattle.replaced_trees.specs.MovedTree.{expr_moved, cell_moved, object_moved, named_moved, layer_moved, statement_moved, tree_moved}
 use Rattle.replaced_trees.proofs.SeenTerms.{expr_seen, cell_seen}

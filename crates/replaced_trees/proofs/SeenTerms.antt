@@ -6,13 +6,13 @@ use Rattle.jade_syntax.specs.declared.tree.SumOp.{SumOp}
 use Rattle.jade_syntax.specs.declared.tree.ProductOp.{ProductOp}
 use Rattle.jade_syntax.specs.declared.tree.UnaryOp.{UnaryOp}
 use Rattle.jade_syntax.specs.declared.tree.Atom.{Atom, roll-Atom, fold-roll-Atom, map-Atom}
-use Rattle.jade_syntax.specs.declared.tree.Atom.TheOpen.{Atom-F, CellRef-F, Compare-F, AndExpr-F, Expr-F, Sum-F, Product-F}
-use Rattle.jade_syntax.specs.declared.tree.AndExpr.{AndExpr, roll-AndExpr, out-roll-AndExpr, fold-roll-AndExpr}
+use Rattle.jade_syntax.specs.declared.tree.Atom.TheOpen.{Atom-F, CellRef-F, Compare-F}
+use Rattle.jade_syntax.specs.declared.tree.AndExpr.{AndExpr, roll-AndExpr, fold-roll-AndExpr}
 use Rattle.jade_syntax.specs.declared.tree.CellRef.{CellRef, roll-CellRef, fold-roll-CellRef, map-CellRef, out-CellRef, fold_out-CellRef}
-use Rattle.jade_syntax.specs.declared.tree.Compare.{Compare, roll-Compare, out-roll-Compare, fold-roll-Compare, map-Compare}
-use Rattle.jade_syntax.specs.declared.tree.Expr.{Expr, roll-Expr, out-roll-Expr, fold-roll-Expr, ind-Expr}
-use Rattle.jade_syntax.specs.declared.tree.Product.{Product, roll-Product, out-roll-Product, fold-roll-Product}
-use Rattle.jade_syntax.specs.declared.tree.Sum.{Sum, roll-Sum, out-roll-Sum, fold-roll-Sum}
+use Rattle.jade_syntax.specs.declared.tree.Compare.{Compare, roll-Compare, fold-roll-Compare, map-Compare}
+use Rattle.jade_syntax.specs.declared.tree.Expr.{Expr, roll-Expr, fold-roll-Expr, ind-Expr}
+use Rattle.jade_syntax.specs.declared.tree.Product.{Product, roll-Product, fold-roll-Product}
+use Rattle.jade_syntax.specs.declared.tree.Sum.{Sum, roll-Sum, fold-roll-Sum}
 use Rattle.jade_syntax.specs.declared.tree.Unary.{Unary, fold_out-Unary}
 use Rattle.jade_syntax.specs.Abstract.{Name, Or, And, Relates, Adds, Multiplies}
 use Rattle.jade_syntax.specs.Placed as syntax
@@ -22,9 +22,9 @@ use Rattle.jade_syntax.specs.PlacedImage as placed
 use Rattle.jade_syntax.specs.PlacedImage.{Reference, Linked, forms, chained, compared, term, and_term, reference, compare_term, product_term, sum_term, unary_term, atom_term}
 use Rattle.jade_syntax.proofs.Opened as opened
 use Rattle.replaced_trees.proofs.Made.{and_made, expr_made, sum_made, product_made, compare_made}
-use Rattle.replaced_trees.specs.Replaced.{at_atom, at_and, at_cell, at_compare, at_expr, at_product, at_sum, at_unary, right_side}
+use Rattle.replaced_trees.specs.Replaced.{at_atom, at_and, at_cell, at_compare, at_expr, at_product, at_sum, at_unary}
 use Rattle.replaced_trees.specs.Replaced.{expr_replaced, and_replaced, cell_replaced, compare_replaced, sum_replaced, product_replaced}
-use Rattle.replaced_trees.specs.Replaced.{unary_replaced, atom_replaced, term_replaced, links_replaced, place_replaced, reference_replaced}
+use Rattle.replaced_trees.specs.Replaced.{unary_replaced, atom_replaced, term_replaced, links_replaced, reference_replaced}
 
 -- ---- what an atom and a cell that are made are seen as
 

@@ -1,5 +1,5 @@
 -- A whole tree with each place replaced by another, and tokens at other places.
-use Rattle.std.specs.Prelude.{List, map, Option}
+use Rattle.std.specs.Prelude.{map}
 use Rattle.jade_base.specs.declared.place.Pos.{Pos}
 use Rattle.jade_lexer.specs.Lexemes.{TokenAt, TokenList}
 use Rattle.jade_syntax.specs.declared.tree.CellRef.{CellRef}
