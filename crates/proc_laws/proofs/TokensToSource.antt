@@ -1,5 +1,5 @@
 -- Where tokens, each at its origin, are those of the tree of an expanded program, what they read as does what the source does.
-use Rattle.std.proofs.Common.{◌≡◌, ℕ, true, List, [], ◌∷◌, map, refl, sym, ap, ◌∙◌, subst}
+use Rattle.std.proofs.Common.{◌≡◌, ℕ, true, List, [], ◌∷◌, map, refl, sym, ap, ◌∙◌}
 use Rattle.std.specs.Prelude.{ℤ}
 use Rattle.jade_base.specs.declared.place.Pos.{Pos}
 use Rattle.jade_lexer.specs.Lexemes.{TokenList}

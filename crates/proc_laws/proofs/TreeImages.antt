@@ -30,10 +30,9 @@ use Rattle.jade_syntax.specs.PlacedImage as seen
 use Rattle.jade_syntax.specs.Image.{forms, statement_forms, expression, reference, object, member, action, block, program}
 use Rattle.jade_syntax.specs.Image as image
 use Rattle.jade_syntax.proofs.Opened as opened
-use Rattle.replaced_trees.specs.Replaced.{expr_replaced, index_replaced, term_replaced, links_replaced, place_replaced, reference_replaced}
+use Rattle.replaced_trees.specs.Replaced.{index_replaced, term_replaced, links_replaced, place_replaced}
 use Rattle.replaced_trees.proofs.Made.{expr_made, and_made, compare_made, sum_made, product_made}
 use Rattle.replaced_trees.proofs.SeenTerms.{expr_seen, cell_seen}
-use Rattle.proc_laws.specs.Source.{SourceAction}
 use Rattle.proc_laws.specs.Expansion.{renamed, renamed_links, renamed_place, Made, Expansions, expanded, expanded_all, declares, item_name, replaced, replacement}
 use Rattle.proc_laws.specs.Expansion.{call_made, and_call, all_expansions, no_expansions, expanded_program}
 use Rattle.proc_laws.specs.SourceTree as source
@@ -69,8 +68,10 @@ truth_is at =
   where
     product : Product
     product = roll-Product (record { first = record { signs = []; atom = roll-Atom (Atom-F.Truth true at) }; rest = [] })
+
     sum : Sum
     sum = roll-Sum (record { first = product; rest = [] })
+
     relation : Compare
     relation = roll-Compare (record { left = sum; right = None })
 
