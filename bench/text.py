@@ -1,6 +1,6 @@
 """What bench/text measures: `show` on generated texts."""
 import subprocess, sys, time
-program, work = sys.argv[1], sys.argv[2]
+program = sys.argv[1]
 PIECE = """for i in 0 .. %d {
 withonly { rd(block[7 * i %% 16]); rd_wr(block[(5 * i + 3) %% 16]); } do (i) { // a task
 for c in 0 .. 64 { if !(c == 3 || i < %d) && true {

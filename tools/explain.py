@@ -111,6 +111,8 @@ def why_fault(text, words, place, word, path):
     """What is told of a fault."""
     fault = same_fault(text, words, place, word, path)
     whose = "main" if path == "0" else f"the task {path}"
+    if not fault and words[0] == "run" and uses_cm(text):
+        return f"{FAULTS[word]} It is the first fault in serial order where the updates come as in this run, in {whose}."
     if not fault:
         return f"{FAULTS[word]} It is the first fault in serial order, in {whose}."
     return f"{FAULTS[word]} {fault.told}. It is the first fault in serial order, in {fault.task.told()}."

@@ -20,7 +20,7 @@ PLAIN = {"name": "a name", "number": "a number", "end": "the end of the text"}
 
 # Words of other languages at the begin of a statement.
 FOREIGN = {
-    **dict.fromkeys(("while", "until", "do", "loop", "repeat", "foreach"), "The only loop is `for i in low .. high { }`; a `while` becomes one with an `if` in it."),
+    **dict.fromkeys(("while", "until", "loop", "repeat", "foreach"), "The only loop is `for i in low .. high { }`; a `while` becomes one with an `if` in it."),
     **dict.fromkeys(("let", "var", "const", "auto", "mut", "static"), "A local begins with its kind and has a value: `int a = 0;` or `bool b = true;`."),
     **dict.fromkeys(("float", "double", "real", "string", "str", "String", "char", "long", "short", "unsigned", "i64", "u64"), "Values are ints of 64 bits and bools, and there are no others."),
     **dict.fromkeys(("return", "break", "continue", "goto"), "A body runs to its end: there is no `return`, `break` or `continue`."),

@@ -17,9 +17,6 @@ class Name:
     def __init__(self, kind, token, count=0, size=0):
         self.kind, self.token, self.count, self.size = kind, token, count, size
 
-    def is_number(self):
-        return self.kind in ("int", "input", "loop")
-
     def told(self):
         name = self.token.text
         return {

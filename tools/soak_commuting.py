@@ -14,10 +14,10 @@ of tables and workers. Some tasks count for a while first, so that commuting tas
 after others. The first program that differs is printed with its answers, and the script ends with 1.
 """
 import itertools
-import os
 import random
-import subprocess
 import sys
+
+from programs import built, run
 
 LIMIT = "1000000"
 MOST_ORDERS = 1500
@@ -336,11 +336,6 @@ def following(choices, counts):
     return None
 
 
-def run(jade, command, text):
-    done = subprocess.run([jade, *command, LIMIT], input=text.encode(), capture_output=True, timeout=60)
-    return done.returncode, done.stdout.decode()
-
-
 def made(number, seed):
     """A program with all texts that it may write; where there are too many, the next one that is made."""
     for attempt in range(1000):
@@ -359,14 +354,13 @@ def made(number, seed):
 def main():
     count = int(sys.argv[1]) if len(sys.argv) > 1 else 300
     seed = int(sys.argv[2]) if len(sys.argv) > 2 else 1
-    top = os.path.dirname(os.path.dirname(os.path.abspath(__file__)))
-    jade = sys.argv[3] if len(sys.argv) > 3 else os.path.join(top, "crates/jade/out/jade")
+    jade = sys.argv[3] if len(sys.argv) > 3 else built()
     open_ended, others = 0, 0
     for number in range(count):
         maker, body, serial, wanted = made(number, seed)
         text = text_of(maker.sizes, body)
         workers = str(number % 8 + 1)
-        first, got = run(jade, ["serial"], text), run(jade, ["run", workers], text)
+        first, got = (run([jade, *words, LIMIT], text, seconds=60).answer for words in (["serial"], ["run", workers]))
         open_ended += len(wanted) > 1
         others += got != first
         if first != (0, serial) or got[0] != 0 or got[1] not in wanted:

@@ -135,6 +135,8 @@ class Lanes:
     """The lanes, each with a copy of the sources in a folder of its own, and what they are at."""
 
     def __init__(self, room, count, crates):
+        # What is built is as old as the copies: a source that is changed later is newer.
+        self.copied = time.time()
         self.folders = [pathlib.Path(room) / f"lane-{number}" for number in range(1, count + 1)]
         self.idle, self.running = [*self.folders], {}
         for folder in self.folders:
@@ -188,9 +190,9 @@ class Lanes:
                     if (made / name).exists():
                         shutil.copy2(made / name, crate.folder / "out" / f"{name}.new")
                         os.replace(crate.folder / "out" / f"{name}.new", crate.folder / "out" / name)
-                os.utime(built(crate.name))
+                os.utime(built(crate.name), (self.copied, self.copied))
             else:
-                os.utime(crate.folder / "out/rlib/stamp")
+                os.utime(crate.folder / "out/rlib/stamp", (self.copied, self.copied))
         finally:
             os.close(held)
         for other in self.folders:

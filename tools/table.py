@@ -31,8 +31,9 @@ class Wrong(Exception):
 
 def counted(word, what, most):
     """A word as a number from 1 to the most."""
-    if not re.fullmatch(r"[1-9][0-9]*", word) or int(word) > most:
-        raise Wrong(f"{what} is a number from 1 to {most}, and not `{word}`")
+    # Python reads no decimal of thousands of digits.
+    if not re.fullmatch(r"[1-9][0-9]{0,18}", word) or int(word) > most:
+        raise Wrong(f"{what} is a number from 1 to {most}, and not `{word[:40]}`")
     return int(word)
 
 
@@ -52,8 +53,13 @@ def number_of(cell, where):
 
 def rows_of(text):
     """The rows of a table, each of as many numbers."""
-    rows = []
-    for place, line in enumerate(text.removeprefix("\ufeff").splitlines(), 1):
+    rows, lines = [], re.split(r"\r?\n", text.removeprefix("\ufeff"))
+    # The last line may be ended or not.
+    if not lines[-1]:
+        lines.pop()
+    if not lines:
+        raise Wrong("the table is empty")
+    for place, line in enumerate(lines, 1):
         if not line.strip():
             raise Wrong(f"line {place} is empty")
         row = [number_of(cell, f"line {place}, cell {at}") for at, cell in enumerate(line.split(","), 1)]

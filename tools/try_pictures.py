@@ -52,9 +52,9 @@ def shapes(svg):
             yield rect.get("data-of"), float(rect.get("width")), float(rect.get("height")), title
 
 
-def is_in_bounds(svg):
-    wide, high = map(int, re.match(r'<svg [^>]*width="([0-9]+)" height="([0-9]+)"', svg).groups())
-    return 100 < wide <= WIDEST and 100 < high <= HIGHEST
+def is_in_bounds(picture):
+    """Whether all of a picture is seen: what is drawn beyond the bounds is cut off."""
+    return 100 < picture.wide <= WIDEST and 100 < picture.high <= HIGHEST
 
 
 def is_to_scale(svg):
@@ -70,10 +70,11 @@ def tasks_in(svg):
     return sum(told.values())
 
 
-def faults_of(count, tasks, of_tasks, of_times):
-    """What is wrong with the pictures of a program, in words."""
-    if not is_in_bounds(of_tasks) or not is_in_bounds(of_times):
+def faults_of(count, tasks, pictures):
+    """What is wrong with the pictures of a program, in words: of its tasks, and of their times."""
+    if not all(map(is_in_bounds, pictures)):
         yield "a picture is too large, or empty"
+    of_tasks, of_times = (picture.svg() for picture in pictures)
     if count <= graph.MOST_TASKS:
         if not is_to_scale(of_tasks):
             yield "the boxes of the graph are not to scale"
@@ -90,8 +91,8 @@ def main():
         tasks = Tasks(graph.lines_of(built("task_graph"), ["100000000"], text))
         ran = run([built("time_line"), "4", "100000000"], text)
         picture = graph.drawn(tasks, [])
-        of_times = timeline.drawn(timeline.Times(tasks, ran.text.splitlines(), 4), []).svg()
-        faults = list(faults_of(count, tasks, picture.svg(), of_times))
+        of_times = timeline.drawn(timeline.Times(tasks, ran.text.splitlines(), 4), [])
+        faults = list(faults_of(count, tasks, (picture, of_times)))
         known = json.loads(re.search(r"const tasks = (.*), most = 200;", page(picture, tasks))[1])
         if len(tasks.tasks) != count or len(known) != count:
             faults.append(f"there are {len(tasks.tasks)} tasks, and {len(known)} in the page")

@@ -7,3 +7,4 @@ mod Uncommuting
 mod PlainContents
 mod KeyOrder
 mod LeftOrder
+mod FullLists

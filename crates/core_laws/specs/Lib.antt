@@ -5,3 +5,4 @@ pub mod PlainContents
 pub mod Room
 pub mod KeyOrder
 pub mod LeftOrder
+pub mod FullListsGoOn

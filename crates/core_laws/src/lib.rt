@@ -1,6 +1,6 @@
 //! What is proved of cores beside the laws of schedule_core: that picks decide what is played, what is
 //! left of a run and in which order it stands, contents by the place of a task in the serial order,
-//! and that a task's children can be counted.
+//! that full turn lists can be played to their end, and that a task's children can be counted.
 #![tactic(auto)]
 
 ghost use Rattle.std.specs.Prelude.{◌≡◌, ◌↔◌, false, ℕ, ℤ, List};
@@ -15,6 +15,7 @@ ghost use Rattle.schedule_core.specs.declared.steps.Seat.{Seat};
 ghost use Rattle.schedule_core.specs.Remains.{Remains};
 ghost use Rattle.schedule_core.specs.Soundness.{and_then};
 ghost use Rattle.core_laws.specs.ByPlace.{ContentsByPlace};
+ghost use Rattle.core_laws.specs.FullListsGoOn.{FullListsGoOn};
 ghost use Rattle.core_laws.specs.KeyOrder.{WorksStandByKey};
 ghost use Rattle.core_laws.specs.LeftOrder.{SomeLeftInOrder};
 ghost use Rattle.core_laws.specs.OnePlay.{PicksDecide};
@@ -87,4 +88,13 @@ pub fn left_in_order()
     jade_meaning::laws::keeps();
     schedule_core::laws::in_serial_order();
     works_stand_by_key();
+}
+
+/// Full turn lists that begin with the turns so far can be played to their end: while some task is
+/// live, one can go on in step with them, its next event allowed and, if that takes an object for
+/// commuting, its own turn the next one there; and once none is live, they are the turns so far.
+pub fn full_lists_go_on()
+    ensures { (p : Program) (ns : List ℤ) (limit : ℕ) → FullListsGoOn p ns limit }
+{
+    jade_meaning::laws::keeps();
 }

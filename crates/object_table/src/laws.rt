@@ -5,8 +5,8 @@ ghost use Rattle.jade_meaning.specs.Plan.{RunPlan};
 ghost use Rattle.object_table.specs.Apart.{HeldApart};
 ghost use Rattle.object_table.specs.Tries.{TriesChangeNothing};
 
-/// Of two passes that hold an object, one for writing or for commuting, the other holds it for
-/// reading, and its task stands before.
+/// Of two passes of live tasks that hold an object, one for writing or for commuting, the other holds
+/// it for reading, and its task stands before.
 pub fn held_apart()
     ensures { (key : RunPlan) → HeldApart key }
 {

@@ -21,11 +21,11 @@ use Rattle.schedule_core.specs.Fitting as fitting
 use Rattle.schedule_core.proofs.Splits.{covers_each}
 use Rattle.schedule_core.specs.Core.{put, is_out}
 use Rattle.jade_meaning.specs.Doing.{opened}
-use Rattle.schedule_core.specs.Sound.{Lessened, Orderly, may, Ready, Even, Planned, Settled}
+use Rattle.schedule_core.specs.Sound.{Narrowed, Orderly, may, Ready, Even, Planned, Settled}
 use Rattle.schedule_core.proofs.Calm.{put_either, mode_commutes}
 use Rattle.schedule_core.proofs.Front.{mode_reads, mode_writes}
 
-pub lessened_twice : (a b c : Rights) → Lessened a b → Lessened b c → Lessened a c
+pub lessened_twice : (a b c : Rights) → Narrowed a b → Narrowed b c → Narrowed a c
 lessened_twice a b c f g = record { reads = λ h. g.reads (f.reads h); writes = λ h. g.writes (f.writes h); commutes = λ h. g.commutes (f.commutes h) }
 
 -- a function that is changed from old to new, below x
@@ -72,7 +72,7 @@ module _ (s : Specification) (p : Holds) (c : Course) where
       go true e m k = (ap is_some ((st x).1 (omega arith)) ∙ w x e, m (stage_put new old x h None st (sym (a x e))))
       go false e m k = k (stage_skip new old x h st (b x e))
 
-  leave_all : (a : Specification) (new old : ℕ → Rights) (h : ℕ → Option Mode) → ((x : ℕ) → has_rights (rights_on a x) ≡ true → new x ≡ no_rights) → ((x : ℕ) → has_rights (rights_on a x) ≡ false → new x ≡ old x) → ((x : ℕ) → h x ≡ None) → ((x : ℕ) → Lessened (rights_on s x) no_rights) → ((x : ℕ) → has_rights (rights_on a x) ≡ true → has_rights (old x) ≡ true) → (n x : ℕ) (es : List Event) (r : ℕ → Rights) → Stage new old x r → ((k : ℕ → Rights) → Stage new old (x + n) k → Orderly s p c es k h) → Orderly s p c (flat_map (λ o. when (has_rights (rights_on a o)) (Leave o)) (numbers x n) ++ es) r h
+  leave_all : (a : Specification) (new old : ℕ → Rights) (h : ℕ → Option Mode) → ((x : ℕ) → has_rights (rights_on a x) ≡ true → new x ≡ no_rights) → ((x : ℕ) → has_rights (rights_on a x) ≡ false → new x ≡ old x) → ((x : ℕ) → h x ≡ None) → ((x : ℕ) → Narrowed (rights_on s x) no_rights) → ((x : ℕ) → has_rights (rights_on a x) ≡ true → has_rights (old x) ≡ true) → (n x : ℕ) (es : List Event) (r : ℕ → Rights) → Stage new old x r → ((k : ℕ → Rights) → Stage new old (x + n) k → Orderly s p c es k h) → Orderly s p c (flat_map (λ o. when (has_rights (rights_on a o)) (Leave o)) (numbers x n) ++ es) r h
   leave_all a new old h f g none less w zero x es r st on = on r (last_stage new old x r st)
   leave_all a new old h f g none less w (suc n) x es r st on =
       go (has_rights (rights_on a x)) refl (λ t. leave_all a new old h f g none less w n (suc x) es (put r x no_rights) t (λ k u. on k (next_stage new old x n k u))) (λ t. leave_all a new old h f g none less w n (suc x) es r t (λ k u. on k (next_stage new old x n k u)))
@@ -110,7 +110,7 @@ module _ (s : Specification) (p : Holds) (c : Course) where
       go true e m = taken (mode_of (rights_on a x)) refl e m
       go false e m = m h (stage_skip new old x h st (f' x e))
 
-  shift_all : (a b : Specification) (h : ℕ → Option Mode) → ((x : ℕ) → Lessened (rights_on b x) (rights_on a x)) → ((x : ℕ) → may (h x) (rights_on b x) ≡ true) → ((x : ℕ) → Lessened (rights_on s x) (rights_on b x)) → ((x : ℕ) → has_rights (rights_on b x) ≡ false → h x ≡ None) → (n x : ℕ) (es : List Event) (r : ℕ → Rights) → Stage (rights_on b) (rights_on a) x r → ((k : ℕ → Rights) → Stage (rights_on b) (rights_on a) (x + n) k → Orderly s p c es k h) → Orderly s p c (flat_map (λ o. shift (rights_on a o) (rights_on b o) o) (numbers x n) ++ es) r h
+  shift_all : (a b : Specification) (h : ℕ → Option Mode) → ((x : ℕ) → Narrowed (rights_on b x) (rights_on a x)) → ((x : ℕ) → may (h x) (rights_on b x) ≡ true) → ((x : ℕ) → Narrowed (rights_on s x) (rights_on b x)) → ((x : ℕ) → has_rights (rights_on b x) ≡ false → h x ≡ None) → (n x : ℕ) (es : List Event) (r : ℕ → Rights) → Stage (rights_on b) (rights_on a) x r → ((k : ℕ → Rights) → Stage (rights_on b) (rights_on a) (x + n) k → Orderly s p c es k h) → Orderly s p c (flat_map (λ o. shift (rights_on a o) (rights_on b o) o) (numbers x n) ++ es) r h
   shift_all a b h less mays bound none zero x es r st on = on r (last_stage (rights_on b) (rights_on a) x r st)
   shift_all a b h less mays bound none (suc n) x es r st on =
       go (same_rights (rights_on a x) (rights_on b x)) refl (has_rights (rights_on b x)) refl (λ k t. shift_all a b h less mays bound none n (suc x) es k t (λ k u. on k (next_stage (rights_on b) (rights_on a) x n k u)))
@@ -158,9 +158,9 @@ module _ (s : Specification) (p : Holds) (c : Course) where
       go : (q : Bool) → same_rights (rights_on a x) (rights_on b x) ≡ q → (w : Bool) → has_rights (rights_on b x) ≡ w → ((k : ℕ → Rights) → Stage (rights_on b) (rights_on a) (suc x) k → Orderly s p c (flat_map (λ o. shift (rights_on a o) (rights_on b o) o) (numbers (suc x) n) ++ es) k h) → Orderly s p c (((if q then [] else (if w then Shift x (rights_on b x) ∷ [] else Leave x ∷ [])) ++ flat_map (λ o. shift (rights_on a o) (rights_on b o) o) (numbers (suc x) n)) ++ es) r h
       go true e w f m = m r (stage_skip (rights_on b) (rights_on a) x r st (sym (same_are (rights_on a x) (rights_on b x) e)))
       go false e true f m =
-          (subst (λ z. Lessened (rights_on b x) z) (sym ((st x).1 (omega arith))) (less x), mays x, bound x, f, m (put r x (rights_on b x)) (stage_put (rights_on b) (rights_on a) x r (rights_on b x) st refl))
+          (subst (λ z. Narrowed (rights_on b x) z) (sym ((st x).1 (omega arith))) (less x), mays x, bound x, f, m (put r x (rights_on b x)) (stage_put (rights_on b) (rights_on a) x r (rights_on b x) st refl))
       go false e false f m =
-          (none x f, subst (λ z. Lessened (rights_on s x) z) (none_is (rights_on b x) f) (bound x), ap has_rights ((st x).1 (omega arith)) ∙ had (has_rights (rights_on a x)) refl e f, m (put r x no_rights) (stage_put (rights_on b) (rights_on a) x r no_rights st (sym (none_is (rights_on b x) f))))
+          (none x f, subst (λ z. Narrowed (rights_on s x) z) (none_is (rights_on b x) f) (bound x), ap has_rights ((st x).1 (omega arith)) ∙ had (has_rights (rights_on a x)) refl e f, m (put r x no_rights) (stage_put (rights_on b) (rights_on a) x r no_rights st (sym (none_is (rights_on b x) f))))
 
 -- what is planned
 held_past : (h : Holds) (o : ℕ) → length h ≤ o → held h o ≡ None
@@ -212,7 +212,7 @@ opened_proper (Creates child body on) spec h n p = p
 opened_proper (Changes new on) spec h n (proper_change none m p) = opened_proper on new (changed spec new h) n p
 opened_proper (Ends b) spec h n p = proper_end
 
-pub opened_less : (c : Course) (spec : Specification) (h : Holds) (n : ℕ) → Proper spec c → (o : ℕ) → Lessened (rights_on (opened c spec h n).spec o) (rights_on spec o)
+pub opened_less : (c : Course) (spec : Specification) (h : Holds) (n : ℕ) → Proper spec c → (o : ℕ) → Narrowed (rights_on (opened c spec h n).spec o) (rights_on spec o)
 opened_less (Reads o c on) spec h n p i = record { reads = λ x. x; writes = λ x. x; commutes = λ x. x }
 opened_less (Writes o c v on) spec h n p i = record { reads = λ x. x; writes = λ x. x; commutes = λ x. x }
 opened_less (Steps on) spec h n (proper_step p) i = opened_less on spec h (suc n) p i

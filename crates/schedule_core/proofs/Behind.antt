@@ -28,7 +28,7 @@ use Rattle.schedule_core.proofs.Soles.{proper_sole, bared_proper}
 use Rattle.schedule_core.proofs.Front.{waits_sole}
 use Rattle.schedule_core.proofs.Frame.{onwards_both, fronts_quiet}
 use Rattle.schedule_core.proofs.Keyed.{le_is}
-use Rattle.schedule_core.proofs.Order.{Earlier, earlier}
+use Rattle.schedule_core.proofs.Order.{Earlier, earlier, child_before}
 use Rattle.schedule_core.proofs.Keys.{NotFrom, lt_at, eq_at}
 use Rattle.schedule_core.proofs.Unborn.{own_within}
 
@@ -129,24 +129,38 @@ waits_elsewhere o κ (q ∷ ms) h g = go (eqb_tells q.object o) g (λ k. waits_e
     go (inl e) g f = absurd (let z : q ∷ group o ms ≡ [] = sym (ap (λ b. if b then q ∷ group o ms else group o ms) e.0) ∙ g in cc)
     go (inr e) g f = ((h.0, inl e.1), f (sym (ap (λ b. if b then q ∷ group o ms else group o ms) e.0) ∙ g))
 
--- all that is left, where nobody before a task may change the object
+-- nor before its next child
+pub later_child : (u : Live Bare) (us : List (Live Bare)) → Every (Apart u) us → Every (InOrder u) us
+    → Every (λ (v : Live Bare). BehindFrom ((u.path ++ u.part ∷ []) ++ 0 ∷ []) v.path v.part) us
+later_child u [] a e = tt
+later_child u (v ∷ us) a e = (
+  later_behind (u.path ++ u.part ∷ []) v.path 0 v.part (child_before u.path v.path u.part (earlier u.path v.path e.0))
+      (λ q is f. a.0 (u.path ++ u.part ∷ []) (record { rest = u.part ∷ []; is = refl; from = omega arith }) (record { rest = q; is = is; from = f })),
+  later_child u us a.1 e.1,
+)
+
+-- all that is left, where nobody before some tasks may change the object, and these make nothing before a key
+pub left_from_key : (t : ℕ → List Path) (size o : ℕ) (st : State) (κ : Path) (b us : List (Live Bare)) → st.roll ≡ b ++ us → Every Fit (b ++ us) → Every (λ s. writes_there o s ≡ false) b
+    → Every (λ (v : Live Bare). BehindFrom κ v.path v.part) us → Every (λ (m : Mark). Spares o m.deed ⊎ (is_before (m.path ++ m.children ∷ []) κ ≡ false)) (to_come t size st)
+left_from_key t size o st κ b us is fits calm later =
+    let w0 = world_of size st.contents in
+    let front = onwards t b w0 in
+    let rest = onwards t us front.world in
+    let ends = settle_all t (numbers 0 size) rest.world in
+    let PP : Mark → Type 0 = λ m. Spares o m.deed ⊎ (is_before (m.path ++ m.children ∷ []) κ ≡ false) in
+    let quiet = fronts_quiet t o b w0 (every_front Fit b us fits) calm refl tt in
+    let mine = all_behind t o κ us front.world (every_back Fit b us fits) later (waits_elsewhere o κ front.world.waiting quiet.2 quiet.1) in
+    let over = all_good t (P t o κ) (Q t o κ) Any (keep t o κ) (numbers 0 size) rest.world (every_any (numbers 0 size)) mine.1 in
+    let whole : to_come t size st ≡ front.marks ++ (rest.marks ++ ends.marks) = ap (λ us. (onwards t us w0).marks ++ (settle_all t (numbers 0 size) (onwards t us w0).world).marks) is
+    ∙ ap (λ (r : Ran). r.marks ++ (settle_all t (numbers 0 size) r.world).marks) (onwards_both t b us w0) ∙ append_assoc front.marks rest.marks ends.marks in
+    subst (Every PP) (sym whole) (every_append PP front.marks (rest.marks ++ ends.marks) (every_by (λ (m : Mark). Spares o m.deed) PP (λ m i. inl i) front.marks quiet.0)
+    (every_append PP rest.marks ends.marks mine.0 over.0))
+
+-- where nobody before a task may
 pub left_behind : (t : ℕ → List Path) (size o : ℕ) (st : State) (b l : List (Live Bare)) (u : Live Bare) → st.roll ≡ b ++ (u ∷ l) → Every Fit (b ++ (u ∷ l)) → Every (λ s. writes_there o s ≡ false) b
     → Every (Apart u) l → Every (InOrder u) l → Every (λ (m : Mark). Spares o m.deed ⊎ (is_before (m.path ++ m.children ∷ []) (u.path ++ u.part ∷ []) ≡ false)) (to_come t size st)
 left_behind t size o st b l u is fits calm far order =
-    let κ = u.path ++ u.part ∷ [] in
-    let w0 = world_of size st.contents in
-    let front = onwards t b w0 in
-    let rest = onwards t (u ∷ l) front.world in
-    let ends = settle_all t (numbers 0 size) rest.world in
-    let PP : Mark → Type 0 = λ m. Spares o m.deed ⊎ (is_before (m.path ++ m.children ∷ []) κ ≡ false) in
-    let quiet = fronts_quiet t o b w0 (every_front Fit b (u ∷ l) fits) calm refl tt in
-    let back = every_back Fit b (u ∷ l) fits in
-    let mine = all_behind t o κ (u ∷ l) front.world back (own_behind u.path u.part, later_from u l far order) (waits_elsewhere o κ front.world.waiting quiet.2 quiet.1) in
-    let over = all_good t (P t o κ) (Q t o κ) Any (keep t o κ) (numbers 0 size) rest.world (every_any (numbers 0 size)) mine.1 in
-    let whole : to_come t size st ≡ front.marks ++ (rest.marks ++ ends.marks) = ap (λ us. (onwards t us w0).marks ++ (settle_all t (numbers 0 size) (onwards t us w0).world).marks) is
-    ∙ ap (λ (r : Ran). r.marks ++ (settle_all t (numbers 0 size) r.world).marks) (onwards_both t b (u ∷ l) w0) ∙ append_assoc front.marks rest.marks ends.marks in
-    subst (Every PP) (sym whole) (every_append PP front.marks (rest.marks ++ ends.marks) (every_by (λ (m : Mark). Spares o m.deed) PP (λ m i. inl i) front.marks quiet.0)
-    (every_append PP rest.marks ends.marks mine.0 over.0))
+    left_from_key t size o st (u.path ++ u.part ∷ []) b (u ∷ l) is fits calm (own_behind u.path u.part, later_from u l far order)
 
 -- and so no work that is left
 pub works_behind : (o : ℕ) (p : Path) (n : ℕ) (ms : List Mark) → Every (λ (m : Mark). Spares o m.deed ⊎ (is_before (m.path ++ m.children ∷ []) (p ++ n ∷ []) ≡ false)) ms

@@ -181,7 +181,7 @@ module _ (proper : (p : AbstractProgram) (ns : List ℤ) (limit : ℕ) → Prope
           subst (λ q. Every (Behind q s.children) (works_on o (to_come rest (length (sizes p.items)) x.state))) path_is (subst (λ m. Every (Behind t.path m) (works_on o (to_come rest (length (sizes p.items)) x.state))) part_is
           (works_behind o t.path t.part (to_come rest (length (sizes p.items)) x.state) (left_behind rest (length (sizes p.items)) o x.state b l t roll_is fits (calm n h) (pairs_back Apart b t l far) (pairs_back InOrder b t l order))))
 
-    child_so : (i : ℕ) (s : Seat) → slice_get seats i ≡ Some s → (o : ℕ) (e : Entry) → find (child_path s.path s.children) (shelf_at ss o).queue ≡ Some e → (xs : Cells) → e.version ≡ Some xs
+    pub child_so : (i : ℕ) (s : Seat) → slice_get seats i ≡ Some s → (o : ℕ) (e : Entry) → find (child_path s.path s.children) (shelf_at ss o).queue ≡ Some e → (xs : Cells) → e.version ≡ Some xs
         → xs ≡ worked (upto (child_path s.path s.children) 0 (works_on o x.state.log)) (at_object zero o)
     child_so i s at o e found xs v =
         let sp = split_at seats x.state.roll i s x.shown.seated at in

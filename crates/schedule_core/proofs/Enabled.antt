@@ -20,6 +20,7 @@ use Rattle.schedule_core.specs.Plain.{on_shelf, Does, NotedIn, Reached}
 use Rattle.schedule_core.specs.Shown.{shelf_at}
 use Rattle.schedule_core.specs.Tells.{EntriesAreThere}
 use Rattle.schedule_core.specs.Soundness.{Spares, StaysEnabled}
+use Rattle.schedule_core.proofs.Changing.{widen}
 use Rattle.schedule_core.proofs.Showing.{path_same, same_is, shelf_here, shelf_there, keeper_none, keeper_is}
 use Rattle.schedule_core.proofs.Moves.{queue_taken}
 
@@ -204,7 +205,7 @@ module _ (p : Program) (ns : List ℤ) (limit : ℕ) (there : EntriesAreThere p 
       subst (λ z. Clear (shelf_at z o).queue) (sym does.1) (on_object o i (shifted s.path a) ss (λ j. ap (λ (z : ObjectView). z.queue) (shelf_here j (shifted s.path a) ss refl)) Clear h
       (λ x. changed q s.path m (with_rights a) (λ e. refl) (shelf_at ss o).queue (λ e f c. let same : may.entry ≡ e =
       some_entry may.entry e (sym may.there ∙ ap (λ j. find s.path (shelf_at ss j).queue) x ∙ f) in
-      not_now m (with_rights a e) e (calmer m (with_rights a e) e (subst (λ (z : Entry). Lessened a z.rights) same may.less)
+      not_now m (with_rights a e) e (calmer m (with_rights a e) e (subst (λ (z : Entry). Lessened a z.rights) same (widen a may.entry.rights may.less))
       (λ v. or_right (changes e.rights) (is_none e.version) v)) c) h))
   still (Leave i) first does spares h =
       subst (λ z. Clear (shelf_at z o).queue) (sym does.1) (on_object o i (left s.path) ss (λ j. ap (λ (z : ObjectView). z.queue) (shelf_here j (left s.path) ss refl)) Clear h

@@ -18,7 +18,7 @@ use Rattle.schedule_core.specs.Going.{world_of}
 use Rattle.schedule_core.proofs.Groups.{every_append, Leaves, Sole, after_set, after_both}
 use Rattle.schedule_core.proofs.Soles.{flat_leaves}
 use Rattle.schedule_core.proofs.Calm.{left_empty}
-use Rattle.schedule_core.proofs.Fills.{same_path_is}
+use Rattle.jade_meaning.proofs.Filling.{same_path_is}
 use Rattle.schedule_core.proofs.Idle.{Away, Sparing, less_false, none_commutes, false_true}
 use Rattle.schedule_core.proofs.Blind.{serial_blind}
 use Rattle.schedule_core.proofs.Front.{Front, Unseen, has_turn, own_mode, only_one, waits_sole, fit_sited, front_free, front_calm, settles_not}

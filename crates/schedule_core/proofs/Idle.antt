@@ -17,6 +17,7 @@ use Rattle.jade_meaning.specs.Proper.{Proper, proper_read, proper_write, proper_
 use Rattle.jade_meaning.specs.Laws.{Every}
 use Rattle.schedule_core.specs.Sound.{From, settling, awaits, left, left_from}
 use Rattle.schedule_core.proofs.Groups.{every_append, Strange, Leaves, Spares, Sole}
+pub use Rattle.jade_meaning.proofs.Uncommuted.{less_false, none_commutes}
 use Rattle.schedule_core.proofs.Splits.{covers_each, commutes_there, no_writes, no_commutes}
 use Rattle.schedule_core.proofs.Soles.{proper_sole, bared_proper}
 use Rattle.schedule_core.proofs.Running.{every_by, every_chosen, all_good, Good, run_good}
@@ -35,30 +36,6 @@ no_reads a b h e = go (is_there b.reads) (is_there a.reads) (is_there a.writes) 
 
 pub no_touch : (a b : Right) → is_there a ≡ false → is_there b ≡ false → is_immediate a || is_immediate b ≡ false
 no_touch a b e f = grind arith
-
-pub less_false : (a b : Bool) → (a ≡ true → b ≡ true) → b ≡ false → a ≡ false
-less_false true b f e = absurd (let t : b ≡ true = f refl in cc)
-less_false false b f e = refl
-
-pub no_commutes_from : (spec : Specification) (n a i : ℕ) → commuting_among spec (numbers a n) ≡ None → i < n → is_there (rights_on spec (a + i)).commutes ≡ false
-no_commutes_from spec zero a i h lt = absurd (omega arith)
-no_commutes_from spec (suc n) a i h lt = go (is_there (rights_on spec a).commutes) refl h i lt (λ j k l. no_commutes_from spec n (suc a) j k l)
-  where
-    go : (b : Bool) → is_there (rights_on spec a).commutes ≡ b → (if b then Some a else commuting_among spec (numbers (suc a) n)) ≡ None → (i : ℕ) → i < suc n → ((j : ℕ) → commuting_among spec (numbers (suc a) n) ≡ None → j < n → is_there (rights_on spec (suc a + j)).commutes ≡ false) → is_there (rights_on spec (a + i)).commutes ≡ false
-    go true e h i lt k = absurd (cc)
-    go false e h zero lt k = subst (λ z. is_there (rights_on spec z).commutes ≡ false) (sym (add-zero a)) e
-    go false e h (suc i) lt k =
-        let z : suc a + i ≡ a + suc i = omega arith in
-        subst (λ z. is_there (rights_on spec z).commutes ≡ false) z (k i h (omega arith))
-
-pub none_commutes : (spec : Specification) → commuting_on spec ≡ None → (o : ℕ) → is_there (rights_on spec o).commutes ≡ false
-none_commutes spec h o = go (nat_lt o (length spec)) refl
-  where
-    go : (b : Bool) → nat_lt o (length spec) ≡ b → is_there (rights_on spec o).commutes ≡ false
-    go true e =
-        let z : 0 + o ≡ o = omega arith in
-        subst (λ i. is_there (rights_on spec i).commutes ≡ false) z (no_commutes_from spec (length spec) 0 o h (ltb-true o (length spec) e))
-    go false e = ap (λ (a : Rights). is_there a.commutes) (get_or_past spec o no_rights (ltb-false o (length spec) e))
 
 pub touch_there : (r w r' w' : Right) → is_there r ≡ false → is_there w ≡ false → (is_immediate r && not (is_immediate r')) || (is_immediate w && not (is_immediate w')) ≡ false
 touch_there r w r' w' e f = grind arith

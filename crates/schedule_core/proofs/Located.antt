@@ -34,7 +34,7 @@ use Rattle.schedule_core.proofs.Idle.{Away, Apart_path, SoleStrange, strange_kee
 use Rattle.schedule_core.proofs.Running.{all_good}
 use Rattle.schedule_core.proofs.Front.{fronts_aside}
 use Rattle.schedule_core.proofs.Groups.{every_append}
-use Rattle.schedule_core.proofs.Fills.{same_self}
+use Rattle.jade_meaning.proofs.Filling.{same_self}
 use Rattle.schedule_core.proofs.Ascending.{asym, through}
 use Rattle.schedule_core.proofs.Keyed.{same_parts, notes_by_key}
 use Rattle.schedule_core.proofs.Follows.{deeds_both}

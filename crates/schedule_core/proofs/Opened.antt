@@ -16,7 +16,7 @@ use Rattle.jade_meaning.specs.Turns.{bared}
 use Rattle.schedule_core.specs.Core.{Cells, Live, Bare}
 use Rattle.jade_meaning.specs.Doing.{Doing, opened}
 use Rattle.jade_meaning.specs.Proper.{Proper, proper_read, proper_write, proper_step, proper_create, proper_change, proper_end}
-use Rattle.schedule_core.specs.Sound.{Fit, Lessened, Settled, Even, IsEnd, TakesOnly, settling, awaits, may}
+use Rattle.schedule_core.specs.Sound.{Fit, Narrowed, Settled, Even, IsEnd, TakesOnly, settling, awaits, may}
 use Rattle.schedule_core.proofs.Opens.{Plain, AllPlain, settling_both, none_settles, give_none, leave_none}
 use Rattle.schedule_core.proofs.Calm.{awaits_right, mode_commutes}
 use Rattle.schedule_core.proofs.Idle.{less_false, none_commutes, false_true}
@@ -148,7 +148,7 @@ module _ (P : Path) (K : ℕ) (R : ℕ → Rights) (H : ℕ → Option Mode) (V 
   pub fit_on : (c' : Course) (n k : ℕ) → Proper S c' → Even (length S) c' → Fit (live_of P k R H V (opened c' S A n))
   fit_on c' n k p even = record {
     proper = opened_proper c' S A n p;
-    less = λ o. subst (λ a. Lessened (rights_on d.spec o) a) (sym (s.rights o)) (opened_less c' S A n p o);
+    less = λ o. subst (λ a. Narrowed (rights_on d.spec o) a) (sym (s.rights o)) (opened_less c' S A n p o);
     holds = fit.holds;
     keeps = fit.keeps;
     reading = fit.reading;

@@ -8,7 +8,7 @@ use Rattle.std.proofs.lemmas.Bool.{ltb-true, ltb-false, eq-eqb, ne_eqb}
 use Rattle.jade_meaning.specs.Serial.{Path, Mark, same_path, marks_at}
 use Rattle.jade_meaning.specs.Laws.{Every}
 use Rattle.schedule_core.specs.Sorted.{key_le, key, insert, in_order}
-use Rattle.schedule_core.proofs.Fills.{same_self, same_path_is}
+use Rattle.jade_meaning.proofs.Filling.{same_self, same_path_is}
 use Rattle.schedule_core.proofs.Taken.{no_deeds}
 
 lt_is : (i j : ℕ) → i < j → nat_lt i j ≡ true

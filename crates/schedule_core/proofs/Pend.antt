@@ -12,7 +12,7 @@ use Rattle.jade_meaning.specs.Serial.{at_object}
 use Rattle.schedule_core.specs.Core.{Cells, Live, Bare, put, writes_there, quiet, is_out, content_for, version_or, if_read_only}
 use Rattle.jade_meaning.specs.Proper.{Proper}
 use Rattle.jade_meaning.specs.Laws.{Every}
-use Rattle.schedule_core.specs.Sound.{Within, Fit, Lessened, Orderly, Before, Apart, Fresh, TakesOnly, UpTo, OwnLast, only_commutes, settling, awaits, left, left_from, may, works_on, worked}
+use Rattle.schedule_core.specs.Sound.{Within, Fit, Narrowed, Orderly, Before, Apart, Fresh, TakesOnly, UpTo, OwnLast, only_commutes, settling, awaits, left, left_from, may, works_on, worked}
 use Rattle.schedule_core.specs.Onwards.{sees, sited, onwards}
 use Rattle.schedule_core.specs.Going.{world_of, Small, Going}
 use Rattle.schedule_core.proofs.Groups.{after_at}
@@ -141,7 +141,7 @@ other_left t c d w e es g k pends path part doing place =
     plain_left t (sited c w) g.waits g.commutes ∙ ap (λ z. R z (sees c 0 w.store)) (ap settling pends ∙ other_settles e k es) ∙ ap (R (settling es)) place ∙ ap (λ p. left_of t p c.part (record c.doing { pending = es }) (P (sees d 0 w.store))) (sym path) ∙ ap (λ n. left_of t d.path n (record c.doing { pending = es }) (P (sees d 0 w.store))) (sym part) ∙ ap (λ z. left_of t d.path d.part z (P (sees d 0 w.store))) (sym doing) ∙ sym (plain_left t (sited d w) a m)
 
 -- the clauses of Fit that such an event leaves alone
-pub other_fit : (c d : Live Bare) (e : Event) (es : List Event) → Fit c → Other e → c.doing.pending ≡ e ∷ es → d.doing ≡ record c.doing { pending = es } → ((o : ℕ) → Lessened (rights_on c.doing.spec o) (d.rights o)) → ((o : ℕ) → may (d.held o) (d.rights o) ≡ true) → ((o : ℕ) → is_some (d.versions o) ≡ true → writes_there o d ≡ true → d.held o ≡ Some Reading) → ((o : ℕ) → d.held o ≡ Some Reading → is_some (d.versions o) ≡ true) → Orderly c.doing.spec c.doing.plan c.doing.course es d.rights d.held → ((o : ℕ) → d.held o ≡ Some Commuting → c.held o ≡ Some Commuting) → Fit d
+pub other_fit : (c d : Live Bare) (e : Event) (es : List Event) → Fit c → Other e → c.doing.pending ≡ e ∷ es → d.doing ≡ record c.doing { pending = es } → ((o : ℕ) → Narrowed (rights_on c.doing.spec o) (d.rights o)) → ((o : ℕ) → may (d.held o) (d.rights o) ≡ true) → ((o : ℕ) → is_some (d.versions o) ≡ true → writes_there o d ≡ true → d.held o ≡ Some Reading) → ((o : ℕ) → d.held o ≡ Some Reading → is_some (d.versions o) ≡ true) → Orderly c.doing.spec c.doing.plan c.doing.course es d.rights d.held → ((o : ℕ) → d.held o ≡ Some Commuting → c.held o ≡ Some Commuting) → Fit d
 other_fit c d e es fit k pends doing less holds keeps reading orderly out =
     let g = goes_on c fit e k es pends in
     let w : awaits es ≡ None = sym (other_awaits e k es) ∙ sym (ap awaits pends) ∙ g.waits in
@@ -149,7 +149,7 @@ other_fit c d e es fit k pends doing less holds keeps reading orderly out =
     let m : commuting_on d.doing.spec ≡ None = ap (λ z. commuting_on z.spec) doing ∙ g.commutes in
     record {
       proper = subst (λ z. Proper z.spec z.course) (sym doing) fit.proper;
-      less = λ o. subst (λ z. Lessened (rights_on z.spec o) (d.rights o)) (sym doing) (less o);
+      less = λ o. subst (λ z. Narrowed (rights_on z.spec o) (d.rights o)) (sym doing) (less o);
       holds = holds;
       keeps = keeps;
       reading = reading;

@@ -12,7 +12,7 @@ use Rattle.jade_meaning.specs.Turns.{World, Ran, settle_all, first, run}
 use Rattle.jade_meaning.specs.Serial.{at_object}
 use Rattle.schedule_core.specs.Core.{Cells, Live, Bare, put, writes_there, quiet, content_for, version_or}
 use Rattle.jade_meaning.specs.Laws.{Every}
-use Rattle.schedule_core.specs.Sound.{Fit, Lessened, Orderly, Before, Apart, Fresh, only_commutes, settling, awaits, left, may}
+use Rattle.schedule_core.specs.Sound.{Fit, Narrowed, Orderly, Before, Apart, Fresh, only_commutes, settling, awaits, left, may}
 use Rattle.schedule_core.specs.Onwards.{sees, sited, onwards}
 use Rattle.schedule_core.specs.Going.{world_of, Small}
 use Rattle.schedule_core.proofs.Groups.{Sole, Aside, Strange}
@@ -46,7 +46,7 @@ or_cases true b a' b' f g h = ap (λ z. z || b') (f refl)
 or_cases false b true b' f g h = refl
 or_cases false b false b' f g h = g h
 
-pub rights_less : (x y : Rights) → Lessened x y → has_rights x ≡ true → has_rights y ≡ true
+pub rights_less : (x y : Rights) → Narrowed x y → has_rights x ≡ true → has_rights y ≡ true
 rights_less x y k h = or_cases _ _ _ _ (or_cases _ _ _ _ k.reads k.writes) k.commutes h
 
 -- Shift
@@ -66,8 +66,8 @@ module _ (f : ℕ → Cells) (b l : List (Live Bare)) (size : ℕ) (c : Live Bar
     ordered : Orderly c.doing.spec c.doing.plan c.doing.course (Shift o a ∷ es) c.rights c.held
     ordered = subst (λ z. Orderly c.doing.spec c.doing.plan c.doing.course z c.rights c.held) pends fit.orderly
 
-    less : (x : ℕ) → Lessened (put c.rights o a x) (c.rights x)
-    less x = put_either (λ y. Lessened y (c.rights x)) c.rights o a x (λ i. subst (λ z. Lessened a (c.rights z)) (sym i) ordered.0) (λ i. record { reads = λ h. h; writes = λ h. h; commutes = λ h. h })
+    less : (x : ℕ) → Narrowed (put c.rights o a x) (c.rights x)
+    less x = put_either (λ y. Narrowed y (c.rights x)) c.rights o a x (λ i. subst (λ z. Narrowed a (c.rights z)) (sym i) ordered.0) (λ i. record { reads = λ h. h; writes = λ h. h; commutes = λ h. h })
 
     fewer : (x : ℕ) → writes_there x shifted ≡ true → writes_there x c ≡ true
     fewer x h = or_cases _ _ _ _ (less x).writes (less x).commutes h
@@ -76,7 +76,7 @@ module _ (f : ℕ → Cells) (b l : List (Live Bare)) (size : ℕ) (c : Live Bar
     shift_follows small fresh = record {
       path = refl;
       part = refl;
-      fit = other_fit c shifted (Shift o a) es fit (shifts o a) pends refl (λ x. put_either (Lessened (rights_on c.doing.spec x)) c.rights o a x (λ i. subst (λ z. Lessened (rights_on c.doing.spec z) a) (sym i) ordered.2) (λ i. fit.less x)) (λ x. put_either (λ y. may (c.held x) y ≡ true) c.rights o a x (λ i. subst (λ z. may (c.held z) a ≡ true) (sym i) ordered.1) (λ i. fit.holds x)) (λ x v w. fit.keeps x v (fewer x w)) fit.reading ordered.4 (λ x h. h);
+      fit = other_fit c shifted (Shift o a) es fit (shifts o a) pends refl (λ x. put_either (Narrowed (rights_on c.doing.spec x)) c.rights o a x (λ i. subst (λ z. Narrowed (rights_on c.doing.spec z) a) (sym i) ordered.2) (λ i. fit.less x)) (λ x. put_either (λ y. may (c.held x) y ≡ true) c.rights o a x (λ i. subst (λ z. may (c.held z) a ≡ true) (sym i) ordered.1) (λ i. fit.holds x)) (λ x v w. fit.keeps x v (fewer x w)) fit.reading ordered.4 (λ x h. h);
       small = record { spec = small.spec; rights = λ x h. small.rights x (rights_less (put c.rights o a x) (c.rights x) (less x) h) };
       front = λ x. every_all (λ s. Before x s c → Before x s shifted) (λ s k. record { writing = k.writing; reading = k.reading; commuting = k.commuting; one = k.one }) b;
       behind = λ x. every_all (λ u. Before x c u → Before x shifted u) (λ u k. record {
@@ -151,8 +151,8 @@ module _ (f : ℕ → Cells) (b l : List (Live Bare)) (size : ℕ) (c : Live Bar
     ordered_l : Orderly c.doing.spec c.doing.plan c.doing.course (Leave o ∷ es) c.rights c.held
     ordered_l = subst (λ z. Orderly c.doing.spec c.doing.plan c.doing.course z c.rights c.held) pends fit.orderly
 
-    less_l : (x : ℕ) → Lessened (put c.rights o no_rights x) (c.rights x)
-    less_l x = put_either (λ y. Lessened y (c.rights x)) c.rights o no_rights x (λ i. record { reads = λ h. absurd (cc); writes = λ h. absurd (cc); commutes = λ h. absurd (cc) }) (λ i. record { reads = λ h. h; writes = λ h. h; commutes = λ h. h })
+    less_l : (x : ℕ) → Narrowed (put c.rights o no_rights x) (c.rights x)
+    less_l x = put_either (λ y. Narrowed y (c.rights x)) c.rights o no_rights x (λ i. record { reads = λ h. absurd (cc); writes = λ h. absurd (cc); commutes = λ h. absurd (cc) }) (λ i. record { reads = λ h. h; writes = λ h. h; commutes = λ h. h })
 
     fewer_l : (x : ℕ) → writes_there x gone ≡ true → writes_there x c ≡ true
     fewer_l x h = or_cases _ _ _ _ (less_l x).writes (less_l x).commutes h
@@ -172,7 +172,7 @@ module _ (f : ℕ → Cells) (b l : List (Live Bare)) (size : ℕ) (c : Live Bar
     leave_follows small fresh = record {
       path = refl;
       part = refl;
-      fit = other_fit c gone (Leave o) es fit (leaves o) pends refl (λ x. put_either (Lessened (rights_on c.doing.spec x)) c.rights o no_rights x (λ i. subst (λ z. Lessened (rights_on c.doing.spec z) no_rights) (sym i) ordered_l.1) (λ i. fit.less x)) (λ x. put_either (λ y. may (c.held x) y ≡ true) c.rights o no_rights x (λ i. ap (λ m. may m no_rights) (subst (λ z. c.held z ≡ None) (sym i) ordered_l.0)) (λ i. fit.holds x)) (λ x v w. fit.keeps x (kept_l x v).1 (fewer_l x w)) (λ x h. put_either (λ v. is_some v ≡ true) c.versions o None x (λ i. absurd (let z : None ≡ Some Reading = sym ordered_l.0 ∙ subst (λ z. c.held z ≡ Some Reading) i h in cc)) (λ i. fit.reading x h)) ordered_l.3 (λ x h. h);
+      fit = other_fit c gone (Leave o) es fit (leaves o) pends refl (λ x. put_either (Narrowed (rights_on c.doing.spec x)) c.rights o no_rights x (λ i. subst (λ z. Narrowed (rights_on c.doing.spec z) no_rights) (sym i) ordered_l.1) (λ i. fit.less x)) (λ x. put_either (λ y. may (c.held x) y ≡ true) c.rights o no_rights x (λ i. ap (λ m. may m no_rights) (subst (λ z. c.held z ≡ None) (sym i) ordered_l.0)) (λ i. fit.holds x)) (λ x v w. fit.keeps x (kept_l x v).1 (fewer_l x w)) (λ x h. put_either (λ v. is_some v ≡ true) c.versions o None x (λ i. absurd (let z : None ≡ Some Reading = sym ordered_l.0 ∙ subst (λ z. c.held z ≡ Some Reading) i h in cc)) (λ i. fit.reading x h)) ordered_l.3 (λ x h. h);
       small = record { spec = small.spec; rights = λ x h. small.rights x (rights_less (put c.rights o no_rights x) (c.rights x) (less_l x) h) };
       front = λ x. every_all (λ s. Before x s c → Before x s gone) (λ s k. record { writing = k.writing; reading = λ h. k.reading (kept_l x h).1; commuting = k.commuting; one = k.one }) b;
       behind = λ x. every_all (λ u. Before x c u → Before x gone u) (λ u k. record {

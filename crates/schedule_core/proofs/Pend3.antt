@@ -116,7 +116,7 @@ module _ (f : ℕ → Cells) (b l : List (Live Bare)) (size : ℕ) (c : Live Bar
       own_last = subst OwnLast pends fit.own_last;
       commuting = fit.commuting;
       reads = λ x y e i. has x (fit.reads x y (ap awaits pends ∙ e) i);
-      begun = λ y e. let k = fit.begun y (ap awaits pends ∙ e) in (k.0, k.1, subst (λ z. UpTo z) pends k.2, k.3);
+      begun = λ y e. let k = fit.begun y (ap awaits pends ∙ e) in (k.0, k.1, subst (λ z. UpTo z) pends k.2, k.3, k.4);
       turned = λ y e. let k = fit.turned y e in (subst (λ z. TakesOnly z) pends k.0, inr (waits y k.1), k.2);
     };
     small = record { spec = small.spec; rights = small.rights };
@@ -224,7 +224,7 @@ module _ (f : ℕ → Cells) (b l : List (Live Bare)) (size : ℕ) (c : Live Bar
       own_last = subst OwnLast pends fit.own_last;
       commuting = fit.commuting;
       reads = λ x y e i. absurd (false_true (is_there (c.rights o).writes) ((fit.begun y (ap awaits pends ∙ e)).3 o) there_w);
-      begun = λ y e. let k = fit.begun y (ap awaits pends ∙ e) in (k.0, k.1, subst (λ z. UpTo z) pends k.2, k.3);
+      begun = λ y e. let k = fit.begun y (ap awaits pends ∙ e) in (k.0, k.1, subst (λ z. UpTo z) pends k.2, k.3, k.4);
       turned = λ y e. let k = fit.turned y e in (subst (λ z. TakesOnly z) pends k.0, inr (waits y k.1), k.2);
     };
     small = record { spec = small.spec; rights = small.rights };

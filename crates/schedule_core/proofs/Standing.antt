@@ -20,7 +20,7 @@ use Rattle.jade_meaning.specs.Proper.{Proper, proper_read, proper_write, proper_
 use Rattle.schedule_core.specs.Core.{Cells, changes, touches, put, is_out, version_or, content_for, quietly, with_pending, going_on, child_of, value_in, mark}
 use Rattle.schedule_core.specs.Unplaced.{Live, State, event_done, deed_done}
 use Rattle.schedule_core.specs.Works.{Work, Wrote, Turned, works_on, work_on, worked}
-use Rattle.schedule_core.specs.Sound.{Within, Fit, Orderly, Ready, Before, Apart, Pairs, Fresh, Lessened, may}
+use Rattle.schedule_core.specs.Sound.{Within, Fit, Orderly, Ready, Before, Apart, Pairs, Fresh, Narrowed, may}
 use Rattle.schedule_core.proofs.Changing.{widen}
 use Rattle.schedule_core.specs.Fitting as fitting
 use Rattle.schedule_core.specs.More.{InOrder}
@@ -562,7 +562,7 @@ module _ (b l : List Live) (c : Live) (f : ℕ → Cells) (zero : Store) (log : 
     tt,
   )
     where
-      less : Lessened a (c.rights o)
+      less : Narrowed a (c.rights o)
       less = (order_at (Shift o a ∷ es) is).0
 
       wider : is_there a.reads || is_there a.writes ≡ true → touches_alone o c ≡ true

@@ -22,6 +22,7 @@ use Rattle.schedule_core.specs.Sound.{Has, Fit, Orderly, Settled, Even, IsEnd, T
 use Rattle.schedule_core.proofs.Opens.{settling_both}
 use Rattle.schedule_core.proofs.Opens as opens
 use Rattle.schedule_core.proofs.Soles.{fit_at}
+use Rattle.schedule_core.proofs.Splits.{commutes_there}
 use Rattle.schedule_core.proofs.Calm.{awaits_right, put_either}
 use Rattle.schedule_core.proofs.Idle.{none_commutes, false_true}
 use Rattle.schedule_core.proofs.Front.{own_mode}
@@ -35,6 +36,27 @@ takes_of child o = take_in (mode_of (rights_on child o)) o
 flat_both : (f : ℕ → List Event) (xs ys : List ℕ) → flat_map f (xs ++ ys) ≡ flat_map f xs ++ flat_map f ys
 flat_both f [] ys = refl
 flat_both f (x ∷ xs) ys = ap (λ z. f x ++ z) (flat_both f xs ys) ∙ sym (append_assoc (f x) (flat_map f xs) (flat_map f ys))
+
+-- each object has what a commuting task may have on it
+pub fits_each : (y x : ℕ) (spec : Specification) → commuting_on spec ≡ Some y → allows_commuting (Some y) spec ≡ true → fits_commuting y x (rights_on spec x) ≡ true
+fits_each y x spec e f = inside (nat_lt x (length spec)) refl (eqb_tells y x)
+  where
+    past : length spec ≤ x → rights_on spec x ≡ no_rights
+    past le = get_or_past spec x no_rights le
+
+    inside : (b : Bool) → nat_lt x (length spec) ≡ b → ((nat_eq y x ≡ true) × (y ≡ x)) ⊎ ((nat_eq y x ≡ false) × (y ≢ x)) → fits_commuting y x (rights_on spec x) ≡ true
+    inside true q k =
+        let z : 0 + x ≡ x = omega arith in
+        subst (λ i. fits_commuting y i (rights_on spec i) ≡ true) z (fit_at y spec (length spec) 0 x f (ltb-true x (length spec) q))
+    inside false q (inl k) =
+        let there : is_there (rights_on spec x).commutes ≡ true = subst (λ i. is_there (rights_on spec i).commutes ≡ true) k.1 (commutes_there spec (objects spec) y e) in
+        false_true (is_there (rights_on spec x).commutes) (ap (λ (a : Rights). is_there a.commutes) (past (ltb-false x (length spec) q))) there
+    inside false q (inr k) =
+        ap (fits_commuting y x) (past (ltb-false x (length spec) q))
+        ∙ ap (λ b. if b then not (is_there no_rights.reads) && not (is_there no_rights.writes) && is_immediate no_rights.commutes else (not (same_right no_rights.reads Right.Deferred) && not (is_there no_rights.writes) && not (is_there no_rights.commutes))) k.0
+
+same_object : (x y : ℕ) → Some x ≡ Some y → x ≡ y
+same_object x y e = cc
 
 -- what a commuting task may have on an object
 pub fits_on : (y x : ℕ) (spec : Specification) → allows_commuting (Some y) spec ≡ true → (is_there (rights_on spec x).writes ≡ false) × (x ≢ y → is_immediate (rights_on spec x).commutes ≡ false) × (x ≡ y → is_there (rights_on spec x).reads ≡ false)
@@ -256,7 +278,7 @@ module _ (child : Specification) (body : Course) (p : Proper child body) (even :
             own_last = ends_last y e fits;
             commuting = commutes y e fits (T y e fits).goes;
             reads = λ x z i j. inl (subst (Has x) (sym (own_settles y e fits)) (touched x j));
-            begun = λ z i. (refl, owns y e fits z (sym w ∙ i) (T y e fits).goes, up_to y e fits, λ x. (fits_on y x child fits).0);
+            begun = λ z i. (refl, owns y e fits z (sym w ∙ i) (T y e fits).goes, up_to y e fits, λ x. (fits_on y x child fits).0, λ x. subst (λ k. fits_commuting k x (rights_on child x) ≡ true) (same_object y z (sym w ∙ i)) (fits_each y x child e fits));
             turned = λ z i. turned y e fits z i (T y e fits).goes;
           }
         where

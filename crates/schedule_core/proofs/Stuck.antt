@@ -37,11 +37,11 @@ use Rattle.schedule_core.proofs.Showing.{blocked_is}
 use Rattle.schedule_core.proofs.Acts.{own_only}
 use Rattle.schedule_core.proofs.Mirrors.{Tidy, TidyLive, Kept, kept, sound_of, blocker_own}
 
-abbrev seen_as : Path → Rights → Option Mode → Option Cells → Entry
+abbrev pub seen_as : Path → Rights → Option Mode → Option Cells → Entry
 seen_as p a m v = record { path = p; rights = a; hold = m; version = v }
 
 -- of two lists the first entry with the content out
-holder_both : (es fs : List Entry) → holder_in es ≡ None → holder_in (es ++ fs) ≡ holder_in fs
+pub holder_both : (es fs : List Entry) → holder_in es ≡ None → holder_in (es ++ fs) ≡ holder_in fs
 holder_both [] fs h = refl
 holder_both (e ∷ es) fs h = go (takes_out e.hold) h (λ k. holder_both es fs k)
   where
@@ -51,7 +51,7 @@ holder_both (e ∷ es) fs h = go (takes_out e.hold) h (λ k. holder_both es fs k
     go false h f = f h
 
 -- a child in creation holds nothing
-born_out : (c : Course) (o : ℕ) (t : Live) → holder_in (born_slots c o t) ≡ None
+pub born_out : (c : Course) (o : ℕ) (t : Live) → holder_in (born_slots c o t) ≡ None
 born_out (Creates child body on) o t = go (enters_still o t.doing.pending) (touches (rights_on child o))
   where
     go : (x y : Bool) → holder_in (if x then [] else (if y then seen_as (t.path ++ t.part ∷ []) (rights_on child o) None (handed_on t o) ∷ [] else [])) ≡ None
@@ -64,7 +64,7 @@ born_out (Steps on) o t = refl
 born_out (Changes new on) o t = refl
 born_out (Ends b) o t = refl
 
-slot_home : (p : Path) (a : Rights) (m : Option Mode) (v : Option Cells) → is_out m ≡ false → holder_in (slot p a m v) ≡ None
+pub slot_home : (p : Path) (a : Rights) (m : Option Mode) (v : Option Cells) → is_out m ≡ false → holder_in (slot p a m v) ≡ None
 slot_home p a m v e = go (touches a)
   where
     go : (b : Bool) → holder_in (if b then seen_as p a m v ∷ [] else []) ≡ None
@@ -78,12 +78,12 @@ slot_out p a m v fs x e =
     ap (λ b. holder_in (list b ++ fs)) x ∙ ap (λ z. if z then Some (seen_as p a m v) else holder_in fs) e
 
 -- the first task with which the content is out
-data Out (o : ℕ) (roll : List Live) : Type 0 where
+pub data Out (o : ℕ) (roll : List Live) : Type 0 where
   home : holder_in (line o roll) ≡ None → Out o roll
   out : (b l : List Live) (u : Live) → roll ≡ b ++ (u ∷ l) → is_out (u.held o) ≡ true
       → holder_in (line o roll) ≡ Some (seen_as u.path (u.rights o) (u.held o) (u.versions o)) → Out o roll
 
-out_of : (o : ℕ) (roll : List Live) → Every Fit roll → Out o roll
+pub out_of : (o : ℕ) (roll : List Live) → Every Fit roll → Out o roll
 out_of o [] f = home refl
 out_of o (u ∷ us) f = go (is_out (u.held o)) refl (out_of o us f.1)
   where
@@ -106,7 +106,7 @@ out_of o (u ∷ us) f = go (is_out (u.held o)) refl (out_of o us f.1)
         out (u ∷ b) l v (ap (λ z. u ∷ z) i) k (flat (line o us) ∙ holder_both (slot u.path (u.rights o) (u.held o) (u.versions o)) (line o us) (slot_home u.path (u.rights o) (u.held o) (u.versions o) e) ∙ h)
 
 -- who has the content for commuting waits for nothing
-none_waits : (u : Live) (s : Seat) (ss : List ObjectView) (o : ℕ) → Sits s u → Fit u → u.held o ≡ Some Commuting → First (upcoming s.walker) (λ x. free_in x s.path ss ≡ true)
+pub none_waits : (u : Live) (s : Seat) (ss : List ObjectView) (o : ℕ) → Sits s u → Fit u → u.held o ≡ Some Commuting → First (upcoming s.walker) (λ x. free_in x s.path ss ≡ true)
 none_waits u s ss o sits fit h =
     subst (λ es. First es (λ e. free_in e s.path ss ≡ true)) (sym
     (ap (λ vs. drop s.walker.done (talk (task_of s.walker) vs)) (sym (append-nil s.walker.answers)) ∙ sits.known []))

@@ -15,7 +15,7 @@ use Rattle.schedule_core.specs.Sound.{settling, awaits, left, left_from, works_o
 use Rattle.schedule_core.specs.Onwards.{sees, sited, step, onwards, onwards_all}
 use Rattle.schedule_core.proofs.Groups.{Strange, Leaves, Spares, Sole, Aside}
 use Rattle.schedule_core.proofs.Ahead.{Skipped, its, Apart_by, Later, still, done, Else, by_store}
-use Rattle.schedule_core.proofs.Fills.{same_self, same_path_is}
+use Rattle.jade_meaning.proofs.Filling.{same_self, same_path_is}
 use Rattle.schedule_core.proofs.Taking.{Other, Behind, onwards_skips, all_later_too}
 
 -- the turn of a member passes what is of others

@@ -21,7 +21,7 @@ use Rattle.schedule_core.specs.Going.{world_of}
 use Rattle.schedule_core.proofs.Groups.{Leaves, Sole, Aside, after_at, after_both}
 use Rattle.schedule_core.proofs.Soles.{proper_clean, flat_leaves, cells_after, after_only}
 use Rattle.schedule_core.proofs.Calm.{mode_commutes}
-use Rattle.schedule_core.proofs.Fills.{same_self, same_path_is}
+use Rattle.jade_meaning.proofs.Filling.{same_self, same_path_is}
 use Rattle.schedule_core.proofs.Running.{every_by}
 use Rattle.schedule_core.proofs.Idle.{Away, away_self, false_true}
 use Rattle.schedule_core.proofs.Blind.{Alike, serial_blind, length_sees, length_kept, kept_at, set_at}

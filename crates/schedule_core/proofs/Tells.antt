@@ -220,13 +220,6 @@ may_changes (Some Commuting) a w m = go (is_there a.writes) m
     go true e = refl
     go false e = e
 
--- what a hold may have, as entries see it
-may_widen : (h : Option Mode) (a : Rights) → may h a ≡ true → fitting.may h a ≡ true
-may_widen None a m = refl
-may_widen (Some Reading) a m = m
-may_widen (Some Writing) a m = may_changes (Some Writing) a refl m
-may_widen (Some Commuting) a m = may_changes (Some Commuting) a refl m
-
 every_lone : (o : ℕ) (s : Live) (ts : List Live) → Every (Before o s) ts → Every (Lone o s) ts
 every_lone o s [] h = tt
 every_lone o s (t ∷ ts) h = (record { not_both = h.0.one }, every_lone o s ts h.1)
@@ -639,8 +632,8 @@ may_shift o a b l t far fits first =
       entry = record { path = t.path; rights = t.rights o; hold = t.held o; version = t.versions o };
       there = own_found o b l t far (touch_less a (t.rights o) (widen a (t.rights o) order.0) (touches_is a ∙ order.3));
       some = order.3;
-      less = widen a (t.rights o) order.0;
-      fits = may_widen (t.held o) a order.1;
+      less = order.0;
+      fits = order.1;
     }
 
 may_leave : (o : ℕ) (b l : List Live) (t : Live) → Pairs Apart (b ++ (t ∷ l)) → Every Fit (b ++ (t ∷ l)) → First (to_come t.doing []) (λ x. x ≡ Leave o)

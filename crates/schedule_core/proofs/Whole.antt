@@ -37,7 +37,7 @@ use Rattle.schedule_core.proofs.Enroll.{all_store, run_store}
 use Rattle.schedule_core.proofs.Deeds2.{opened_length}
 
 -- nobody waits, and nothing is settled
-settle_none : (t : ℕ → List Path) (os : List ℕ) (s : Store) → settle_all t os (record { store = s; waiting = [] }) ≡ record { marks = []; world = record { store = s; waiting = [] } }
+pub settle_none : (t : ℕ → List Path) (os : List ℕ) (s : Store) → settle_all t os (record { store = s; waiting = [] }) ≡ record { marks = []; world = record { store = s; waiting = [] } }
 settle_none t [] s = refl
 settle_none t (o ∷ os) s = settle_none t os s
 

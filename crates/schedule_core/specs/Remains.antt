@@ -23,7 +23,7 @@ use Rattle.task_roll.specs.declared.note.PartNote.{PartNote}
 use Rattle.schedule_core.specs.Notes.{note_of, note_key}
 use Rattle.schedule_core.specs.Plain.{Reached}
 use Rattle.schedule_core.specs.ByNumber.{shelf_at}
-use Rattle.schedule_core.specs.Sound.{Within}
+use Rattle.schedule_core.specs.Beneath.{Within}
 use Rattle.schedule_core.specs.Works.{Work, Wrote, Turned, works_on, worked}
 use Rattle.schedule_core.specs.Serially.{events_done}
 use Rattle.schedule_core.specs.Soundness.{and_then, turns_of}

@@ -13,7 +13,7 @@ use Rattle.object_shelf.specs.Whole.{is_out}
 pub use Rattle.object_shelf.specs.Takes.{MayTake}
 use Rattle.schedule_core.specs.declared.steps.Seat.{Seat}
 use Rattle.task_roll.specs.declared.note.PartNote.{PartNote}
-use Rattle.schedule_core.specs.Fitting.{Lessened, may}
+use Rattle.schedule_core.specs.Fitting.{Lessened, Narrowed, may}
 use Rattle.schedule_core.specs.Plain.{Reached}
 use Rattle.schedule_core.specs.ByNumber.{shelf_at}
 
@@ -45,7 +45,7 @@ pub record MayShift (p : List ℕ) (a : Rights) (es : List Entry) : Type 0 where
   pub entry : Entry
   pub there : find p es ≡ Some entry
   pub some : has_rights a ≡ true
-  pub less : Lessened a entry.rights
+  pub less : Narrowed a entry.rights
   pub fits : may entry.hold a ≡ true
 
 -- what a path's task finds where it has no rights on an object any more: its entry, without a hold

@@ -264,8 +264,9 @@ fn bad_place(raw: &Raw, own: usize, body: &Body) -> Option<usize>
     None
 }
 
-/// Code that keeps the rules of docs/CODE.md: each of its instructions is in range, whatever its
-/// slots hold. Contracts see what is in it.
+/// Code that keeps the rules of docs/CODE.md: whatever its slots hold, each instruction has its
+/// effect or its fault, but for a `Create` or `Commit` outside of its section. Contracts see what is
+/// in it.
 #[derive(Debug, Drop)]
 pub struct Code {
     raw: Raw,

@@ -1,5 +1,5 @@
 -- What a try comes to: a capsule before it, and what there is after it. Where no ask stands, the task goes on to its next one. Else the next
--- event of the ask is tried once: it is done, or the word of its place is taken, or an earlier task keeps the object that is asked for.
+-- event of the ask is tried once: it is done, or the word of its place is taken, or another task keeps the object that is asked for.
 use Rattle.std.specs.Prelude.{◌≡◌, ◌+◌, ◌%◌, ◌^◌, ℕ, Bool, false, List, [], ◌∷◌, Option, Some, None}
 use Rattle.jade_base.specs.declared.place.ObjectId.{ObjectId}
 use Rattle.jade_base.specs.declared.report.Blame.{Blame}
@@ -115,7 +115,8 @@ pub record Takes (a b : Carried) : Type 0 where
   pub took : Took object.0 mode content a.pass.shows b.pass.shows
   pub answered : Answered (record a.machine { at = supplied object.0 content a.machine.at; ask = None }) a b
 
--- A content was asked for, and the entry of an earlier task, as it was read in this try, keeps the object: nothing is done.
+-- A content was asked for, and an entry, as it was read in this try, keeps the object: one of an earlier task that conflicts, or else that of the
+-- task which has the content out: nothing is done.
 pub record Waits (object : ObjectId) (a b : Carried) : Type 0 where
   pub mode : Mode
   pub asked : a.machine.ask ≡ Some (ask.Take object mode)
@@ -194,7 +195,7 @@ pub record FindsTaken (a b : Carried) : Type 0 where
   pub read : b.pass.shows ≡ found_busy (place_of (roll_of a) event) a.pass.shows
   pub unmoved : Unmoved a b
 
--- a task that goes on and frees nothing: by what it did another may go on only past a version that it keeps since then
+-- a task that goes on and frees no object; what it takes for reading it keeps a version of since then
 pub data GoesOn (a b : Carried) : Type 0 where
   advances : Advances a b → GoesOn a b
   takes : Takes a b → GoesOn a b
