@@ -19,7 +19,8 @@ use Rattle.jade_syntax.specs.Placed as syntax
 use Rattle.jade_syntax.specs.Placed.{Term}
 use Rattle.jade_syntax.specs.Forms as general
 use Rattle.jade_syntax.specs.PlacedImage as placed
-use Rattle.jade_syntax.specs.PlacedImage.{Reference, Linked, forms, chained, compared, term, and_term, reference, compare_term, product_term, sum_term, unary_term, atom_term}
+use Rattle.jade_syntax.specs.PlacedImage.{Reference, Linked, forms, chained, compared}
+use Rattle.jade_syntax.specs.PlacedImage.{term, and_term, reference, compare_term, product_term, sum_term, unary_term, atom_term}
 use Rattle.jade_syntax.proofs.Opened as opened
 use Rattle.replaced_trees.proofs.Made.{and_made, expr_made, sum_made, product_made, compare_made}
 use Rattle.replaced_trees.specs.Replaced.{at_atom, at_and, at_cell, at_compare, at_expr, at_product, at_sum, at_unary}
@@ -276,7 +277,8 @@ module _ (to : Name → Name) (home : Pos → Pos) where
       → reference (at_cell to home (map-CellRef Atom AndExpr CellRef Compare Expr Product Sum Unary Atom AndExpr CellRef Compare Expr Product Sum Unary
       (atom_replaced to home) (and_replaced to home) (cell_replaced to home) (compare_replaced to home) (expr_replaced to home)
       (product_replaced to home) (sum_replaced to home) (unary_replaced to home) (record { name = n; pos = p; family = o; cell = x })))
-      ≡ reference_replaced to home (general.at_cell forms (map-CellRef Atom AndExpr CellRef Compare Expr Product Sum Unary Term Term Reference Term Term Term Term
+      ≡ reference_replaced to home (general.at_cell forms (map-CellRef Atom AndExpr CellRef Compare Expr Product Sum Unary
+      Term Term Reference Term Term Term Term
       Term atom_term and_term reference compare_term term product_term sum_term unary_term (record { name = n; pos = p; family = o; cell = x })))
   node_seen n p None x =
       cell_made (record { name = to n; pos = home p; family = None; cell = expr_replaced to home x })

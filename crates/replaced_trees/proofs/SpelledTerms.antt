@@ -23,7 +23,8 @@ use Rattle.jade_syntax.specs.declared.tree.Unary.{Unary, fold_out-Unary}
 use Rattle.jade_syntax.specs.Abstract.{Name}
 use Rattle.jade_parser.specs.declared.Sign.TheVariants.{LeftParen, RightParen, LeftBracket, RightBracket, OrSign, AndSign}
 use Rattle.jade_parser.specs.Spelled as spelled
-use Rattle.jade_parser.specs.Spelled.{Fixed, Called, Parts, marked, fixed, bracketed, numbered, outer, truth_word, relation_sign, sum_sign, product_sign, unary_sign}
+use Rattle.jade_parser.specs.Spelled.{Fixed, Called, Parts, marked, fixed, bracketed, numbered, outer}
+use Rattle.jade_parser.specs.Spelled.{truth_word, relation_sign, sum_sign, product_sign, unary_sign}
 use Rattle.jade_parser.specs.Spelled.{expr_parts, and_parts, cell_parts, compare_parts, sum_parts, product_parts, unary_parts, atom_parts}
 use Rattle.jade_parser.specs.Spelled.{or_part, and_part, sum_part, product_part, sign_part}
 use Rattle.jade_parser.proofs.Spelling as spelling
