@@ -1,6 +1,6 @@
 -- Worked rows of procedures and calls.
-use Rattle.std.specs.Prelude.{◌≡◌, ℕ, List, map, codes, Option, Some, None, refl}
-use Rattle.jade_lexer.specs.Lexemes.{TokenAt, TokenList}
+use Rattle.std.specs.Prelude.{◌≡◌, ℕ, List, codes, Option, Some, None, refl}
+use Rattle.jade_lexer.specs.Lexemes.{TokenList}
 use Rattle.jade_lexer.specs.Reading.{reading, Reading, Whole, Refused}
 use Rattle.proc_expand.specs.declared.refusal.Reason.{Reason}
 use Rattle.proc_expand.specs.declared.refusal.Reason.TheVariants.{Shape, Unknown, Count, Twice}

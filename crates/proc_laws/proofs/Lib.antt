@@ -11,3 +11,5 @@ mod Faultless
 mod Fresh
 mod Accepted
 mod RunExamples
+mod TreeImages
+mod TokensToSource

@@ -2,5 +2,5 @@ pub mod Source
 pub mod SourceMeaning
 pub mod Expansion
 pub mod Moved
-pub mod SourceReading
-pub mod Agreement
+pub mod SourceTree
+pub mod ExpandedTree

@@ -2,6 +2,11 @@
 
 ghost use Rattle.std.specs.Prelude.{◌≡◌, ℕ, List, [], ℤ, map, not, true};
 ghost use Rattle.jade_base.specs.declared.place.Pos.{Pos};
+ghost use Rattle.jade_lexer.specs.Lexemes.{TokenList};
+ghost use Rattle.jade_parser.specs.Grammar.{IsReading};
+ghost use Rattle.jade_syntax.specs.declared.tree.Program.{Program};
+ghost use Rattle.jade_syntax.specs.PlacedImage.{placed_program};
+ghost use Rattle.replaced_trees.specs.MovedTree.{tokens_moved};
 ghost use Rattle.jade_syntax.specs.Erased.{erased_program};
 ghost use Rattle.jade_syntax.specs.Placed.{PlacedProgram};
 ghost use Rattle.jade_syntax.specs.StaticFaults.{static_faults};
@@ -10,9 +15,15 @@ ghost use Rattle.proc_expand.specs.Written.{fresh_name};
 ghost use Rattle.jade_meaning.specs.Course.{root_course};
 ghost use Rattle.jade_syntax.specs.Abstract.{Name};
 ghost use Rattle.proc_laws.specs.Source.{SourceProgram};
+ghost use Rattle.proc_laws.specs.SourceTree.{SourceText, source_of};
+ghost use Rattle.proc_laws.specs.ExpandedTree.{expanded_tree};
+ghost use Rattle.jade_syntax.specs.Image.{program};
 ghost use Rattle.proc_laws.specs.SourceMeaning.{source_course};
 ghost use Rattle.proc_laws.specs.Expansion.{AreFresh, Each, block_names, expanded_program, sets_all, item_name};
 ghost use Rattle.proc_expand.specs.Names.{is_among};
+
+use erased_places::laws::erased_is_program;
+use jade_reading::laws::one_tree;
 
 /// A law of programs with procedures, which does nothing: where the expanded program declares, hands
 /// to a task and assigns no item, it does what its source does.
@@ -22,6 +33,15 @@ pub fn expanded_does_as_its_source()
         → (numbers : List ℤ) → (limit : ℕ)
         → root_course (expanded_program fresh p) numbers limit ≡ source_course p numbers limit }
 {}
+
+/// A law of programs with procedures, which does nothing: the tree of an expanded program is the
+/// expansion of its source.
+pub fn tree_is_the_expansion()
+    ensures { (fresh : ℕ → Name) → (q : SourceText)
+        → program (expanded_tree fresh q) ≡ expanded_program fresh (source_of q) }
+{
+    erased_is_program();
+}
 
 /// A law of programs with procedures, which does nothing: where a program is the expansion of a source
 /// but for its places, its new names are those that the source's text leaves free, and it has no
@@ -35,3 +55,20 @@ pub fn accepted_does_as_its_source()
         → (numbers : List ℤ) → (limit : ℕ)
         → moved_course origin (root_course (erased_program p) numbers limit) ≡ source_course q numbers limit }
 {}
+
+/// A law of programs with procedures, which does nothing: where tokens, each at its origin, read as
+/// the tree of an expanded program whose new names are those that the source's text leaves free,
+/// then any program without static faults that the tokens read as where they stand does what the
+/// source does, with its faults at their origins.
+pub fn tokens_do_as_their_source()
+    ensures { (origin : Pos → Pos) → (names : List Name) → (q : SourceText)
+        → ((x : Name) → is_among (map item_name (source_of q).items) x ≡ true → is_among names x ≡ true)
+        → ((x : Name) → is_among (block_names (source_of q).main) x ≡ true → is_among names x ≡ true)
+        → (tokens : TokenList) → IsReading (tokens_moved origin tokens) (expanded_tree (fresh_name names) q)
+        → (p : Program) → IsReading tokens p → static_faults (placed_program p) ≡ []
+        → (numbers : List ℤ) → (limit : ℕ)
+        → moved_course origin (root_course (program p) numbers limit) ≡ source_course (source_of q) numbers limit }
+{
+    erased_is_program();
+    one_tree();
+}

@@ -1,0 +1,5 @@
+pub mod Made
+pub mod SeenTerms
+pub mod SpelledTerms
+pub mod MovedStatements
+pub mod MovedReading
