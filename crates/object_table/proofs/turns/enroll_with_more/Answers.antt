@@ -1,4 +1,4 @@
-use Rattle.std.proofs.Common.{rules, ℕ, ◌≡◌, ◌+◌, ◌<◌, ◌≤◌, ◌⊎◌, ◌∙◌, ap, sym, subst, inr, arith}
+use Rattle.std.proofs.Common.{rules, ℕ, ◌≡◌, ◌+◌, ◌<◌, ◌≤◌, ◌∙◌, ap, sym, subst, inr, arith}
 use Rattle.schedule_core.specs.declared.steps.Seat.{Seat as Place}
 use Rattle.jade_meaning.specs.Talk.{Enroll}
 use Rattle.object_table.specs.Views.{View}
