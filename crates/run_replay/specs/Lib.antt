@@ -1,0 +1,2 @@
+-- What only serves the contracts of private functions.
+pub mod steps
