@@ -3,12 +3,14 @@ use Rattle.std.proofs.Common.{◌≡◌, ◌≢◌, ℕ, ◌<◌, ◌≤◌, tru
 use Rattle.std.specs.Fmt.{decimal, signed_decimal}
 use Rattle.std.proofs.lemmas.Fmt.{decimal_injective, signed_decimal_injective, decimal_digit}
 use Rattle.std.proofs.lemmas.List.{append_cancel_left}
-use Rattle.run_record.specs.Pieces.{each_after, is_number, path_text, IsPath}
+use Rattle.number_words.specs.Numbers.{is_number}
+use Rattle.run_record.specs.Pieces.{each_after, path_text, IsPath}
 use Rattle.run_record.specs.declared.paths.Unfit.{Unfit}
 use Rattle.run_record.specs.declared.paths.Unfit.TheVariants.{Form, Memory}
 use Rattle.run_record.specs.steps.Unfit.{NoPath, NoPaths}
 use Rattle.run_record.specs.steps.Cutting.{IsPiece}
-use Rattle.run_record.proofs.Bytes.{lacks, decimal_above, signed_above, small, path_above}
+use Rattle.number_words.proofs.Signed.{small}
+use Rattle.run_record.proofs.Bytes.{lacks, decimal_above, signed_above, path_above}
 use Rattle.run_record.proofs.Spellings.{Spells, Read, read_more, next_is, none_left, nothing_read, spelled_once}
 
 -- a number of a path

@@ -1,5 +1,5 @@
 -- Texts made of pieces with a byte before each, and how numbers and paths are spelled.
-use Rattle.std.specs.Prelude.{◌≡◌, ◌≢◌, ℕ, ◌<◌, ◌≤◌, Bool, true, List, [], ◌∷◌, ◌++◌, length, map, ℤ, pos, negsuc, nat_le, All}
+use Rattle.std.specs.Prelude.{◌≡◌, ◌≢◌, ℕ, ◌<◌, ◌≤◌, true, List, [], ◌∷◌, ◌++◌, length, map, All}
 use Rattle.std.specs.Fmt.{decimal}
 use Rattle.jade_alphabet.specs.Letters.{is_word}
 
@@ -11,11 +11,6 @@ Lacks c text = All (λ b. b ≢ c) text
 abbrev pub each_after : ℕ → List (List ℕ) → List ℕ
 each_after c [] = []
 each_after c (piece ∷ pieces) = c ∷ (piece ++ each_after c pieces)
-
--- from -9,223,372,036,854,775,808 to 9,223,372,036,854,775,807
-abbrev pub is_number : ℤ → Bool
-is_number (pos n) = nat_le n 9223372036854775807
-is_number (negsuc n) = nat_le n 9223372036854775807
 
 -- a task's path with dots, as 0.1.2
 abbrev pub path_text : List ℕ → List ℕ

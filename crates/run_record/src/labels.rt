@@ -6,7 +6,7 @@ ghost use Rattle.run_record.specs.Pieces.{IsLabel};
 ghost use Rattle.run_record.specs.steps.Cutting.{IsIndex};
 
 use crate::pieces::cut;
-use crate::words::number_of;
+use number_words::number_of;
 use jade_alphabet::is_word;
 
 /// Whether bytes are an index in brackets.

@@ -11,7 +11,6 @@ pub mod recorded;
 #[cfg(test)]
 mod tests;
 pub mod turns;
-mod words;
 pub mod write;
 
 pub use read::{ReadError, read_record};

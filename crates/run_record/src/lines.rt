@@ -9,7 +9,7 @@ use crate::labels::is_label;
 use crate::paths::{Unfit, paths_of};
 use crate::pieces::{after, cut, next_piece};
 use crate::turns::LabelledTurn;
-use crate::words::{number_of, signed_of};
+use number_words::{number_of, signed_of};
 use jade_base::{Memory, Numbers, Word};
 use std::alloc::Global;
 

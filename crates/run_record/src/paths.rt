@@ -6,7 +6,7 @@ ghost use Rattle.run_record.specs.Pieces.{IsPath, each_after, path_text};
 ghost use Rattle.run_record.specs.steps.Unfit.{NoPath, NoPaths};
 
 use crate::pieces::{after, next_piece};
-use crate::words::number_of;
+use number_words::number_of;
 use itoa::Buffer;
 use jade_base::{Memory, Path, PathList};
 use jade_list::sequence::Sequence;

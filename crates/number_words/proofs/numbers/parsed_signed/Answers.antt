@@ -1,6 +1,6 @@
 use Rattle.std.proofs.Common.{ap, Some}
-use Rattle.run_record.proofs.Signed.{parse_gives, ok_is, read_back}
-use Rattle.run_record.proofs.words.parsed_signed.Goals as goal
+use Rattle.number_words.proofs.Signed.{parse_gives, ok_is, read_back}
+use Rattle.number_words.proofs.numbers.parsed_signed.Goals as goal
 
 pub returns-in-Ok : goal.returns-in-Ok
 returns-in-Ok c z h spelled =

@@ -1,8 +1,8 @@
-//! Numbers as they are spelled: in decimal, without a needless zero.
+//! The number that a word spells.
 
 ghost use Rattle.std.specs.Prelude.{◌≡◌, ℕ, ◌<◌, ◌^◌, ◌↔◌, true, ℤ, Some, IfSome, IsTrue};
 ghost use Rattle.std.specs.Fmt.{decimal, signed_decimal};
-ghost use Rattle.run_record.specs.Pieces.{is_number};
+ghost use Rattle.number_words.specs.Numbers.{is_number};
 
 use itoa::Buffer;
 use std::str;
@@ -26,7 +26,7 @@ fn spells(word: &[u8], number: u32) -> bool
 }
 
 /// The number that a word spells in decimal, without a needless zero.
-pub(crate) fn number_of(word: &[u8]) -> Option<u32>
+pub fn number_of(word: &[u8]) -> Option<u32>
     ensures some { IfSome result (λ n. word.now ≡ decimal n) }
     ensures fits { IfSome result (λ n. n < 4294967296) }
     ensures exact { (n : ℕ) → n < 4294967296 → word.now ≡ decimal n → result ≡ Some n }
@@ -59,7 +59,7 @@ fn spells_signed(word: &[u8], number: i64) -> bool
 }
 
 /// The number with its sign that a word spells in decimal, without a needless zero.
-pub(crate) fn signed_of(word: &[u8]) -> Option<i64>
+pub fn signed_of(word: &[u8]) -> Option<i64>
     ensures some { IfSome result (λ z. word.now ≡ signed_decimal z) }
     ensures fits { IfSome result (λ z. is_number z ≡ true) }
     ensures exact { (z : ℤ) → is_number z ≡ true → word.now ≡ signed_decimal z → result ≡ Some z }

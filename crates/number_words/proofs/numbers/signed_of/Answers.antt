@@ -2,8 +2,8 @@ use Rattle.std.proofs.Common.{subst, sym}
 use Rattle.std.specs.Str.{IsUtf8}
 use Rattle.std.proofs.lemmas.Fmt.{IsAscii-signed}
 use Rattle.std.proofs.lemmas.Str.{IsUtf8-from_ascii}
-use Rattle.run_record.proofs.Signed.{small}
-use Rattle.run_record.proofs.words.signed_of.Goals as goal
+use Rattle.number_words.proofs.Signed.{small}
+use Rattle.number_words.proofs.numbers.signed_of.Goals as goal
 
 pub returns-in-Err-clause-exact : goal.returns-in-Err-clause-exact
 returns-in-Err-clause-exact c z h spelled =

@@ -7,7 +7,7 @@ use Rattle.std.specs.Fmt.{signed_decimal}
 use Rattle.std.specs.Str.Parse.{ParsesSigned}
 use Rattle.std.proofs.lemmas.Bool.{leb-true, le-leb}
 use Rattle.std.proofs.lemmas.Fmt.{parse-signed_decimal}
-use Rattle.run_record.specs.Pieces.{is_number}
+use Rattle.number_words.specs.Numbers.{is_number}
 
 -- a number is one that has 64 bits with its sign
 pub small : (z : ℤ) → is_number z ≡ true → mag z < 2 ^ 63
