@@ -1,5 +1,5 @@
 -- Texts made of pieces with a byte before each, and how numbers and paths are spelled.
-use Rattle.std.specs.Prelude.{◌≡◌, ◌≢◌, ℕ, ◌<◌, ◌≤◌, true, List, [], ◌∷◌, ◌++◌, length, map, All}
+use Rattle.std.specs.Prelude.{◌≡◌, ◌≢◌, ℕ, ◌<◌, true, List, [], ◌∷◌, ◌++◌, map, All}
 use Rattle.std.specs.Fmt.{decimal}
 use Rattle.jade_alphabet.specs.Letters.{is_word}
 
@@ -17,12 +17,11 @@ abbrev pub path_text : List ℕ → List ℕ
 path_text [] = []
 path_text (k ∷ more) = decimal k ++ each_after 46 (map decimal more)
 
--- a path of the root's descendants: 0, and then at most 63 numbers below 4,294,967,296. No task has a longer one, as at most 64 brackets are open in a text
+-- a path of the root or of one of its descendants: 0, and then numbers below 4,294,967,296
 pub record IsPath (path : List ℕ) : Type 0 where
   pub more : List ℕ
   pub root : path ≡ 0 ∷ more
   pub fit : All (λ k. k < 4294967296) more
-  pub few : length more ≤ 63
 
 -- what an object may be called: a word, or for a family's member a word and its index in brackets
 pub data IsLabel (label : List ℕ) : Type 0 where
