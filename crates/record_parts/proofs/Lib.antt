@@ -1,3 +1,5 @@
+pub mod Apart
 pub mod Cutting
+pub mod Matching
 pub mod Naming
 pub mod Spelling

@@ -1,13 +1,13 @@
 -- Turns on objects by their labels.
-use Rattle.std.proofs.Common.{◌≡◌, ◌≢◌, ℕ, zero, suc, ◌+◌, add-zero, add-one, append_assoc, append-nil, length-append, slice_index_or, ◌<◌, ◌≤◌, List, [], ◌∷◌, ◌++◌, length, map, take, drop, Some, refl, ap, sym, ◌∙◌, subst, arith, All}
+use Rattle.std.proofs.Common.{◌≡◌, ◌≢◌, ℕ, zero, suc, ◌+◌, add-zero, append_assoc, append-nil, slice_index_or, ◌<◌, ◌≤◌, List, [], ◌∷◌, ◌++◌, length, map, take, Some, refl, ap, sym, ◌∙◌, subst, arith, All}
 use Rattle.std.specs.List.{slice_get}
-use Rattle.std.proofs.lemmas.List.Elements.{All-head, All-tail, All-nil, All-cons, All-append, All-get_or}
+use Rattle.std.proofs.lemmas.List.Elements.{All-tail, All-nil, All-cons, All-append, All-get_or}
 use Rattle.std.proofs.lemmas.Option.{slice_get_within, get_or_from_slice_get, slice_get-map}
 use Rattle.std.specs.Option.{option_map}
 use Rattle.run_record.specs.declared.turns.LabelledTurn.{LabelledTurn}
 use Rattle.run_record.specs.Pieces.{IsLabel, IsPath}
 use Rattle.run_record.specs.Recording.{IsTurn}
-use Rattle.std.proofs.lemmas.List.{take_all, length-take-le, take-append-le}
+use Rattle.std.proofs.lemmas.List.{take_all, length-take-le}
 use Rattle.jade_syntax.specs.declared.tree.Item.{Item}
 use Rattle.jade_syntax.specs.Objects.{Label, labels, sizes}
 use Rattle.jade_syntax.proofs.Limits.{labels_counted}
@@ -40,7 +40,7 @@ map_at f [] i y e = absurd (cc)
 map_at f (x ∷ xs) zero y e = (x, refl, cc)
 map_at f (x ∷ xs) (suc i) y e = map_at f xs i y e
 
-some_same : {A : Type 0} {x y : A} → Some x ≡ Some y → x ≡ y
+pub some_same : {A : Type 0} {x y : A} → Some x ≡ Some y → x ≡ y
 some_same e = cc
 
 -- turns by lists
@@ -83,7 +83,7 @@ pub all_more : (turns : List LabelledTurn) (turn : LabelledTurn) (new : List Lab
 all_more turns turn new h t n =
     subst (All IsTurn) (sym n) (All-append IsTurn turns (turn ∷ []) h (All-cons IsTurn turn [] t (All-nil IsTurn)))
 
-label_at : (ls : List Label) (i : ℕ) → i < length ls → (l : Label) × (slice_get ls i ≡ Some l)
+pub label_at : {A : Type 0} (ls : List A) (i : ℕ) → i < length ls → (l : A) × (slice_get ls i ≡ Some l)
 label_at [] i lt = absurd (omega arith)
 label_at (l ∷ ls) zero lt = (l, refl)
 label_at (l ∷ ls) (suc i) lt = label_at ls i (omega arith)

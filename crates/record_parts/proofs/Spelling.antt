@@ -1,6 +1,5 @@
 -- Objects of a program are called by words.
-use Rattle.std.proofs.Common.{◌≡◌, ℕ, zero, suc, ◌<◌, Bool, true, false, ◌&&◌, List, [], ◌∷◌, ◌++◌, length, map, Option, Some, None, refl, ap, sym, ◌∙◌, append-nil, All, codes}
-use Rattle.std.specs.Fmt.{decimal}
+use Rattle.std.proofs.Common.{◌≡◌, ℕ, zero, suc, ◌<◌, Bool, true, false, ◌&&◌, List, [], ◌∷◌, ◌++◌, length, map, Option, Some, None, refl, ap, sym, ◌∙◌, append-nil, All}
 use Rattle.std.specs.List.{slice_get}
 use Rattle.std.specs.Prelude.{IfSome, nat_le, not}
 use Rattle.std.proofs.lemmas.List.Elements.{All-nil, All-cons, All-append, All-get_or}
@@ -11,23 +10,23 @@ use Rattle.jade_syntax.specs.declared.tree.Item.TheVariants.{Input, Single, Fami
 use Rattle.jade_syntax.specs.declared.tree.Program.{Program}
 use Rattle.jade_syntax.specs.Names.{is_name, is_reserved}
 use Rattle.jade_syntax.specs.Objects.{Label, amount, labels, member_labels}
-use Rattle.jade_syntax.specs.Shapes.{all_of, block_extent, is_shaped, item_extent, program_extent, is_placed}
+use Rattle.jade_syntax.specs.Shapes.{all_of, is_shaped, item_extent, program_extent}
 use Rattle.run_record.specs.Pieces.{IsLabel, single, member}
-use Rattle.record_parts.specs.Labels.{label_text, member_text}
+use Rattle.record_parts.specs.Labels.{member_text}
 
 -- an object is called by a word
 abbrev IsCalled : Label → Type 0
 IsCalled l = is_word l.name ≡ true
 
-and_left : (a b : Bool) → (a && b) ≡ true → a ≡ true
+pub and_left : (a b : Bool) → (a && b) ≡ true → a ≡ true
 and_left true b h = refl
 and_left false b h = absurd (cc)
 
-and_right : (a b : Bool) → (a && b) ≡ true → b ≡ true
+pub and_right : (a b : Bool) → (a && b) ≡ true → b ≡ true
 and_right true b h = h
 and_right false b h = absurd (cc)
 
-named : (x : List ℕ) → is_name x ≡ true → is_word x ≡ true
+pub named : (x : List ℕ) → is_name x ≡ true → is_word x ≡ true
 named x h = and_right (nat_le (length x) 64) (is_word x) (and_left (nat_le (length x) 64 && is_word x) (not (is_reserved x)) h)
 
 members : (x : List ℕ) (i n : ℕ) → is_word x ≡ true → All IsCalled (member_labels x i n)
@@ -47,12 +46,15 @@ all_called (Family x at count size ∷ items) h =
     (members x 0 (amount count.value) (named x (and_left (is_name x) _ (and_left _ _ here))))
     (all_called items (and_right (item_extent (Family x at count size)).sound (all_of (map item_extent items)).sound h))
 
-pub called : (p : Program) (i : ℕ) (l : Label) → is_shaped p ≡ true → slice_get (labels p.items) i ≡ Some l → is_word l.name ≡ true
-called p i l h s =
+pub items_sound : (p : Program) → is_shaped p ≡ true → (all_of (map item_extent p.items)).sound ≡ true
+items_sound p h =
     let within = and_right _ _ h in
     let sound : (program_extent p.items p.main).sound ≡ true = and_left _ _ (and_left _ _ within) in
-    let items : (all_of (map item_extent p.items)).sound ≡ true = and_left _ _ (and_left _ _ sound) in
-    let g = All-get_or IsCalled (labels p.items) i l (slice_get_within (labels p.items) i l s) (all_called p.items items) in
+    and_left _ _ (and_left _ _ sound)
+
+pub called : (p : Program) (i : ℕ) (l : Label) → is_shaped p ≡ true → slice_get (labels p.items) i ≡ Some l → is_word l.name ≡ true
+called p i l h s =
+    let g = All-get_or IsCalled (labels p.items) i l (slice_get_within (labels p.items) i l s) (all_called p.items (items_sound p h)) in
     let e = get_or_from_slice_get (labels p.items) i l l s in
     ap (λ (x : Label). is_word x.name) (sym e) ∙ g
 

@@ -3,8 +3,10 @@
 
 pub mod labels;
 pub mod lines;
+pub mod lists;
 pub mod turns;
 
 pub use labels::{label_of, push_label};
 pub use lines::{are_lines, lines_of};
+pub use lists::turn_lists;
 pub use turns::labelled;

@@ -96,7 +96,11 @@ fn add_turn(
 
 /// The turns on all objects of a program of which there is a list for each object, under their
 /// labels, as a recording tells them. The error is want of memory.
-pub fn labelled(alloc: Global, checked: &Checked, lists: &TurnLists) -> Result<LabelledTurns, Memory>
+pub fn labelled(
+    alloc: Global,
+    checked: &Checked,
+    lists: &TurnLists,
+) -> Result<LabelledTurns, Memory>
     requires shaped { is_shaped checked.now.program ≡ true }
     requires lists { length lists.now ≡ length (sizes checked.now.program.items) }
     requires rooted { All (All IsRooted) lists.now }

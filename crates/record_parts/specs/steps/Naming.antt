@@ -1,5 +1,5 @@
 -- Paths that begin at the root, and turn lists that a recording's turns name.
-use Rattle.std.specs.Prelude.{◌≡◌, ℕ, ◌<◌, List, ◌∷◌, ◌++◌, length, map, slice_get, slice_index_or, [], Some}
+use Rattle.std.specs.Prelude.{◌≡◌, ℕ, ◌+◌, ◌<◌, List, ◌∷◌, ◌++◌, length, map, slice_get, slice_index_or, [], Some}
 use Rattle.jade_syntax.specs.declared.tree.Item.{Item}
 use Rattle.jade_syntax.specs.Objects.{labels, sizes}
 use Rattle.run_record.specs.declared.turns.LabelledTurn.{LabelledTurn}
@@ -24,6 +24,11 @@ pub record IsNext (items : List Item) (object : ℕ) (turns : List LabelledTurn)
   pub turn : LabelledTurn
   pub there : slice_get turns place ≡ Some turn
   pub called : slice_get (map label_text (labels items)) object ≡ Some turn.label
+
+-- the paths of the turns at a place and the next place, where those are on an object, and else no paths and the same place
+pub data IsNextList (items : List Item) (object : ℕ) (turns : List LabelledTurn) (place : ℕ) (found : List (List ℕ)) (next : ℕ) : Type 0 where
+  taken : (here : IsNext items object turns place) → found ≡ here.turn.paths → next ≡ place + 1 → IsNextList items object turns place found next
+  none : (IsNext items object turns place → ⊥) → found ≡ [] → next ≡ place → IsNextList items object turns place found next
 
 -- the turns are those on the objects by these lists, one for each object, and by no others
 pub record AreNamed (items : List Item) (turns : List LabelledTurn) (lists : List (List (List ℕ))) : Type 0 where

@@ -1,8 +1,5 @@
-use Rattle.std.proofs.Common.{◌∙◌, ap, sym, subst, ◌++◌, ◌∷◌, [], All, append-nil, refl}
-use Rattle.run_record.specs.Pieces.{Lacks}
-use Rattle.run_record.specs.Recording.{ended}
 use Rattle.run_record.proofs.Options.{none_of, went_well}
-use Rattle.record_parts.proofs.Cutting.{nothing_left, lines_begun, lines_go_on, lines_end}
+use Rattle.record_parts.proofs.Cutting.{lines_begun, lines_go_on, lines_end}
 use Rattle.record_parts.proofs.lines.lines_of.Goals as goal
 
 pub lines-init : goal.lines-init

@@ -1,4 +1,4 @@
-use Rattle.std.proofs.Common.{◌≡◌, ◌<◌, ℕ, List, ap, sym, subst, take, length, All, arith}
+use Rattle.std.proofs.Common.{◌≡◌, ◌<◌, ℕ, List, subst, take, All, arith}
 use Rattle.std.proofs.lemmas.List.{take_all}
 use Rattle.run_record.specs.Pieces.{IsPath}
 use Rattle.record_parts.proofs.Naming.{fit_more}

@@ -1,5 +1,4 @@
-use Rattle.std.proofs.Common.{◌≡◌, ◌∙◌, sym, subst, All, ap, []}
-use Rattle.run_record.specs.Pieces.{IsLabel, IsPath}
+use Rattle.std.proofs.Common.{◌∙◌}
 use Rattle.record_parts.proofs.Naming.{turn_fits}
 use Rattle.record_parts.proofs.turns.turn_on.Goals as goal
 
