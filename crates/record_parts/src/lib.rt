@@ -2,6 +2,7 @@
 #![tactic(auto)]
 
 pub mod labels;
+pub mod laws;
 pub mod lines;
 pub mod lists;
 pub mod turns;
