@@ -6,10 +6,10 @@ ghost use Rattle.run_record.specs.Pieces.{IsPath, each_after, path_text};
 ghost use Rattle.run_record.specs.steps.Unfit.{NoPath, NoPaths};
 
 use crate::pieces::{after, next_piece};
-use number_words::number_of;
 use itoa::Buffer;
 use jade_base::{Memory, Path, PathList};
 use jade_list::sequence::Sequence;
+use number_words::number_of;
 use std::alloc::{AllocError, Global};
 
 /// Why a part of a line is not read: it is not of its form, or there was no memory, which says
