@@ -75,9 +75,10 @@ use Rattle.jade_run.specs.Outcome.{
 use Rattle.jade_run.specs.Sums.{sum_of_cells}
 use Rattle.jade_run.specs.Texts.{refused_text, usage_text, numbers_text, static_word, drilled_text}
 use Rattle.jade_run.proofs.Naming.{firsts, rests, two_names, run_serial, run_check, run_show, serial_check, serial_show, check_show, swapped, drill_only}
-use Rattle.jade_run.proofs.Signed.{small, and_first, and_second}
+use Rattle.number_words.specs.Numbers.{is_number}
+use Rattle.number_words.proofs.Signed.{small}
+use Rattle.jade_run.proofs.Signed.{and_first, and_second}
 use Rattle.jade_run.specs.Words.{
-  is_number,
   SpellsExecution,
   RunWords,
   SerialWords,

@@ -2,6 +2,7 @@
 use Rattle.std.specs.Prelude.{◌≡◌, ℕ, ◌≤◌, Bool, true, false, List, [], ◌∷◌, length, map, codes, ℤ, pos, negsuc, nat_le}
 use Rattle.std.specs.List.{list_all}
 use Rattle.std.specs.Fmt.{decimal, signed_decimal}
+use Rattle.number_words.specs.Numbers.{is_number}
 use Rattle.jade_run.specs.declared.words.Command.{Command}
 use Rattle.jade_run.specs.declared.words.Command.TheVariants.{Run, Serial, Check, Show, Drill}
 use Rattle.jade_run.specs.declared.words.WordsError.{WordsError}
@@ -12,11 +13,6 @@ pub record SpellsAmount (word : List ℕ) (most n : ℕ) : Type 0 where
   pub spelled : word ≡ decimal n
   pub some : 1 ≤ n
   pub within : n ≤ most
-
--- from -9,223,372,036,854,775,808 to 9,223,372,036,854,775,807
-abbrev pub is_number : ℤ → Bool
-is_number (pos n) = nat_le n 9223372036854775807
-is_number (negsuc n) = nat_le n 9223372036854775807
 
 -- words spell these numbers, of which there are at most 64, each of 64 bits with its sign
 pub record SpellsNumbers (words : List (List ℕ)) (numbers : List ℤ) : Type 0 where

@@ -7,7 +7,9 @@ use Rattle.std.proofs.lemmas.Bool.{ltb-true, leb-true}
 use Rattle.std.proofs.lemmas.Fmt.{decimal_by_steps}
 use Rattle.std.proofs.lemmas.List.Elements.{All-nil, All-cons, All-head, All-tail, All-append, All-weaker}
 use Rattle.jade_alphabet.specs.Letters.{is_letter, is_letter_or_digit, is_word}
-use Rattle.run_record.specs.Pieces.{Lacks, each_after, is_number, path_text, IsPath, IsLabel, single, member}
+use Rattle.number_words.specs.Numbers.{is_number}
+use Rattle.number_words.proofs.Signed.{small}
+use Rattle.run_record.specs.Pieces.{Lacks, each_after, path_text, IsPath, IsLabel, single, member}
 
 -- each byte is greater than one
 abbrev pub Above : ℕ → List ℕ → Type 0
@@ -48,10 +50,6 @@ decimal_above n h =
     let P : ℕ → List ℕ → Type 0 = λ m ds. Above 47 ds in
     decimal_by_steps P (λ m lt. All-cons (λ b. 47 < b) (48 + m) [] (omega arith) (All-nil (λ b. 47 < b)))
     (λ m ds lt ih. All-append (λ b. 47 < b) ds ((48 + m % 10) ∷ []) ih (All-cons (λ b. 47 < b) (48 + m % 10) [] (omega arith) (All-nil (λ b. 47 < b)))) n h
-
-pub small : (z : ℤ) → is_number z ≡ true → mag z < 2 ^ 63
-small (pos n) h = let le : n ≤ 9223372036854775807 = leb-true n 9223372036854775807 h in omega (arith, le)
-small (negsuc n) h = let le : n ≤ 9223372036854775807 = leb-true n 9223372036854775807 h in omega (arith, le)
 
 -- digits, or a sign and digits
 pub signed_above : (z : ℤ) → is_number z ≡ true → Above 44 (signed_decimal z)

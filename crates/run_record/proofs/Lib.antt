@@ -1,7 +1,6 @@
 pub mod Bytes
 pub mod Cuts
 pub mod Spellings
-pub mod Signed
 pub mod PathLemmas
 pub mod Options
 pub mod NumberLemmas

@@ -2,7 +2,8 @@
 use Rattle.std.proofs.Common.{◌≡◌, ℕ, ◌<◌, ◌≤◌, true, List, [], ◌∷◌, ◌++◌, length, map, codes, ℤ, ap, sym, ◌∙◌, subst, arith, length-append}
 use Rattle.std.specs.Fmt.{signed_decimal}
 use Rattle.std.proofs.lemmas.List.{append_cancel_left}
-use Rattle.run_record.specs.Pieces.{each_after, is_number}
+use Rattle.number_words.specs.Numbers.{is_number}
+use Rattle.run_record.specs.Pieces.{each_after}
 use Rattle.run_record.specs.Form.{IsNumbersLine}
 use Rattle.run_record.specs.steps.Cutting.{IsPiece}
 use Rattle.run_record.proofs.Bytes.{tested, testing}

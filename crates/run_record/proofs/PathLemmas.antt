@@ -1,14 +1,16 @@
 -- How the items of a line are spelled: numbers, the numbers of a path, and paths.
-use Rattle.std.proofs.Common.{◌≡◌, ◌≢◌, ℕ, ◌<◌, ◌≤◌, true, List, [], ◌∷◌, ◌++◌, length, map, ℤ, refl, ap, sym, ◌∙◌, subst, arith, length-append, All}
+use Rattle.std.proofs.Common.{◌≡◌, ◌≢◌, ℕ, ◌<◌, true, List, [], ◌∷◌, ◌++◌, length, map, ℤ, refl, ap, sym, ◌∙◌, subst, arith, All}
 use Rattle.std.specs.Fmt.{decimal, signed_decimal}
 use Rattle.std.proofs.lemmas.Fmt.{decimal_injective, signed_decimal_injective, decimal_digit}
 use Rattle.std.proofs.lemmas.List.{append_cancel_left}
-use Rattle.run_record.specs.Pieces.{each_after, is_number, path_text, IsPath}
+use Rattle.number_words.specs.Numbers.{is_number}
+use Rattle.run_record.specs.Pieces.{each_after, path_text, IsPath}
 use Rattle.run_record.specs.declared.paths.Unfit.{Unfit}
 use Rattle.run_record.specs.declared.paths.Unfit.TheVariants.{Form, Memory}
 use Rattle.run_record.specs.steps.Unfit.{NoPath, NoPaths}
 use Rattle.run_record.specs.steps.Cutting.{IsPiece}
-use Rattle.run_record.proofs.Bytes.{lacks, decimal_above, signed_above, small, path_above}
+use Rattle.number_words.proofs.Signed.{small}
+use Rattle.run_record.proofs.Bytes.{lacks, decimal_above, signed_above, path_above}
 use Rattle.run_record.proofs.Spellings.{Spells, Read, read_more, next_is, none_left, nothing_read, spelled_once}
 
 -- a number of a path
@@ -47,19 +49,17 @@ pub record PathRead (text : List ℕ) (path : List ℕ) (left : List ℕ) : Type
   pub more : List ℕ
   pub root : path ≡ 0 ∷ more
   pub read : Read 46 decimal IsStep text more left
-  pub few : length more ≤ 63
 
 pub path_begun : (text path : List ℕ) → path ≡ 0 ∷ [] → PathRead text path text
-path_begun text path e = record { more = []; root = e; read = nothing_read 46 decimal IsStep text; few = omega arith }
+path_begun text path e = record { more = []; root = e; read = nothing_read 46 decimal IsStep text }
 
-pub path_goes_on : (text path left piece after child : List ℕ) (k : ℕ) → PathRead text path left → IsPiece 46 left piece after → piece ≡ decimal k → k < 4294967296 → length path < 64 →
+pub path_goes_on : (text path left piece after child : List ℕ) (k : ℕ) → PathRead text path left → IsPiece 46 left piece after → piece ≡ decimal k → k < 4294967296 →
     child ≡ path ++ k ∷ [] → PathRead text child after
-path_goes_on text path left piece after child k r p e lt few is =
+path_goes_on text path left piece after child k r p e lt is =
     record {
       more = r.more ++ k ∷ [];
       root = is ∙ ap (λ l. l ++ k ∷ []) r.root;
       read = read_more 46 decimal IsStep text r.more left piece after k r.read p e lt;
-      few = let l : length path ≡ length (0 ∷ r.more) = ap length r.root in omega (arith, length-append r.more (k ∷ []), l);
     }
 
 nil_right : (xs : List ℕ) → xs ++ [] ≡ xs
@@ -77,7 +77,7 @@ path_ends word text path left w r l =
     let t : text ≡ each_after 46 (map decimal r.more) = r.read.whole ∙ ap (λ x. each_after 46 (map decimal r.more) ++ x) l ∙ nil_right (each_after 46 (map decimal r.more)) in
     record {
       spelled = w ∙ ap (λ x. 48 ∷ x) t ∙ ap (λ d. d ++ each_after 46 (map decimal r.more)) (sym zero_is) ∙ sym (ap path_text r.root);
-      fit = record { more = r.more; root = r.root; fit = r.read.good; few = r.few };
+      fit = record { more = r.more; root = r.root; fit = r.read.good };
     }
 
 -- what a path would have after its 0
@@ -99,16 +99,6 @@ pub no_step : (word text path left piece after : List ℕ) (p : List ℕ) → wo
 no_step word text path left piece after p w r pc none h e =
     let n = next_is 46 decimal IsStep steps text h.more r.more left piece after r.read pc h.fit (after_zero word text p w h e) in
     none n.item n.good n.piece_is
-
--- a piece too many
-pub too_long : (word text path left piece after : List ℕ) (p : List ℕ) → word ≡ 48 ∷ text → PathRead text path left → IsPiece 46 left piece after → 64 ≤ length path →
-    IsPath p → word ≡ path_text p → ⊥
-too_long word text path left piece after p w r pc many h e =
-    let n = next_is 46 decimal IsStep steps text h.more r.more left piece after r.read pc h.fit (after_zero word text p w h e) in
-    let l : length path ≡ length (0 ∷ r.more) = ap length r.root in
-    let m : length h.more ≡ length (r.more ++ n.item ∷ n.more) = ap length n.all_is in
-    let few = h.few in
-    omega (arith, l, m, length-append r.more (n.item ∷ n.more), few)
 
 -- something is left that is no piece
 pub no_path_left : (word text path left : List ℕ) (p : List ℕ) → word ≡ 48 ∷ text → PathRead text path left → ((after : List ℕ) → left ≡ 46 ∷ after → ⊥) → (left ≡ [] → ⊥) →

@@ -5,7 +5,8 @@ use Rattle.std.proofs.lemmas.Fmt.{decimal_injective}
 use Rattle.std.proofs.lemmas.List.{append_cancel_left}
 use Rattle.std.proofs.lemmas.List.Elements.{All-head, All-tail, All-append}
 use Rattle.run_record.specs.declared.turns.LabelledTurn.{LabelledTurn}
-use Rattle.run_record.specs.Pieces.{Lacks, each_after, is_number, path_text, IsPath}
+use Rattle.number_words.specs.Numbers.{is_number}
+use Rattle.run_record.specs.Pieces.{Lacks, each_after, path_text, IsPath}
 use Rattle.run_record.specs.Recording.{Recorded, IsRecorded, IsTurn, head_line, limit_line, numbers_line, turns_line, answer_line, text_line, lines, ended, recording}
 use Rattle.run_record.specs.Form.{Stage, at_head, at_limit, at_numbers, at_turns, at_answer, at_text, Takes, FirstLine, BreaksAt, here, later, IsRead, IsNumbersLine}
 use Rattle.run_record.specs.Laws.{NoneBreaks}

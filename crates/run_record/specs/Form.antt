@@ -4,7 +4,8 @@ use Rattle.std.specs.List.{list_all}
 use Rattle.run_record.specs.declared.turns.LabelledTurn.{LabelledTurn}
 use Rattle.run_record.specs.declared.read.ReadError.{ReadError}
 use Rattle.run_record.specs.declared.read.ReadError.TheVariants.{Form, Memory}
-use Rattle.run_record.specs.Pieces.{Lacks, is_number}
+use Rattle.number_words.specs.Numbers.{is_number}
+use Rattle.run_record.specs.Pieces.{Lacks}
 use Rattle.run_record.specs.Recording.{Recorded, IsRecorded, IsTurn, head_line, limit_line, numbers_line, turns_line, answer_line, text_line, recording}
 
 -- which line comes next: the first, the limit, the numbers, turns or the count of the answer's lines, a line of the answer or the last before the text when

@@ -1,5 +1,5 @@
 -- Texts made of pieces with a byte before each, and how numbers and paths are spelled.
-use Rattle.std.specs.Prelude.{◌≡◌, ◌≢◌, ℕ, ◌<◌, ◌≤◌, Bool, true, List, [], ◌∷◌, ◌++◌, length, map, ℤ, pos, negsuc, nat_le, All}
+use Rattle.std.specs.Prelude.{◌≡◌, ◌≢◌, ℕ, ◌<◌, true, List, [], ◌∷◌, ◌++◌, map, All}
 use Rattle.std.specs.Fmt.{decimal}
 use Rattle.jade_alphabet.specs.Letters.{is_word}
 
@@ -12,22 +12,16 @@ abbrev pub each_after : ℕ → List (List ℕ) → List ℕ
 each_after c [] = []
 each_after c (piece ∷ pieces) = c ∷ (piece ++ each_after c pieces)
 
--- from -9,223,372,036,854,775,808 to 9,223,372,036,854,775,807
-abbrev pub is_number : ℤ → Bool
-is_number (pos n) = nat_le n 9223372036854775807
-is_number (negsuc n) = nat_le n 9223372036854775807
-
 -- a task's path with dots, as 0.1.2
 abbrev pub path_text : List ℕ → List ℕ
 path_text [] = []
 path_text (k ∷ more) = decimal k ++ each_after 46 (map decimal more)
 
--- a path of the root's descendants: 0, and then at most 63 numbers below 4,294,967,296. No task has a longer one, as at most 64 brackets are open in a text
+-- a path of the root or of one of its descendants: 0, and then numbers below 4,294,967,296
 pub record IsPath (path : List ℕ) : Type 0 where
   pub more : List ℕ
   pub root : path ≡ 0 ∷ more
   pub fit : All (λ k. k < 4294967296) more
-  pub few : length more ≤ 63
 
 -- what an object may be called: a word, or for a family's member a word and its index in brackets
 pub data IsLabel (label : List ℕ) : Type 0 where

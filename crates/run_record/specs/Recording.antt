@@ -3,7 +3,8 @@ use Rattle.std.specs.Prelude.{◌≡◌, ◌≢◌, ℕ, ◌≤◌, true, List, 
 use Rattle.std.specs.List.{list_all}
 use Rattle.std.specs.Fmt.{decimal, signed_decimal}
 use Rattle.run_record.specs.declared.turns.LabelledTurn.{LabelledTurn}
-use Rattle.run_record.specs.Pieces.{Lacks, each_after, is_number, path_text, IsPath, IsLabel}
+use Rattle.number_words.specs.Numbers.{is_number}
+use Rattle.run_record.specs.Pieces.{Lacks, each_after, path_text, IsPath, IsLabel}
 
 -- what a recording keeps: the limit and the numbers of a run, the turns on the objects that any task took in turn, the lines of its answer, and the text of its
 -- program

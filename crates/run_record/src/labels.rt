@@ -6,8 +6,8 @@ ghost use Rattle.run_record.specs.Pieces.{IsLabel};
 ghost use Rattle.run_record.specs.steps.Cutting.{IsIndex};
 
 use crate::pieces::cut;
-use crate::words::number_of;
 use jade_alphabet::is_word;
+use number_words::number_of;
 
 /// Whether bytes are an index in brackets.
 fn is_index(bytes: &[u8]) -> bool

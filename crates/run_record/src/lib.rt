@@ -5,15 +5,15 @@ mod labels;
 pub mod laws;
 mod lines;
 mod paths;
-mod pieces;
+pub mod pieces;
 pub mod read;
 pub mod recorded;
 #[cfg(test)]
 mod tests;
 pub mod turns;
-mod words;
 pub mod write;
 
+pub use pieces::first_line;
 pub use read::{ReadError, read_record};
 pub use recorded::{Lines, Record};
 pub use turns::{LabelledTurn, LabelledTurns};

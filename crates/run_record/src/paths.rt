@@ -6,14 +6,11 @@ ghost use Rattle.run_record.specs.Pieces.{IsPath, each_after, path_text};
 ghost use Rattle.run_record.specs.steps.Unfit.{NoPath, NoPaths};
 
 use crate::pieces::{after, next_piece};
-use crate::words::number_of;
 use itoa::Buffer;
 use jade_base::{Memory, Path, PathList};
 use jade_list::sequence::Sequence;
+use number_words::number_of;
 use std::alloc::{AllocError, Global};
-
-/// The most numbers of a path.
-const MOST_NUMBERS: usize = 64;
 
 /// Why a part of a line is not read: it is not of its form, or there was no memory, which says
 /// nothing of it.
@@ -40,9 +37,6 @@ fn path_of(alloc: Global, word: &[u8]) -> Result<Path, Unfit>
             Some(number) => number,
             None => return Err(Unfit::Form),
         };
-        if path.numbers().len() >= MOST_NUMBERS {
-            return Err(Unfit::Form);
-        }
         path = match path.child(alloc, number) {
             Ok(path) => path,
             Err(Memory) => return Err(Unfit::Memory),

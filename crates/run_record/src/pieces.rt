@@ -1,6 +1,7 @@
 //! Bytes cut at a byte.
 
 ghost use Rattle.std.specs.Prelude.{◌≡◌, ℕ, List, ◌∷◌, ◌++◌, MatchOption};
+ghost use Rattle.run_record.specs.Form.{FirstLine};
 ghost use Rattle.run_record.specs.steps.Cutting.{IsCut, IsPiece};
 
 /// What stands before the first such byte, or all where there is none, and the rest from that byte on.
@@ -19,6 +20,17 @@ pub(crate) fn next_piece(bytes: &[u8], byte: u8) -> Option<(&[u8], &[u8])>
     match bytes.split_first() {
         Some((first, rest)) if *first == byte => Some(cut(rest, byte)),
         _ => None,
+    }
+}
+
+/// The first line of bytes, and what stands after its line feed; `None` where there is no line feed.
+pub fn first_line(bytes: &[u8]) -> Option<(&[u8], &[u8])>
+    ensures { MatchOption result ((line after : List ℕ) → FirstLine bytes.now line after → ⊥) (λ r. FirstLine bytes.now r.0.now r.1.now) }
+{
+    let (line, rest) = cut(bytes, b'\n');
+    match rest.split_first() {
+        Some((_, after)) => Some((line, after)),
+        None => None,
     }
 }
 

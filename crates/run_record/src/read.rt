@@ -8,7 +8,7 @@ ghost use Rattle.run_record.specs.steps.Rests.{EndingRead, Passed, TurnsRead, er
 
 use crate::lines::{count_of, limit_of, numbers_of, turn_of};
 use crate::paths::Unfit;
-use crate::pieces::cut;
+use crate::pieces::first_line;
 use crate::recorded::{Lines, Record};
 use crate::turns::LabelledTurns;
 use jade_base::{Memory, Numbers, Word};
@@ -38,9 +38,8 @@ impl<'a> Rest<'a> {
             (λ r. FirstLine self.entry.bytes.now r.0.now r.1.bytes.now) }
         ensures next { IfSome result (λ r. r.1.number ≡ self.entry.number + 1) }
     {
-        let (line, rest) = cut(self.bytes, b'\n');
-        match rest.split_first() {
-            Some((_, bytes)) => Some((
+        match first_line(self.bytes) {
+            Some((line, bytes)) => Some((
                 line,
                 Rest {
                     bytes,

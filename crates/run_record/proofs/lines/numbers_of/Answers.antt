@@ -1,5 +1,5 @@
 use Rattle.std.proofs.Common.{[], ◌∷◌, ◌++◌, refl, ap, ◌∙◌, arith, rules}
-use Rattle.run_record.proofs.Signed.{read_back}
+use Rattle.number_words.proofs.Signed.{read_back}
 use Rattle.run_record.proofs.Options.{none_of, empty_is, some_is, went_well}
 use Rattle.run_record.proofs.NumberLemmas.{numbers_begun, numbers_go_on, numbers_end, no_head, no_number, too_many, no_numbers_left}
 use Rattle.run_record.proofs.lines.numbers_of.Goals as goal

@@ -1,6 +1,6 @@
-use Rattle.std.proofs.Common.{ap, length, arith, rules}
+use Rattle.std.proofs.Common.{rules}
 use Rattle.run_record.proofs.Options.{none_of, empty_is, some_is}
-use Rattle.run_record.proofs.PathLemmas.{path_begun, path_goes_on, path_ends, no_zero, no_step, too_long, no_path_left}
+use Rattle.run_record.proofs.PathLemmas.{path_begun, path_goes_on, path_ends, no_zero, no_step, no_path_left}
 use Rattle.run_record.proofs.paths.path_of.Goals as goal
 
 pub returns-in-None : goal.returns-in-None
@@ -14,16 +14,11 @@ returns-in-None-number_of c path h e =
     no_step c.args.word.now c.in-Some.left.now c.pieces.path c.pieces.left.now c.in-Some-next_piece.piece.now c.in-Some-next_piece.rest.now path c.in-Some.ensures
     c.pieces.invariant c.in-Some-next_piece.ensures (λ n lt s. let x = c.number_of.ensures.exact n lt s in cc) h e
 
-pub returns-then-numbers-ge-MOST_NUMBERS : goal.returns-then-numbers-ge-MOST_NUMBERS
-returns-then-numbers-ge-MOST_NUMBERS c path h e =
-    too_long c.args.word.now c.in-Some.left.now c.pieces.path c.pieces.left.now c.in-Some-next_piece.piece.now c.in-Some-next_piece.rest.now path c.in-Some.ensures
-    c.pieces.invariant c.in-Some-next_piece.ensures (let l = ap length c.numbers.ensures.value in omega (arith, l)) h e
-
 pub pieces-preserved : goal.pieces-preserved
 pieces-preserved c =
     path_goes_on c.in-Some.left.now c.pieces.path c.pieces.left.now c.in-Some-next_piece.piece.now c.in-Some-next_piece.rest.now c.in-Ok-child.path c.in-Some-number_of.number
     c.pieces.invariant c.in-Some-next_piece.ensures c.in-Some-number_of.ensures.some c.in-Some-number_of.ensures.fits
-    (let l = ap length c.numbers.ensures.value in omega (arith, l)) c.in-Ok-child.ensures
+    c.in-Ok-child.ensures
 
 pub returns-then-not-is_empty : goal.returns-then-not-is_empty
 returns-then-not-is_empty c path h e =

@@ -1,0 +1,6 @@
+pub mod Apart
+pub mod Cutting
+pub mod Matching
+pub mod Naming
+pub mod Rooted
+pub mod Spelling
