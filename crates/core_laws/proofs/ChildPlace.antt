@@ -1,5 +1,5 @@
 -- The version that is kept for a task's next child is the meaning's content at the place where the child begins.
-use Rattle.std.proofs.Common.{◌≡◌, ℕ, true, false, List, [], ◌∷◌, ◌++◌, length, Some, None, Option, refl, sym, ap, ◌∙◌, subst, append_assoc, arith}
+use Rattle.std.proofs.Common.{◌≡◌, ℕ, true, false, List, [], ◌∷◌, ◌++◌, length, Some, None, refl, sym, ap, ◌∙◌, subst, append_assoc, arith}
 use Rattle.std.specs.Prelude.{ℤ, is_some, slice_get, if◌then◌else◌, Bool}
 use Rattle.std.proofs.lemmas.List.Elements.{filter_map-append}
 use Rattle.jade_syntax.specs.declared.tree.Program.{Program}
@@ -26,7 +26,7 @@ use Rattle.schedule_core.specs.Shown.{line}
 use Rattle.schedule_core.specs.Soundness.{and_then}
 use Rattle.schedule_core.specs.Sound.{Fit, Apart, Before, Pairs}
 use Rattle.schedule_core.specs.Unplaced.{Live}
-use Rattle.schedule_core.specs.Works.{Work, work_on, works_on, worked}
+use Rattle.schedule_core.specs.Works.{work_on, works_on, worked}
 use Rattle.schedule_core.proofs.Behind.{left_from_key, later_child, works_behind}
 use Rattle.schedule_core.proofs.Contents.{child_so}
 use Rattle.schedule_core.proofs.EntryOwners.{kid_entry}

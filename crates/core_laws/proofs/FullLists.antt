@@ -5,10 +5,9 @@ use Rattle.std.specs.List.{cons_option}
 use Rattle.std.proofs.lemmas.Bool.Decides.{eqb_tells}
 use Rattle.std.proofs.lemmas.Bool.{ne_eqb, eq-eqb}
 use Rattle.jade_base.specs.declared.rights.Right.{Right}
-use Rattle.jade_base.specs.declared.rights.Rights.{Rights}
 use Rattle.jade_base.specs.declared.rights.Mode.{Mode}
 use Rattle.jade_base.specs.declared.rights.Mode.TheVariants.{Reading, Writing, Commuting}
-use Rattle.jade_base.specs.Rights.{is_immediate, is_there, has_rights, same_right}
+use Rattle.jade_base.specs.Rights.{is_immediate, is_there, same_right}
 use Rattle.jade_syntax.specs.declared.tree.Program.{Program}
 use Rattle.jade_syntax.specs.Abstract.{AbstractProgram}
 use Rattle.jade_syntax.specs.Image.{program}
@@ -18,9 +17,9 @@ use Rattle.jade_meaning.specs.Doing.{from_deed}
 use Rattle.jade_meaning.specs.Laws.{Every}
 use Rattle.jade_meaning.specs.Proper.{Proper}
 use Rattle.jade_meaning.specs.Serial.{Path, Mark, after, serial, same_path}
-use Rattle.jade_meaning.specs.Specification.{numbers, fits_commuting, commuting_on}
+use Rattle.jade_meaning.specs.Specification.{numbers, commuting_on}
 use Rattle.jade_meaning.specs.Talk.{Event, Enter, Enroll, Take, TouchRead, TouchWrite, Wants, Give, Leave, Shift, Resign, talk}
-use Rattle.jade_meaning.specs.Turns.{Member, World, Ran, below, group, named, unnamed, arranged, turn, turns_taken, seen_by, kept_from, settle, settled, settle_all, first, joined, turns_on, marks_by, Full}
+use Rattle.jade_meaning.specs.Turns.{Member, World, Ran, below, group, named, unnamed, arranged, turn, turns_taken, seen_by, kept_from, settle, settled, settle_all, first, turns_on, marks_by, Full}
 use Rattle.jade_meaning.specs.Walk.{upcoming, First, task_of}
 use Rattle.jade_meaning.proofs.Filling.{same_path_is, same_self, turns_both}
 use Rattle.jade_meaning.proofs.Groups.{every_arranged, every_group, group_of, group_both}
@@ -30,16 +29,15 @@ use Rattle.object_shelf.specs.Views.{ObjectView}
 use Rattle.task_roll.specs.declared.note.PartNote.{PartNote}
 use Rattle.schedule_core.specs.declared.steps.Seat.{Seat}
 use Rattle.schedule_core.specs.Core.{Cells, changes, touches, is_out, allows}
-use Rattle.schedule_core.specs.Going.{Going, Small, to_come, world_of}
-use Rattle.schedule_core.specs.Onwards.{sees, sited, step, onwards, onwards_all}
-use Rattle.schedule_core.specs.Plain.{Reached, free_in, next_free, any_free}
+use Rattle.schedule_core.specs.Going.{Small, to_come, world_of}
+use Rattle.schedule_core.specs.Onwards.{sees, sited, onwards, onwards_all}
+use Rattle.schedule_core.specs.Plain.{free_in, any_free}
 use Rattle.schedule_core.specs.Remains.{turns_among}
 use Rattle.schedule_core.specs.Serially.{Begins}
 use Rattle.schedule_core.specs.Shown.{Sits, Seated, slot, slots, born_slots, line, shelf_at}
-use Rattle.schedule_core.specs.Sound.{Fit, Orderly, OwnLast, Has, Pairs, Before, settling, awaits, left, left_from, may}
+use Rattle.schedule_core.specs.Sound.{Fit, Orderly, OwnLast, Has, Pairs, Before, settling, awaits, left_from, may}
 use Rattle.schedule_core.specs.Soundness.{and_then, turns_of}
-use Rattle.schedule_core.specs.Unplaced.{Live, State}
-use Rattle.schedule_core.specs.Works.{works_on}
+use Rattle.schedule_core.specs.Unplaced.{Live}
 use Rattle.schedule_core.proofs.Acts.{own_only}
 use Rattle.schedule_core.proofs.Alone.{mode_may}
 use Rattle.schedule_core.proofs.Calm.{mode_commutes, awaits_right}
@@ -52,7 +50,7 @@ use Rattle.schedule_core.proofs.Pairs.{every_m}
 use Rattle.schedule_core.proofs.Queues.{Unentered}
 use Rattle.schedule_core.proofs.Reporting.{turns_at}
 use Rattle.schedule_core.proofs.Showing.{blocked_is, line_both}
-use Rattle.schedule_core.proofs.Stuck.{seen_as, holder_both, born_out, slot_home, Out, home, out, out_of, none_waits, seat_of}
+use Rattle.schedule_core.proofs.Stuck.{holder_both, born_out, slot_home, Out, home, out, out_of, none_waits, seat_of}
 use Rattle.schedule_core.proofs.Waits.{Waiting}
 use Rattle.schedule_core.proofs.Whole.{settle_none}
 use Rattle.core_laws.specs.FullListsGoOn.{GoesInStep, FullListsGoOn}

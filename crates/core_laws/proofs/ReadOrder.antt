@@ -1,5 +1,5 @@
 -- The reads of tasks that do not commute stand in the serial order of parts among the works on their objects: one induction over a run.
-use Rattle.std.proofs.Common.{◌≡◌, ◌≢◌, ℕ, zero, suc, Bool, true, false, List, [], ◌∷◌, ◌++◌, Option, Some, None, refl, sym, ap, ◌∙◌, subst, arith, append-nil, append_assoc, le_refl, lt-suc_self, ◌⊎◌, inl, inr}
+use Rattle.std.proofs.Common.{◌≡◌, ◌≢◌, ℕ, suc, Bool, true, false, List, [], ◌∷◌, ◌++◌, Option, Some, None, refl, sym, ap, ◌∙◌, subst, append-nil, append_assoc, le_refl, lt-suc_self, ◌⊎◌, inl, inr}
 use Rattle.std.specs.Prelude.{ℤ, nat_eq, if◌then◌else◌}
 use Rattle.std.specs.List.{cons_option, filter_map}
 use Rattle.std.proofs.lemmas.Bool.Decides.{eqb_tells}
@@ -17,7 +17,7 @@ use Rattle.jade_meaning.specs.Turns.{Member, World, at_path, bared, group, other
 use Rattle.jade_meaning.proofs.Filling.{others_not, every_two}
 use Rattle.schedule_core.specs.Works.{Work, Wrote, Turned, work_on, works_on}
 use Rattle.schedule_core.proofs.Behind.{flat_children}
-use Rattle.schedule_core.proofs.Groups.{Spares, Sole, every_append, every_front, every_back, every_arranged, every_group, every_others}
+use Rattle.schedule_core.proofs.Groups.{Spares, every_append, every_front, every_back, every_arranged, every_group, every_others}
 use Rattle.schedule_core.proofs.Keys.{own_before, part_before}
 use Rattle.schedule_core.proofs.Ascending.{asym}
 use Rattle.schedule_core.proofs.Running.{every_by}
