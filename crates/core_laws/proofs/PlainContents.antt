@@ -47,7 +47,8 @@ module _ (keeps : (p : AbstractProgram) (ns : List ℤ) (limit : ℕ) → Proper
   pub plain_contents : SomeIsLeft p ns limit → ContentsByPlace p ns limit → EntriesHaveRights p ns limit → TasksAreSerial p ns limit → ReadsAreSerial p ns limit
       → ((turns : ℕ → List Path) → NoneCommutes (program p) ns limit turns) → PlainContents p ns limit
   plain_contents l c rights tasks reads none = record {
-    left = λ k roll ss notes r. subst (λ (run : List Mark). WhatIsLeft p run roll ss) (plain (and_then ss (λ o. []))).marks (l.what k roll ss notes r (λ o. []));
+    left = λ k roll ss notes r.
+        subst (λ (run : List Mark). WhatIsLeft p run roll ss) (plain (and_then ss (λ o. []))).marks (l.what k roll ss notes r (λ o. []));
     turns = λ k roll ss notes r. no_turns k roll ss notes l r;
     alone = λ k roll ss notes r i s live. entry_plain keeps p ns limit tasks none k roll ss notes r i s live rights;
     has = λ k roll ss notes r i s live o e there some has.
