@@ -6,6 +6,7 @@ mod Creations
 mod Counting
 mod Uncommuting
 mod PlainContents
+mod PlainSchedule
 mod KeyOrder
 mod LeftOrder
 mod FullLists

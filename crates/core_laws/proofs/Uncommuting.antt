@@ -1,10 +1,12 @@
--- Where no task that commutes is created, no entry has a right to commute.
-use Rattle.std.proofs.Common.{◌≡◌, ℕ, zero, suc, Bool, true, false, List, [], ◌∷◌, ◌++◌, take, drop, replicate, length, Option, Some, None, refl, sym, ap, ◌∙◌, subst}
+-- Where no task that commutes is created, no entry has a right to commute, and no object is taken for commuting.
+use Rattle.std.proofs.Common.{◌≡◌, ◌≢◌, ℕ, zero, suc, Bool, true, false, List, [], ◌∷◌, ◌++◌, take, drop, replicate, length, Option, Some, None, refl, sym, ap, ◌∙◌, subst}
 use Rattle.std.specs.Prelude.{ℤ, nat_eq, slice_get, if◌then◌else◌}
 use Rattle.std.specs.List.{flat_map}
 use Rattle.jade_base.specs.declared.rights.Rights.{Rights}
-use Rattle.jade_base.specs.declared.rights.Mode.{Mode}
-use Rattle.jade_base.specs.Rights.{both_rights, is_there, has_rights, same_rights, mode_of, no_rights}
+use Rattle.jade_base.specs.declared.rights.Mode.TheVariants.{Reading, Writing, Commuting}
+use Rattle.jade_base.specs.declared.rights.Right.{Right}
+use Rattle.jade_base.specs.declared.rights.Right.TheVariants.{Absent, Deferred, Immediate}
+use Rattle.jade_base.specs.Rights.{both_rights, is_there, is_immediate, has_rights, same_rights, mode_of, no_rights}
 use Rattle.jade_syntax.specs.declared.tree.Program.{Program}
 use Rattle.jade_syntax.specs.Abstract.{AbstractProgram}
 use Rattle.jade_syntax.specs.Image.{program}
@@ -36,12 +38,12 @@ use Rattle.core_laws.proofs.Counting.{in_front, every_at, every_take, every_drop
 abbrev Plain : Specification → Type 0
 Plain spec = (o : ℕ) → is_there (rights_on spec o).commutes ≡ false
 
--- in a task of which this is known, a change gives no right to commute; a created task keeps to its specification
+-- in a task of which this is known, no take is for commuting and a change gives no right to commute; a created task keeps to its specification
 abbrev Fine : Type 0 → Event → Type 0
 Fine N (Shift o a) = N → is_there a.commutes ≡ false
 Fine N (Enroll t n) = Proper t.spec t.course
 Fine N (Enter o a) = Unit {0}
-Fine N (Take o m) = Unit {0}
+Fine N (Take o m) = N → m ≢ Commuting
 Fine N (TouchRead o c v) = Unit {0}
 Fine N (TouchWrite o c v) = Unit {0}
 Fine N (Wants o c) = Unit {0}
@@ -58,16 +60,25 @@ module _ (N : Type 0) where
   when_fine true e h = (h, tt)
   when_fine false e h = tt
 
-  take_fine : (m : Option Mode) (o : ℕ) → Every (Fine N) (take_in m o)
-  take_fine None o = tt
-  take_fine (Some m) o = (tt, tt)
+  take_fine : (a : Rights) (o : ℕ) → (N → is_there a.commutes ≡ false) → Every (Fine N) (take_in (mode_of a) o)
+  take_fine a o h = go a.commutes h (is_immediate a.writes) (is_immediate a.reads)
+    where
+      go : (x : Right) → (N → is_there x ≡ false) → (y z : Bool)
+          → Every (Fine N) (take_in (if is_immediate x then Some Commuting else (if y then Some Writing else (if z then Some Reading else None))) o)
+      go Immediate h y z = (λ n. absurd (let e : true ≡ false = h n in cc), tt)
+      go Deferred h true z = (λ n e. absurd (cc), tt)
+      go Deferred h false true = (λ n e. absurd (cc), tt)
+      go Deferred h false false = tt
+      go Absent h true z = (λ n e. absurd (cc), tt)
+      go Absent h false true = (λ n e. absurd (cc), tt)
+      go Absent h false false = tt
 
   if_fine : (b : Bool) (es fs : List Event) → Every (Fine N) es → Every (Fine N) fs → Every (Fine N) (if b then es else fs)
   if_fine true es fs h g = h
   if_fine false es fs h g = g
 
-  first_fine : (spec : Specification) (h : Holds) (o : ℕ) → Every (Fine N) (first_take spec h o)
-  first_fine spec h o = if_fine _ (take_in _ o) [] (take_fine _ o) tt
+  first_fine : (spec : Specification) → (N → Plain spec) → (h : Holds) (o : ℕ) → Every (Fine N) (first_take spec h o)
+  first_fine spec n h o = if_fine _ (take_in (mode_of (rights_on spec o)) o) [] (take_fine (rights_on spec o) o (λ x. n x o)) tt
 
   shift_fine : (old new : Rights) (o : ℕ) → (N → is_there new.commutes ≡ false) → Every (Fine N) (shift old new o)
   shift_fine old new o h =
@@ -83,12 +94,12 @@ module _ (N : Type 0) where
       go true e = sym (m.commutes o e) ∙ h n o
 
   course_fine : {spec : Specification} {c : Course} → Proper spec c → (N → Plain spec) → (h : Holds) (k : ℕ) (vs : List ℤ) → Every (Fine N) (events c spec h k vs)
-  course_fine {spec} (proper_read {o = o} {c = c} {on = on} i f) n h k [] = every_append (Fine N) (first_take spec h o) (Wants o c ∷ []) (first_fine spec h o) (tt, tt)
+  course_fine {spec} (proper_read {o = o} {c = c} {on = on} i f) n h k [] = every_append (Fine N) (first_take spec h o) (Wants o c ∷ []) (first_fine spec n h o) (tt, tt)
   course_fine {spec} (proper_read {o = o} {c = c} {on = on} i f) n h k (v ∷ vs) =
-      every_append (Fine N) (first_take spec h o) (TouchRead o c v ∷ events (on v) spec (touched spec h o) k vs) (first_fine spec h o)
+      every_append (Fine N) (first_take spec h o) (TouchRead o c v ∷ events (on v) spec (touched spec h o) k vs) (first_fine spec n h o)
       (tt, course_fine (f v) n (touched spec h o) k vs)
   course_fine {spec} (proper_write {o = o} {c = c} {v = v} {on = on} i f) n h k vs =
-      every_append (Fine N) (first_take spec h o) (TouchWrite o c v ∷ events on spec (touched spec h o) k vs) (first_fine spec h o)
+      every_append (Fine N) (first_take spec h o) (TouchWrite o c v ∷ events on spec (touched spec h o) k vs) (first_fine spec n h o)
       (tt, course_fine f n (touched spec h o) k vs)
   course_fine {spec} (proper_step {on = on} f) n h k vs = course_fine f n h (suc k) vs
   course_fine {spec} (proper_create {child = child} {body = body} {on = on} none may cov size b f) n h k vs =
@@ -100,7 +111,8 @@ module _ (N : Type 0) where
       (every_append (Fine N) (change_gives new h ++ shifts spec new) (change_takes spec new h)
       (every_append (Fine N) (change_gives new h) (shifts spec new) (all_fine _ (objects new) (λ o. when_fine _ (Give o) tt))
       (all_fine _ (objects new) (λ o. shift_fine (rights_on spec o) (rights_on new o) o (λ x. still_plain new spec m n x o))))
-      (all_fine _ (objects new) (λ o. if_fine _ (take_in _ o) [] (take_fine _ o) tt)))
+      (all_fine _ (objects new) (λ o. if_fine _ (take_in (mode_of (rights_on new o)) o) []
+      (take_fine (rights_on new o) o (λ x. still_plain new spec m n x o)) tt)))
       (course_fine f (still_plain new spec m n) (changed spec new h) k vs)
   course_fine {spec} (proper_end {b = b}) n h k vs =
       every_append (Fine N) (end_gives spec h ++ end_leaves spec) (Resign b k ∷ [])
@@ -111,7 +123,7 @@ talk_fine : (t : Task) → Proper t.spec t.course → (vs : List ℤ) → Every 
 talk_fine t f vs =
     every_append (Fine (Plain t.spec)) (start_takes t.spec) (events t.course t.spec (start_holds t.spec) 0 vs)
     (all_fine (Plain t.spec) (λ o. take_in (mode_of (rights_on t.spec o)) o) (own_last (commuting_on t.spec) (objects t.spec))
-    (λ o. take_fine (Plain t.spec) (mode_of (rights_on t.spec o)) o)) (course_fine (Plain t.spec) f (λ n. n) (start_holds t.spec) 0 vs)
+    (λ o. take_fine (Plain t.spec) (rights_on t.spec o) o (λ n. n o))) (course_fine (Plain t.spec) f (λ n. n) (start_holds t.spec) 0 vs)
 
 -- each live task keeps to its specification
 abbrev Keeps : Seat → Type 0
@@ -190,18 +202,37 @@ entry_is e a q = go (has_rights a) q
     go true q = cc
     go false q = absurd (cc)
 
-pub entry_plain : (keeps : (p : AbstractProgram) (ns : List ℤ) (limit : ℕ) → Proper (root_spec p) (root_course p ns limit)) (p : Program) (ns : List ℤ)
-    (limit : ℕ) → EntriesHaveRights p ns limit → TasksAreSerial p ns limit → ((turns : ℕ → List Path) → NoneCommutes (program p) ns limit turns)
-    → (k : ℕ) (roll : List Seat) (ss : List ObjectView) (notes : List PartNote) → Reached p ns limit k roll ss notes → (i : ℕ) (s : Seat)
-    → slice_get roll i ≡ Some s → (o : ℕ) (e : Entry) → find s.path (shelf_at ss o).queue ≡ Some e → is_there e.rights.commutes ≡ false
-entry_plain keeps p ns limit rights tasks none k roll ss notes r i s live o e there =
-    let t = task_of s.walker in
-    let lists = and_then ss (λ o. []) in
-    let plain : Plain t.spec =
-    task_plain (marks_by (program p) ns limit lists) (root_task (program p) ns limit) s.path t (tasks.task k roll ss notes r (λ o. []) i s live) (none lists).each
-    (both_plain (length (sizes p.items))) in
-    let proper = every_at Keeps roll i s live (all_keep keeps p ns limit k roll ss notes r) in
-    let fine = first_events (Fine (Plain t.spec)) s.walker.done (talk t s.walker.answers) (talk_fine t proper s.walker.answers) in
-    let now = after_plain (Plain t.spec) plain o (events_done s.walker) (rights_on t.spec o) fine (plain o) in
-    let is = entry_is e (rights_now s o) (ap rights_of (sym there) ∙ rights.own k roll ss notes r i s live o) in
-    ap (λ (a : Rights). is_there a.commutes) is ∙ now
+-- what is known of each live task of such a program: that it has no right to commute at its beginning, and so of each of its events
+record PlainTask (s : Seat) : Type 0 where
+  plain : Plain (task_of s.walker).spec
+  events : Every (Fine (Plain (task_of s.walker).spec)) (talk (task_of s.walker) s.walker.answers)
+
+module _ (keeps : (p : AbstractProgram) (ns : List ℤ) (limit : ℕ) → Proper (root_spec p) (root_course p ns limit)) (p : Program) (ns : List ℤ) (limit : ℕ)
+    (tasks : TasksAreSerial p ns limit) (none : (turns : ℕ → List Path) → NoneCommutes (program p) ns limit turns) where
+  module _ (k : ℕ) (roll : List Seat) (ss : List ObjectView) (notes : List PartNote) (r : Reached p ns limit k roll ss notes) (i : ℕ) (s : Seat)
+      (live : slice_get roll i ≡ Some s) where
+    plain_task : PlainTask s
+    plain_task =
+        let t = task_of s.walker in
+        let lists = and_then ss (λ o. []) in
+        record {
+          plain = task_plain (marks_by (program p) ns limit lists) (root_task (program p) ns limit) s.path t (tasks.task k roll ss notes r (λ o. []) i s live)
+              (none lists).each (both_plain (length (sizes p.items)));
+          events = talk_fine t (every_at Keeps roll i s live (all_keep keeps p ns limit k roll ss notes r)) s.walker.answers;
+        }
+
+    pub entry_plain : EntriesHaveRights p ns limit → (o : ℕ) (e : Entry) → find s.path (shelf_at ss o).queue ≡ Some e → is_there e.rights.commutes ≡ false
+    entry_plain rights o e there =
+        let t = task_of s.walker in
+        let known = plain_task in
+        let fine = first_events (Fine (Plain t.spec)) s.walker.done (talk t s.walker.answers) known.events in
+        let now = after_plain (Plain t.spec) known.plain o (events_done s.walker) (rights_on t.spec o) fine (known.plain o) in
+        let is = entry_is e (rights_now s o) (ap rights_of (sym there) ∙ rights.own k roll ss notes r i s live o) in
+        ap (λ (a : Rights). is_there a.commutes) is ∙ now
+
+    -- and it takes no object for commuting
+    pub takes_plainly : (o : ℕ) → First (upcoming s.walker) (λ x. x ≡ Take o Commuting) → ⊥
+    takes_plainly o next =
+        let t = task_of s.walker in
+        let known = plain_task in
+        in_front (Fine (Plain t.spec)) s.walker.done (talk t s.walker.answers) (Take o Commuting) known.events next known.plain refl

@@ -2,6 +2,7 @@ pub mod OnePlay
 pub mod WhatIsLeft
 pub mod ByPlace
 pub mod PlainContents
+pub mod PlainSchedule
 pub mod Room
 pub mod KeyOrder
 pub mod LeftOrder

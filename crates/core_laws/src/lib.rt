@@ -20,6 +20,7 @@ ghost use Rattle.core_laws.specs.KeyOrder.{WorksStandByKey};
 ghost use Rattle.core_laws.specs.LeftOrder.{SomeLeftInOrder};
 ghost use Rattle.core_laws.specs.OnePlay.{PicksDecide};
 ghost use Rattle.core_laws.specs.PlainContents.{PlainContents};
+ghost use Rattle.core_laws.specs.PlainSchedule.{PlainSchedule};
 ghost use Rattle.core_laws.specs.ReadOrder.{ReadsStandByKey};
 ghost use Rattle.core_laws.specs.Room.{ChildrenAreFew};
 ghost use Rattle.core_laws.specs.WhatIsLeft.{SomeIsLeft, WhatIsLeft};
@@ -53,8 +54,10 @@ pub fn contents_by_place()
     schedule_core::laws::contents_are_serial();
 }
 
-/// For a program in which the word `cm` does not stand what is left and the contents are those of the
-/// plain serial run, and no live task has a right to commute.
+/// For a program in which the word `cm` does not stand what is left, the contents, the version that
+/// is kept for a task's next child, and the value that a live task is to read next are those of the
+/// plain serial run; no object ever has turns, and no live task has a right to commute. How such a
+/// program goes on says `plain_schedule`.
 pub fn plain_contents()
     ensures { (p : Program) (ns : List ℤ) (limit : ℕ) → uses_cm (program p) ≡ false → PlainContents p ns limit }
 {
@@ -63,8 +66,22 @@ pub fn plain_contents()
     jade_meaning::laws::runs_plainly();
     schedule_core::laws::entries_have_rights();
     schedule_core::laws::tasks_are_serial();
+    schedule_core::laws::reads_are_serial();
     some_is_left();
     contents_by_place();
+}
+
+/// For a program in which the word `cm` does not stand the first live task, if there is one, may
+/// always go on itself, and no more events are done than the tasks of the plain serial run have.
+pub fn plain_schedule()
+    ensures { (p : Program) (ns : List ℤ) (limit : ℕ) → uses_cm (program p) ≡ false → PlainSchedule p ns limit }
+{
+    jade_meaning::laws::keeps();
+    jade_meaning::laws::without_cm();
+    jade_meaning::laws::runs_plainly();
+    schedule_core::laws::tasks_are_serial();
+    schedule_core::laws::never_stuck();
+    schedule_core::laws::bounded();
 }
 
 /// A live task has made no more children than it may begin steps, and fewer where it is to make one
