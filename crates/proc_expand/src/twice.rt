@@ -1,0 +1,109 @@
+//! Names that two procedures have, or two parameters of one procedure.
+
+ghost use Rattle.std.specs.Prelude.{◌≡◌, ◌+◌, ◌*◌, ◌<◌, ◌≤◌, ◌&&◌, ◌||◌, length, suc, IfOk};
+ghost use Rattle.proc_expand.specs.Words.{signs, first};
+ghost use Rattle.proc_expand.specs.Refusals.{begins, head, repeats_name, repeats_param, is_twice, param_place, IsScan, Knows};
+
+use crate::places::earliest;
+use crate::procedures::{Procedure, read_head};
+use crate::scan::{Scan, has_name};
+use crate::sign::bytes_at;
+use jade_base::Memory;
+use jade_lexer::Tokens;
+use name_scope::NameScope;
+use std::alloc::Global;
+
+/// The first place at which a name repeats that of a procedure before, or a parameter one before it
+/// in its head.
+pub(crate) fn first_twice(
+    alloc: Global,
+    tokens: &Tokens<'_>,
+    scan: &Scan,
+    known: &NameScope<'_, Procedure>,
+) -> Result<Option<usize>, Memory>
+    requires scan { IsScan tokens.now.lexemes scan.now }
+    requires known { Knows tokens.now.lexemes (length tokens.now.lexemes) known.now }
+    ensures { IfOk result (λ found. found ≡ first (suc (length tokens.now.lexemes)) (is_twice tokens.now.lexemes)) }
+{
+    let mut found = None;
+    for place in 0..tokens.len() {
+        let name = repeated_name(tokens, scan, known, place);
+        let param = repeated_param(alloc, tokens, scan, place)?;
+        found = earliest(found, earliest(name, param));
+    }
+    Ok(found)
+}
+
+/// The name of the procedure that begins at a place, if one does and repeats that of one before.
+fn repeated_name(
+    tokens: &Tokens<'_>,
+    scan: &Scan,
+    known: &NameScope<'_, Procedure>,
+    place: usize,
+) -> Option<usize>
+    requires within { place < length tokens.now.lexemes }
+    requires scan { IsScan tokens.now.lexemes scan.now }
+    requires known { Knows tokens.now.lexemes (length tokens.now.lexemes) known.now }
+    ensures { result ≡ first (suc (length tokens.now.lexemes)) (λ k. begins (signs tokens.now.lexemes) place && repeats_name tokens.now.lexemes place k) }
+{
+    if !has_name(tokens, scan, place) {
+        return None;
+    }
+    match known.get(bytes_at(tokens, place + 1)) {
+        None => None,
+        Some(procedure) => {
+            if procedure.place < place {
+                Some(place + 1)
+            } else {
+                None
+            }
+        }
+    }
+}
+
+/// The first parameter of the procedure that begins at a place, if one does, that repeats another.
+fn repeated_param(
+    alloc: Global,
+    tokens: &Tokens<'_>,
+    scan: &Scan,
+    place: usize,
+) -> Result<Option<usize>, Memory>
+    requires within { place < length tokens.now.lexemes }
+    requires scan { IsScan tokens.now.lexemes scan.now }
+    ensures { IfOk result (λ found. found ≡ first (suc (length tokens.now.lexemes)) (λ k. begins (signs tokens.now.lexemes) place && repeats_param tokens.now.lexemes place (head (signs tokens.now.lexemes) place).params k)) }
+{
+    if !scan.begins[place] {
+        return Ok(None);
+    }
+    first_repeated(alloc, tokens, place, read_head(&scan.signs, place).params)
+}
+
+/// The first of so many parameters of the procedure at a place that repeats one before it.
+fn first_repeated(
+    alloc: Global,
+    tokens: &Tokens<'_>,
+    place: usize,
+    params: usize,
+) -> Result<Option<usize>, Memory>
+    requires { place + 1 + 3 * params ≤ length tokens.now.lexemes }
+    ensures { IfOk result (λ found. found ≡ first (suc (length tokens.now.lexemes)) (repeats_param tokens.now.lexemes place params)) }
+{
+    let mut seen: NameScope<'_, usize> = NameScope::none(alloc);
+    for index in 0..params {
+        let param = place + 4 + 3 * index;
+        if is_seen(&seen, bytes_at(tokens, param)) {
+            return Ok(Some(param));
+        }
+        seen.declare(bytes_at(tokens, param), index)?;
+    }
+    Ok(None)
+}
+
+/// Whether a name is among some.
+fn is_seen(seen: &NameScope<'_, usize>, name: &[u8]) -> bool
+{
+    match seen.get(name) {
+        None => false,
+        Some(_) => true,
+    }
+}
