@@ -209,6 +209,11 @@ first_reason (suc k) why = or_reason (first_reason k why) (why k) k
 abbrev pub refusal : List TokenAt → Option Refusal
 refusal ts = first_reason (suc (length ts)) (reason ts)
 
+-- so many arguments are another number than the parameters of a procedure that may be there
+abbrev pub is_other : ℕ → Option Procedure → Bool
+is_other n None = false
+is_other n (Some p) = not (nat_eq n p.head.params)
+
 -- a place that may be there, as a refusal
 abbrev pub refused : Reason → Option ℕ → Option Refusal
 refused why None = None

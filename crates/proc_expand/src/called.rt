@@ -1,8 +1,8 @@
 //! Calls of what is no procedure before them, and with other numbers of arguments.
 
-ghost use Rattle.std.specs.Prelude.{◌≡◌, ◌<◌, length, suc, not, nat_eq, IfOk};
+ghost use Rattle.std.specs.Prelude.{◌≡◌, ◌<◌, length, suc};
 ghost use Rattle.proc_expand.specs.Words.{first};
-ghost use Rattle.proc_expand.specs.Refusals.{is_unknown, is_count, is_call, call_end, count, IsScan, Knows};
+ghost use Rattle.proc_expand.specs.Refusals.{is_unknown, is_count, is_other, IsScan, Knows};
 
 use crate::calls::{call_end, count, is_call};
 use crate::known::meant;
@@ -22,7 +22,7 @@ pub(crate) fn first_unknown(
     requires known { Knows tokens.now.lexemes (length tokens.now.lexemes) known.now }
     ensures { result ≡ first (suc (length tokens.now.lexemes)) (is_unknown tokens.now.lexemes) }
 {
-    for place in 0..tokens.len() {
+    for place in 0..scan.signs.len() {
         if is_unknown(tokens, scan, known, place) {
             return Some(place);
         }
@@ -31,13 +31,14 @@ pub(crate) fn first_unknown(
 }
 
 /// Whether a name is called that is no procedure before.
+#[tactic(auto, using(crate::proofs::Naming::unknown_so, crate::proofs::Naming::known_so))]
 fn is_unknown(
     tokens: &Tokens<'_>,
     scan: &Scan,
     known: &NameScope<'_, Procedure>,
     place: usize,
 ) -> bool
-    requires within { place < length tokens.now.lexemes }
+    requires within { place < length scan.now.signs.items }
     requires scan { IsScan tokens.now.lexemes scan.now }
     requires known { Knows tokens.now.lexemes (length tokens.now.lexemes) known.now }
     ensures { result ≡ is_unknown tokens.now.lexemes place }
@@ -61,7 +62,7 @@ pub(crate) fn first_count(
     requires known { Knows tokens.now.lexemes (length tokens.now.lexemes) known.now }
     ensures { result ≡ first (suc (length tokens.now.lexemes)) (is_count tokens.now.lexemes) }
 {
-    for place in 0..tokens.len() {
+    for place in 0..scan.signs.len() {
         if is_count(tokens, scan, known, place) {
             return Some(place);
         }
@@ -70,13 +71,14 @@ pub(crate) fn first_count(
 }
 
 /// Whether a call has another number of arguments than its procedure has parameters.
+#[tactic(auto, using(crate::proofs::Naming::other_so))]
 fn is_count(
     tokens: &Tokens<'_>,
     scan: &Scan,
     known: &NameScope<'_, Procedure>,
     place: usize,
 ) -> bool
-    requires within { place < length tokens.now.lexemes }
+    requires within { place < length scan.now.signs.items }
     requires scan { IsScan tokens.now.lexemes scan.now }
     requires known { Knows tokens.now.lexemes (length tokens.now.lexemes) known.now }
     ensures { result ≡ is_count tokens.now.lexemes place }
@@ -85,12 +87,20 @@ fn is_count(
         return false;
     }
     match call_end(&scan.signs, &scan.ends, place) {
-        End::Closed(last) => match meant(known, tokens, place) {
-            None => false,
-            Some(procedure) => {
-                count(&scan.signs, &scan.ends, place, last) != procedure.head.params
-            }
-        },
+        End::Closed(last) => counts_other(
+            count(&scan.signs, &scan.ends, place, last),
+            meant(known, tokens, place),
+        ),
         _ => false,
+    }
+}
+
+/// Whether so many arguments are another number than the parameters of a procedure, if it is there.
+fn counts_other(count: usize, meant: Option<Procedure>) -> bool
+    ensures { result ≡ is_other count meant }
+{
+    match meant {
+        None => false,
+        Some(procedure) => count != procedure.head.params,
     }
 }

@@ -1,6 +1,6 @@
 //! What is known of procedures by their names.
 
-ghost use Rattle.std.specs.Prelude.{◌≡◌, ◌+◌, ◌<◌, length, IfOk, OnOk};
+ghost use Rattle.std.specs.Prelude.{◌≡◌, ◌+◌, ◌<◌, length, Some, None, if◌then◌else◌, IfOk, OnOk};
 ghost use Rattle.proc_expand.specs.Words.{signs, closes_before};
 ghost use Rattle.proc_expand.specs.Refusals.{meant, procedure_of, IsScan, Knows};
 
@@ -22,20 +22,21 @@ pub(crate) fn procedures_by_name<'t>(
     ensures { IfOk result (Knows tokens.now.lexemes (length tokens.now.lexemes)) }
 {
     let mut known: NameScope<'t, Procedure> = NameScope::none(alloc);
-    for place in 0..tokens.len() {
+    for place in 0..scan.signs.len() {
         add_procedure(&mut known, tokens, scan, place)?;
     }
     Ok(known)
 }
 
 /// With the procedure that begins at a place, if it does and is the first of its name.
+#[tactic(auto, using(crate::proofs::Naming::passed, crate::proofs::Naming::known_before, crate::proofs::Naming::known_now, crate::proofs::Naming::same_place))]
 fn add_procedure<'t>(
     known: &mut NameScope<'t, Procedure>,
     tokens: &Tokens<'t>,
     scan: &Scan,
     place: usize,
 ) -> Result<(), Memory>
-    requires within { place < length tokens.now.lexemes }
+    requires within { place < length scan.now.signs.items }
     requires scan { IsScan tokens.now.lexemes scan.now }
     requires known { Knows tokens.now.lexemes place known.old }
     ensures { OnOk result (Knows tokens.now.lexemes (place + 1) known.new) }
@@ -60,7 +61,19 @@ fn closes_before(end: End, place: usize) -> bool
     }
 }
 
+/// A procedure, if its body is closed before a call.
+fn if_before(procedure: Procedure, call: usize) -> Option<Procedure>
+    ensures { result ≡ (if closes_before procedure.end call then Some procedure else None) }
+{
+    if closes_before(procedure.end, call) {
+        Some(procedure)
+    } else {
+        None
+    }
+}
+
 /// The procedure that a call means: the first of its name, if its body is closed before the call.
+#[tactic(auto, using(crate::proofs::Naming::not_meant, crate::proofs::Naming::meant_so))]
 pub(crate) fn meant(
     known: &NameScope<'_, Procedure>,
     tokens: &Tokens<'_>,
@@ -71,12 +84,6 @@ pub(crate) fn meant(
 {
     match known.get(bytes_at(tokens, call)) {
         None => None,
-        Some(procedure) => {
-            if closes_before(procedure.end, call) {
-                Some(procedure)
-            } else {
-                None
-            }
-        }
+        Some(procedure) => if_before(procedure, call),
     }
 }

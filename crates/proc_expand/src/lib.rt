@@ -10,4 +10,6 @@ pub mod procedures;
 pub mod refusal;
 mod scan;
 pub mod sign;
+#[cfg(test)]
+mod tests;
 mod twice;

@@ -49,6 +49,7 @@ pub fn refusal_of(alloc: Global, tokens: &Tokens<'_>) -> Result<Option<Refusal>,
 }
 
 /// The first refusal, where a text was looked at and its procedures are known.
+#[tactic(auto, using(crate::proofs::Joined::joined))]
 pub(crate) fn first_refusal(
     alloc: Global,
     tokens: &Tokens<'_>,
@@ -67,6 +68,7 @@ pub(crate) fn first_refusal(
 }
 
 /// The first place at which the form of a procedure or of a call is broken.
+#[tactic(auto, using(crate::proofs::Joined::shape_first))]
 fn first_shape(tokens: &Tokens<'_>, scan: &Scan) -> Option<usize>
     requires { IsScan tokens.now.lexemes scan.now }
     ensures { result ≡ first (suc (length tokens.now.lexemes)) (is_shape (signs tokens.now.lexemes)) }
