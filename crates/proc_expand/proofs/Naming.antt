@@ -24,6 +24,12 @@ module _ (ts : List TokenAt) (s : Scan) (is : IsScan ts s) where
   pub begun_long : length s.begins.items ≡ length ts
   begun_long = ap length is.begun ∙ length_tests (length s.signs.items) (begins s.signs.items) ∙ as_long
 
+  pub begun_within : (k : ℕ) → k < length s.signs.items → k < length s.begins.items
+  begun_within k l = let a = as_long in let b = begun_long in omega (arith, a, b, l)
+
+  pub lies_in : (k : ℕ) → k < length s.signs.items → k < length ts
+  lies_in k l = let a = as_long in omega (arith, a, l)
+
   pub begun_at : (k : ℕ) (d : Bool) → k < length ts → slice_index_or s.begins.items k d ≡ begins (signs ts) k
   begun_at k d l =
       ap (λ u. slice_index_or u k d) is.begun ∙ test_at (length s.signs.items) k (begins s.signs.items) d (let e = as_long in omega (arith, l, e))

@@ -120,24 +120,20 @@ module _ (ts : List TokenAt) (p : ℕ) where
   keeps i n l true = ap (λ t. Some (if t then param_place p n else param_place p i)) (lt_not (param_place p n) (param_place p i) (omega (arith, l)))
   keeps i n l false = refl
 
+  one_after : (i n : ℕ) → i < n → p + 1 + 3 * suc n ≤ length ts → Some (param_place p i) ≡ first_param n → Some (param_place p i) ≡ first_param (suc n)
+  one_after i n before within e =
+      sym (ap first_param (sym (plus_one n)) ∙ one_param n (omega (arith, within))
+      ∙ ap (λ a. earliest a (if is_param n (param_name n) then Some (param_place p n) else None)) (sym e)
+      ∙ keeps i n (omega (arith, before)) (is_param n (param_name n)))
+
   pub param_repeats : (i n : ℕ) → i < n → p + 1 + 3 * n ≤ length ts → is_param i (param_name i) ≡ true → first_param i ≡ None
       → Some (param_place p i) ≡ first_param n
   param_repeats i zero l within h e = absurd (omega (arith, l))
-  param_repeats i (suc n) l within h e = by_case (nat_eq i n) here more
-    where
-      here : nat_eq i n ≡ true → Some (param_place p i) ≡ first_param (suc n)
-      here t =
-          let is : i ≡ n = eq_true i n t in
-          sym (param_found i (omega (arith, l, within)) h e) ∙ ap first_param (plus_one i ∙ ap suc is)
-
-      more : nat_eq i n ≡ false → Some (param_place p i) ≡ first_param (suc n)
-      more f =
-          let d = eq_false i n f in
-          let before : i < n = omega (arith, l, d) in
-          sym (ap first_param (sym (plus_one n)) ∙ one_param n (omega (arith, within))
-          ∙ ap (λ a. earliest a (if is_param n (param_name n) then Some (param_place p n) else None))
-          (sym (param_repeats i n before (omega (arith, within)) h e))
-          ∙ keeps i n (omega (arith, before)) (is_param n (param_name n)))
+  param_repeats i (suc n) l within h e =
+      by_case (nat_eq i n)
+      (λ t. sym (param_found i (omega (arith, l, within)) h e) ∙ ap first_param (plus_one i ∙ ap suc (eq_true i n t)))
+      (λ f. let d = eq_false i n f in let before : i < n = omega (arith, l, d) in
+      one_after i n before within (param_repeats i n before (omega (arith, within)) h e))
 
   -- the names that were seen
   abbrev pub Seen : List (Name × ℕ) → ℕ → Type 0
@@ -169,3 +165,35 @@ either_repeats n true f g = first_either n f g
 either_repeats n false f g =
     first_none n (λ k. false) (λ k l. refl) ∙ ap (λ a. earliest a None) (sym (first_none n (λ k. false) (λ k l. refl)))
     ∙ ap (earliest (first n (λ k. false))) (sym (first_none n (λ k. false) (λ k l. refl)))
+
+-- ---- all procedures in order
+
+module _ (ts : List TokenAt) where
+  abbrev repeats : (p k : ℕ) → Bool
+  repeats p k = begins (signs ts) p && (repeats_name ts p k || repeats_param ts p (head (signs ts) p).params k)
+
+  -- the first place at which one of those that begin before n repeats a name
+  abbrev pub twice_before : ℕ → Option ℕ
+  twice_before n = first (suc (length ts)) (λ k. some n (λ p. repeats p k))
+
+  pub none_twice : None ≡ twice_before 0
+  none_twice = sym (first_none (suc (length ts)) (λ k. some 0 (λ p. repeats p k)) (λ k l. refl))
+
+  pub twice_more : (n : ℕ) (found name param : Option ℕ) → found ≡ twice_before n
+      → name ≡ first (suc (length ts)) (λ k. begins (signs ts) n && repeats_name ts n k)
+      → param ≡ first (suc (length ts)) (λ k. begins (signs ts) n && repeats_param ts n (head (signs ts) n).params k)
+      → earliest found (earliest name param) ≡ twice_before (n + 1)
+  twice_more n found name param e f g =
+      let m = suc (length ts) in
+      ap (λ a. earliest a (earliest name param)) e ∙ ap (λ a. earliest (twice_before n) (earliest a param)) f
+      ∙ ap (λ a. earliest (twice_before n) (earliest (first m (λ k. begins (signs ts) n && repeats_name ts n k)) a)) g
+      ∙ ap (earliest (twice_before n)) (sym (either_repeats m (begins (signs ts) n) (repeats_name ts n) (repeats_param ts n (head (signs ts) n).params)))
+      ∙ sym (first_some m n repeats)
+
+-- ---- with a test before it
+
+pub none_if : (n : ℕ) (b : Bool) (q : ℕ → Bool) → b ≡ false → None ≡ first n (λ k. b && q k)
+none_if n b q h = sym (ap (λ t. first n (λ k. t && q k)) h ∙ first_none n (λ k. false) (λ k l. refl))
+
+pub all_if : (n : ℕ) (b : Bool) (q : ℕ → Bool) → b ≡ true → first n q ≡ first n (λ k. b && q k)
+all_if n b q h = ap (λ t. first n (λ k. t && q k)) (sym h)

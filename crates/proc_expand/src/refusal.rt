@@ -68,7 +68,6 @@ pub(crate) fn first_refusal(
 }
 
 /// The first place at which the form of a procedure or of a call is broken.
-#[tactic(auto, using(crate::proofs::Joined::shape_first))]
 fn first_shape(tokens: &Tokens<'_>, scan: &Scan) -> Option<usize>
     requires { IsScan tokens.now.lexemes scan.now }
     ensures { result ≡ first (suc (length tokens.now.lexemes)) (is_shape (signs tokens.now.lexemes)) }

@@ -34,12 +34,21 @@ pub(crate) fn scan_of(alloc: Global, tokens: &Tokens<'_>) -> Result<Scan, Memory
     })
 }
 
+/// Whether a procedure begins at a place.
+#[tactic(auto, using(crate::proofs::Naming::begun_at))]
+pub(crate) fn begins_at(tokens: &Tokens<'_>, scan: &Scan, place: usize) -> bool
+    requires within { place < length scan.now.signs.items }
+    requires scan { IsScan tokens.now.lexemes scan.now }
+    ensures { result ≡ begins (signs tokens.now.lexemes) place }
+{
+    scan.begins[place]
+}
+
 /// Whether a procedure begins at a place, and has a name.
-#[tactic(auto, using(crate::proofs::Naming::as_long, crate::proofs::Naming::begun_long, crate::proofs::Naming::begun_at))]
 pub(crate) fn has_name(tokens: &Tokens<'_>, scan: &Scan, place: usize) -> bool
     requires within { place < length scan.now.signs.items }
     requires scan { IsScan tokens.now.lexemes scan.now }
     ensures { result ≡ (begins (signs tokens.now.lexemes) place && is_called (at (signs tokens.now.lexemes) (place + 1))) }
 {
-    scan.begins[place] && is_called(sign_at(&scan.signs, place + 1))
+    begins_at(tokens, scan, place) && is_called(sign_at(&scan.signs, place + 1))
 }

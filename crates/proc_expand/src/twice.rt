@@ -9,7 +9,7 @@ ghost use Rattle.proc_expand.specs.Refusals.{begins, head, repeats_name, repeats
 
 use crate::places::earliest;
 use crate::procedures::{Head, Procedure, read_head};
-use crate::scan::{Scan, has_name};
+use crate::scan::{Scan, begins_at, has_name};
 use crate::sign::bytes_at;
 use jade_base::Memory;
 use jade_lexer::Tokens;
@@ -38,7 +38,6 @@ pub(crate) fn first_twice(
 }
 
 /// The name of the procedure that begins at a place, if one does and repeats that of one before.
-#[tactic(auto, using(crate::proofs::Repeated::no_name, crate::proofs::Repeated::name_repeats, crate::proofs::Naming::as_long))]
 fn repeated_name(
     tokens: &Tokens<'_>,
     scan: &Scan,
@@ -72,7 +71,7 @@ fn name_of_later(other: Procedure, place: usize) -> Option<usize>
 }
 
 /// The first parameter of the procedure that begins at a place, if one does, that repeats another.
-#[tactic(auto, using(crate::proofs::Naming::begun_long, crate::proofs::Naming::begun_at))]
+#[tactic(auto, using(crate::proofs::Naming::as_long))]
 fn repeated_param(
     alloc: Global,
     tokens: &Tokens<'_>,
@@ -83,7 +82,7 @@ fn repeated_param(
     requires scan { IsScan tokens.now.lexemes scan.now }
     ensures { IfOk result (λ found. found ≡ first (suc (length tokens.now.lexemes)) (λ k. begins (signs tokens.now.lexemes) place && repeats_param tokens.now.lexemes place (head (signs tokens.now.lexemes) place).params k)) }
 {
-    if !scan.begins[place] {
+    if !begins_at(tokens, scan, place) {
         return Ok(None);
     }
     first_repeated(alloc, tokens, place, read_head(&scan.signs, place))
