@@ -35,7 +35,6 @@ pub(crate) fn scan_of(alloc: Global, tokens: &Tokens<'_>) -> Result<Scan, Memory
 }
 
 /// Whether a procedure begins at a place.
-#[tactic(auto, using(crate::proofs::Naming::begun_at))]
 pub(crate) fn begins_at(tokens: &Tokens<'_>, scan: &Scan, place: usize) -> bool
     requires within { place < length scan.now.signs.items }
     requires scan { IsScan tokens.now.lexemes scan.now }
