@@ -1,5 +1,5 @@
 -- What is known of procedures by their names, place by place.
-use Rattle.std.proofs.Common.{◌≡◌, ℕ, suc, ◌+◌, ◌<◌, Bool, true, false, cond, ◌&&◌, List, [], ◌∷◌, length, Option, Some, None, refl, sym, ap, ◌∙◌, arith}
+use Rattle.std.proofs.Common.{◌≡◌, ℕ, ◌+◌, ◌<◌, Bool, true, false, cond, ◌&&◌, List, [], ◌∷◌, length, Option, Some, None, refl, sym, ap, ◌∙◌, arith}
 use Rattle.std.specs.Prelude.{slice_index_or, if◌then◌else◌}
 use Rattle.std.specs.Map.{lookup}
 use Rattle.std.proofs.lemmas.List.{length-map}
@@ -10,7 +10,7 @@ use Rattle.name_scope.proofs.Kept.{same_from}
 use Rattle.proc_expand.specs.declared.procedures.Procedure.{Procedure}
 use Rattle.proc_expand.specs.declared.scan.Scan.{Scan}
 use Rattle.proc_expand.specs.Words.{signs, sign_of, at, bytes_at, is_called, first, or_here, closes_before, is_closed}
-use Rattle.proc_expand.specs.Refusals.{begins, is_named, procedure, procedure_of, body_end, if_before, is_none, is_unknown, is_count, is_call, call_end, counts_other, count, is_other, meant, IsScan, Knows}
+use Rattle.proc_expand.specs.Refusals.{begins, is_named, procedure, procedure_of, body_end, if_before, is_none, is_unknown, is_count, call_end, counts_other, count, is_other, meant, IsScan, Knows}
 use Rattle.proc_expand.proofs.First.{plus_one, by_case}
 use Rattle.proc_expand.proofs.Heads.{length_tests, test_at}
 use Rattle.proc_expand.proofs.CallFacts.{no_call}

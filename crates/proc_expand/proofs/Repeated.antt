@@ -1,5 +1,5 @@
 -- Names that repeat, and the first place at which one does.
-use Rattle.std.proofs.Common.{◌≡◌, ℕ, zero, suc, ◌+◌, ◌*◌, ◌<◌, ◌≤◌, Bool, true, false, cond, ◌&&◌, ◌||◌, List, [], ◌∷◌, length, Option, Some, None, nat_eq, nat_lt, refl, sym, ap, ◌∙◌, arith}
+use Rattle.std.proofs.Common.{◌≡◌, ℕ, zero, suc, ◌+◌, ◌*◌, ◌<◌, ◌≤◌, Bool, true, false, cond, ◌&&◌, ◌||◌, List, ◌∷◌, length, Option, Some, None, nat_eq, nat_lt, refl, sym, ap, ◌∙◌, arith}
 use Rattle.std.specs.Prelude.{if◌then◌else◌}
 use Rattle.std.specs.Map.{lookup}
 use Rattle.std.specs.Option.{is_some}
@@ -8,7 +8,7 @@ use Rattle.jade_syntax.specs.Abstract.{Name}
 use Rattle.jade_syntax.specs.Numbering.{same_name}
 use Rattle.proc_expand.specs.declared.procedures.Procedure.{Procedure}
 use Rattle.proc_expand.specs.Words.{signs, at, bytes_at, is_called, first, some, or_here, earliest}
-use Rattle.proc_expand.specs.Refusals.{begins, head, is_named, procedure, procedure_of, param_place, repeats_param, repeats_name}
+use Rattle.proc_expand.specs.Refusals.{begins, head, is_named, procedure_of, param_place, repeats_param, repeats_name}
 use Rattle.proc_expand.proofs.First.{plus_one, by_case, eq_true, eq_false, lt_is, lt_not, first_same, first_none, first_one, first_below, first_either, first_some, earliest_none}
 
 -- ---- some place before another has a property

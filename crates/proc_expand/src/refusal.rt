@@ -4,15 +4,14 @@ ghost use Rattle.std.specs.Prelude.{◌≡◌, length, suc, IfOk};
 ghost use Rattle.proc_expand.specs.Words.{signs, first};
 ghost use Rattle.proc_expand.specs.Refusals.{is_shape, refused, earlier, refusal, IsScan, Knows};
 
-use crate::calls;
+use crate::called::{first_count, first_unknown};
 use crate::calls::{first_misplaced, first_within};
 use crate::known::procedures_by_name;
-use crate::called::{first_count, first_unknown};
 use crate::places::earliest;
-use crate::procedures;
 use crate::procedures::Procedure;
 use crate::scan::{Scan, scan_of};
 use crate::twice::first_twice;
+use crate::{calls, procedures};
 use jade_base::Memory;
 use jade_lexer::Tokens;
 use name_scope::NameScope;

@@ -82,7 +82,10 @@ const REPEATED: [(&[u8], usize); 6] = [
     (b"proc f(int a, int a) { } main { }", 7),
     (b"proc f() { } proc f() { } main { }", 7),
     (b"proc f(int a, bool b, int b) { } main { }", 10),
-    (b"proc f() { } proc g() { } proc f(int a, int a) { } main { }", 13),
+    (
+        b"proc f() { } proc g() { } proc f(int a, int a) { } main { }",
+        13,
+    ),
     (b"proc f(int a, int a; main { }", 7),
     (b"proc f() { } proc f(int a) { } main { f(1); }", 7),
 ];

@@ -1,4 +1,4 @@
-use Rattle.std.proofs.Common.{◌≡◌, ◌&&◌, suc, length, IfOk, ap, sym, subst, ◌∙◌}
+use Rattle.std.proofs.Common.{◌≡◌, suc, length, IfOk, ap, sym, subst, ◌∙◌}
 use Rattle.proc_expand.specs.declared.procedures.Head.{Head}
 use Rattle.proc_expand.specs.Words.{signs, first}
 use Rattle.proc_expand.specs.Refusals.{begins, head, repeats_param}
