@@ -2,3 +2,6 @@ mod First
 mod Nested
 mod Heads
 mod CallFacts
+mod Naming
+mod Repeated
+mod Joined

@@ -17,9 +17,10 @@ use Rattle.proc_expand.specs.declared.procedures.Procedure.{Procedure}
 use Rattle.proc_expand.specs.declared.refusal.Reason.{Reason}
 use Rattle.proc_expand.specs.declared.refusal.Reason.TheVariants.{Shape, Unknown, Count, Twice}
 use Rattle.proc_expand.specs.declared.refusal.Refusal.{Refusal}
+use Rattle.proc_expand.specs.declared.scan.Scan.{Scan}
 use Rattle.proc_expand.specs.Words.{signs, is_proc, is_main, is_else, is_semicolon, is_comma, is_called, opens_round, ends_statement, ends_item}
-use Rattle.proc_expand.specs.Words.{same_bracket, at, before, bytes_at, some, first, open_before, closing}
-use Rattle.proc_expand.specs.Words.{is_closed, is_after, closes_before, fails_at, end_place}
+use Rattle.proc_expand.specs.Words.{same_bracket, at, before, bytes_at, tests, some, first, open_before, closing}
+use Rattle.proc_expand.specs.Words.{is_closed, is_after, closes_before, fails_at, end_place, AreEndsFrom}
 
 -- ---- procedures
 
@@ -207,6 +208,29 @@ first_reason (suc k) why = or_reason (first_reason k why) (why k) k
 -- the refusal of a text, if there is one
 abbrev pub refusal : List TokenAt → Option Refusal
 refusal ts = first_reason (suc (length ts)) (reason ts)
+
+-- so many arguments are another number than the parameters of a procedure that may be there
+abbrev pub is_other : ℕ → Option Procedure → Bool
+is_other n None = false
+is_other n (Some p) = not (nat_eq n p.head.params)
+
+-- a place that may be there, as a refusal
+abbrev pub refused : Reason → Option ℕ → Option Refusal
+refused why None = None
+refused why (Some k) = Some (record { why = why; place = k })
+
+-- the first of two refusals that may be there; at one place it is the first of them
+abbrev pub earlier : Option Refusal → Option Refusal → Option Refusal
+earlier None b = b
+earlier (Some a) None = Some a
+earlier (Some a) (Some b) = Some (if nat_lt b.place a.place then b else a)
+
+-- ---- what a first look at a text sees: its signs, where brackets are closed, and at which places procedures begin
+
+pub record IsScan (ts : List TokenAt) (s : Scan) : Type 0 where
+  pub read : s.signs.items ≡ signs ts
+  pub closed : AreEndsFrom s.signs.items s.ends.items 0
+  pub begun : s.begins.items ≡ tests (length s.signs.items) (begins s.signs.items)
 
 -- ---- what is known of the procedures that begin before a place: for each name the first of that name
 

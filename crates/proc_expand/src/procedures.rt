@@ -5,7 +5,7 @@ ghost use Rattle.std.specs.Prelude.{IfOk};
 ghost use Rattle.proc_expand.specs.Words.{is_called, is_kind, is_comma, opens_curly, closes_round, at, before};
 ghost use Rattle.proc_expand.specs.Words.{is_proc, is_main, ends_item, open_after, tests, closing, first, some, fails_at};
 ghost use Rattle.proc_expand.specs.Words.{AreEndsFrom, EndsWithin};
-ghost use Rattle.proc_expand.specs.Refusals.{begins, begins as begins_at, proc_fails, head, misfit, with_params, after_params, params_from};
+ghost use Rattle.proc_expand.specs.Refusals.{begins, begins as begins_at, proc_fails, head, procedure, misfit, with_params, after_params, params_from};
 
 use crate::places::earliest;
 use crate::sign::{
@@ -64,7 +64,7 @@ fn misfit(stop: usize) -> Head
 }
 
 /// The head of the procedure that begins at a place.
-fn read_head(signs: &[Sign], place: usize) -> Head
+pub(crate) fn read_head(signs: &[Sign], place: usize) -> Head
     requires { place < length signs.now }
     ensures value { result ≡ head signs.now place }
     ensures long { place + 1 + 3 * result.params ≤ result.stop }
@@ -233,6 +233,21 @@ fn body_end(signs: &[Sign], ends: &[End], head: Head) -> End
     ensures within { EndsWithin (length signs.now) result }
 {
     ends[head.stop]
+}
+
+/// The procedure that begins at a place.
+pub(crate) fn procedure_at(signs: &[Sign], ends: &[End], place: usize) -> Procedure
+    requires within { place < length signs.now }
+    requires ends { AreEndsFrom signs.now ends.now 0 }
+    ensures { result ≡ procedure signs.now place }
+{
+    let head = read_head(signs, place);
+    let end = if head.fits {
+        body_end(signs, ends, head)
+    } else {
+        End::Never
+    };
+    Procedure { place, head, end }
 }
 
 /// Where brackets go wrong that end so.
