@@ -2,3 +2,9 @@ mod First
 mod Nested
 mod Heads
 mod CallFacts
+mod NameLists
+mod FreeNumbers
+mod StackOfFrames
+mod SheetFacts
+mod Depths
+mod BodyNames

@@ -3,7 +3,11 @@
 
 mod brackets;
 mod calls;
+mod frame;
+mod fresh;
+mod naming;
 mod places;
 pub mod procedures;
 pub mod refusal;
+mod sheet;
 pub mod sign;

@@ -64,7 +64,7 @@ fn misfit(stop: usize) -> Head
 }
 
 /// The head of the procedure that begins at a place.
-fn read_head(signs: &[Sign], place: usize) -> Head
+pub(crate) fn read_head(signs: &[Sign], place: usize) -> Head
     requires { place < length signs.now }
     ensures value { result ≡ head signs.now place }
     ensures long { place + 1 + 3 * result.params ≤ result.stop }
@@ -226,7 +226,7 @@ pub(crate) fn beginnings(alloc: Global, signs: &[Sign]) -> Result<Vec<bool>, Mem
 }
 
 /// Where the body of a procedure is closed whose head fits.
-fn body_end(signs: &[Sign], ends: &[End], head: Head) -> End
+pub(crate) fn body_end(signs: &[Sign], ends: &[End], head: Head) -> End
     requires opens { opens_curly (at signs.now head.stop) ≡ true }
     requires ends { AreEndsFrom signs.now ends.now 0 }
     ensures value { result ≡ closing signs.now head.stop }
