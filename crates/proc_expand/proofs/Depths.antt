@@ -1,15 +1,14 @@
 -- Procedures stand apart: where a bracket is open nothing begins, and a head has no `proc` but its own.
-use Rattle.std.proofs.Common.{◌≡◌, ℕ, zero, suc, ◌+◌, ◌-◌, ◌<◌, ◌≤◌, Bool, true, false, ◌&&◌, List, [], ◌∷◌, ◌++◌, length, drop, refl, sym, ap, ◌∙◌, subst, arith}
-use Rattle.std.specs.Prelude.{slice_index_or, nat_eq, not, if◌then◌else◌}
+use Rattle.std.proofs.Common.{◌≡◌, ℕ, zero, suc, ◌+◌, ◌<◌, ◌≤◌, Bool, true, false, List, [], ◌∷◌, ◌++◌, length, drop, refl, sym, ap, ◌∙◌, subst, arith}
+use Rattle.std.specs.Prelude.{slice_index_or, nat_eq, if◌then◌else◌}
 use Rattle.proc_expand.specs.declared.sign.Bracket.{Bracket}
 use Rattle.proc_expand.specs.declared.sign.Bracket.TheVariants.{Round, Square, Curly}
 use Rattle.proc_expand.specs.declared.sign.Sign.{Sign}
 use Rattle.proc_expand.specs.declared.sign.Sign.TheVariants.{Proc, Main, Else, Kind, ItemWord, Called, Opens, Closes, Semicolon, Comma, Other}
-use Rattle.proc_expand.specs.declared.sign.End.{End}
-use Rattle.proc_expand.specs.declared.sign.End.TheVariants.{Closed, Wrong, Never}
+use Rattle.proc_expand.specs.declared.sign.End.TheVariants.{Closed, Wrong}
 use Rattle.proc_expand.specs.Words.{at, is_proc, same_bracket, open_after, open_before, closing, closing_from, closed_by}
-use Rattle.proc_expand.specs.Refusals.{begins, params_from, after_params, params_of, head_from, head}
-use Rattle.proc_expand.proofs.First.{plus_one, drop_at, by_case, eq_true, eq_false, drop_tail, both_left, both_right}
+use Rattle.proc_expand.specs.Refusals.{params_from, after_params, params_of, head_from}
+use Rattle.proc_expand.proofs.First.{plus_one, drop_at, by_case, eq_true, eq_false, drop_tail}
 use Rattle.proc_expand.proofs.Heads.{first_of}
 use Rattle.proc_expand.proofs.Nested.{closed_within, closing_opens}
 

@@ -1,17 +1,16 @@
 -- Free numbers, and the digits of their names.
-use Rattle.std.proofs.Common.{◌≡◌, ℕ, zero, suc, ◌+◌, ◌-◌, ◌*◌, ◌/◌, ◌%◌, ◌^◌, ◌<◌, ◌≤◌, ◌==◌, Bool, true, false, cond, ◌&&◌, List, [], ◌∷◌, ◌++◌, length, drop, refl, sym, ap, ◌∙◌, subst, arith}
+use Rattle.std.proofs.Common.{◌≡◌, ℕ, zero, suc, ◌+◌, ◌-◌, ◌*◌, ◌/◌, ◌%◌, ◌^◌, ◌<◌, ◌≤◌, ◌==◌, Bool, true, false, cond, ◌&&◌, List, [], ◌∷◌, ◌++◌, length, refl, sym, ap, ◌∙◌, subst, arith}
 use Rattle.std.specs.Prelude.{slice_index_or, nat_lt, nat_eq, if◌then◌else◌}
 use Rattle.std.proofs.lemmas.Fmt.{length-decimal-le}
 use Rattle.std.specs.Fmt.{digits_onto, digits, decimal, digit_glyph}
 use Rattle.jade_syntax.specs.Abstract.{Name}
 use Rattle.proc_expand.specs.Names.{is_among}
 use Rattle.proc_expand.specs.Written.{numeral, numbered_name, next_free, free_number}
-use Rattle.proc_expand.specs.Replaced.{names_of, AreFree}
+use Rattle.proc_expand.specs.Replaced.{AreFree}
 use Rattle.std.proofs.lemmas.List.{length-append}
 use Rattle.std.proofs.Math.Seq.{get_or-append_seam}
 use Rattle.std.proofs.Math.ListN.{get_or-append}
 use Rattle.proc_expand.proofs.First.{by_case, eq_true, eq_false, lt_is, both_right}
-use Rattle.proc_expand.proofs.NameLists.{names_count}
 
 -- the digits of a number do not depend on how many may be written, where these are enough
 enough : (j k n : ℕ) (acc : List ℕ) → n < 10 ^ j → n < 10 ^ k → digits_onto (suc j) 10 false n acc ≡ digits_onto (suc k) 10 false n acc

@@ -1,6 +1,6 @@
 -- Lists of names, as they grow by one.
 use Rattle.std.proofs.Common.{◌≡◌, ℕ, zero, suc, ◌+◌, ◌<◌, ◌≤◌, Bool, true, false, cond, ◌||◌, List, [], ◌∷◌, ◌++◌, ◌-◌, ◌≢◌, length, drop, slice_set, Option, Some, None, refl, sym, ap, ◌∙◌, subst, arith}
-use Rattle.std.specs.Prelude.{map, slice_index_or, not, ◌&&◌, ◌*◌, if◌then◌else◌}
+use Rattle.std.specs.Prelude.{map, slice_index_or, ◌&&◌, if◌then◌else◌}
 use Rattle.std.specs.Map.{lookup}
 use Rattle.std.specs.List.{filter}
 use Rattle.std.proofs.lemmas.List.{map-append, append_assoc, length-append, append-nil, get_or-set_same, get_or-set_other}
@@ -12,11 +12,11 @@ use Rattle.jade_syntax.specs.Numbering.{same_name}
 use Rattle.name_scope.proofs.Kept.{same_from, same_self}
 use Rattle.proc_expand.specs.declared.sign.Sign.{Sign}
 use Rattle.proc_expand.specs.declared.sign.Sign.TheVariants.{Proc, Main, Else, Kind, ItemWord, Called, Opens, Closes, Semicolon, Comma, Other}
-use Rattle.proc_expand.specs.Words.{signs, at, bytes_at, those, one_if, is_called}
+use Rattle.proc_expand.specs.Words.{at, bytes_at, those, one_if, is_called}
 use Rattle.proc_expand.specs.Names.{is_among, first_places, place_among}
-use Rattle.proc_expand.specs.Refusals.{is_call, param_place}
+use Rattle.proc_expand.specs.Refusals.{param_place}
 use Rattle.proc_expand.specs.Written.{item_names_from, from, is_variable, names_at}
-use Rattle.proc_expand.specs.Replaced.{is_item_word, names_of, with_name, with_names, number_among, found_among, AreNumbered, IsNumber, IsMark}
+use Rattle.proc_expand.specs.Replaced.{is_item_word, names_of, with_name, with_names, found_among, AreNumbered, IsNumber, IsMark}
 use Rattle.proc_expand.proofs.First.{drop_at, plus_one, both_left, both_right}
 use Rattle.proc_expand.proofs.Heads.{first_of, called_is, lies_within}
 

@@ -1,13 +1,12 @@
 -- A text that grows by a token.
 use Rattle.std.proofs.Common.{◌≡◌, ℕ, ◌+◌, ◌-◌, ◌<◌, ◌≤◌, List, [], ◌∷◌, ◌++◌, length, take, drop, refl, sym, ap, ◌∙◌, subst, arith}
 use Rattle.std.specs.Prelude.{map}
-use Rattle.std.proofs.lemmas.List.{map-append, append_assoc, append-nil, length-append, take-append-le, drop-append-le, length-drop}
+use Rattle.std.proofs.lemmas.List.{map-append, append_assoc, length-append, take-append-le, drop-append-le, length-drop}
 use Rattle.std.proofs.Math.Seq.{drop-append_seam, take-append_seam}
-use Rattle.std.proofs.Math.ListN.{drop_of_length-le}
 use Rattle.proc_expand.specs.declared.sheet.Piece.{Piece}
 use Rattle.proc_expand.specs.declared.sheet.Sheet.{Sheet}
 use Rattle.proc_expand.specs.Written.{MadeToken}
-use Rattle.proc_expand.specs.Sheets.{spaced_out, piece_token, tokens_of, Begins, AreLaid, IsSheet}
+use Rattle.proc_expand.specs.Sheets.{spaced_out, piece_token, tokens_of, AreLaid, IsSheet}
 
 laid_up : (n : ℕ) (ps : List Piece) (m : ℕ) → AreLaid n ps m → n ≤ m
 laid_up n [] m h = omega (arith, h)

@@ -1,12 +1,11 @@
 -- Writing with open bodies on a stack writes what the definition says.
-use Rattle.std.proofs.Common.{◌≡◌, ℕ, zero, suc, ◌+◌, ◌-◌, ◌<◌, Bool, true, false, ◌&&◌, List, [], ◌∷◌, ◌++◌, length, drop, Option, Some, None, refl, sym, ap, ◌∙◌, subst, arith}
+use Rattle.std.proofs.Common.{◌≡◌, ℕ, zero, suc, ◌+◌, ◌-◌, Bool, true, false, ◌&&◌, List, [], ◌∷◌, ◌++◌, length, drop, Option, Some, None, refl, sym, ap, ◌∙◌}
 use Rattle.std.specs.Prelude.{map, codes, not, if◌then◌else◌}
 use Rattle.std.proofs.lemmas.List.{map-append, append_assoc, append-nil}
 use Rattle.jade_base.specs.declared.place.Pos.{Pos}
 use Rattle.jade_lexer.specs.Lexemes.{TokenAt}
 use Rattle.jade_syntax.specs.Abstract.{Name}
 use Rattle.jade_syntax.specs.Numbering.{same_name}
-use Rattle.proc_expand.specs.declared.frame.Call.{Call}
 use Rattle.proc_expand.specs.declared.frame.Frame.{Frame}
 use Rattle.proc_expand.specs.declared.procedures.Procedure.{Procedure}
 use Rattle.proc_expand.specs.Words.{signs, bytes_at, those, one_if}
