@@ -2,6 +2,12 @@ mod First
 mod Nested
 mod Heads
 mod CallFacts
-mod Naming
+mod KnownNames
 mod Repeated
 mod Joined
+mod NameLists
+mod FreeNumbers
+mod StackOfFrames
+mod SheetFacts
+mod Depths
+mod BodyNames

@@ -136,6 +136,13 @@ module _ (ts : List TokenAt) (end : Pos) where
   abbrev pub CallWriter : Type 0
   CallWriter = (k : ℕ) → List (List MadeToken) → ℕ → Written
 
+  -- the token at a place, or what is written for the call there, and what comes after that
+  abbrev pub write_one : Bool → CallWriter → (Name → Name) → ℕ → ℕ → (ℕ → Written) → (ℕ → Written) → Written
+  write_one true calls to k n after rest =
+      let w = calls k (map (λ ps. map (token_at to) ps) (arguments k)) n in
+      let a = after w.next in record { tokens = w.tokens ++ a.tokens; next = a.next }
+  write_one false calls to k n after rest = let a = rest n in record { tokens = token_at to k ∷ a.tokens; next = a.next }
+
   -- some places in order; a call's places are written as a whole where it begins, and are passed
   abbrev pub write_places : CallWriter → (Name → Name) → (passed : ℕ) → List ℕ → ℕ → Written
   write_places calls to passed [] n = record { tokens = []; next = n }
@@ -143,13 +150,6 @@ module _ (ts : List TokenAt) (end : Pos) where
   write_places calls to zero (k ∷ ks) n =
       write_one (is_call (signs ts) k) calls to k n (λ m. write_places calls to (suc (closed_at (call_end (signs ts) k) - k)) ks m)
       (write_places calls to zero ks)
-    where
-      write_one : Bool → CallWriter → (Name → Name) → ℕ → ℕ → (ℕ → Written) → (ℕ → Written) → Written
-      write_one true calls to k n after rest =
-          let w = calls k (map (λ ps. map (token_at to) ps) (arguments k)) n in
-          let a = after w.next in record { tokens = w.tokens ++ a.tokens; next = a.next }
-      write_one false calls to k n after rest =
-          let a = rest n in record { tokens = token_at to k ∷ a.tokens; next = a.next }
 
   -- a call of a procedure
   abbrev pub write_call : CallWriter → Procedure → CallWriter

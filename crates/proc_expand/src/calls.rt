@@ -46,7 +46,7 @@ fn is_misplaced(signs: &[Sign], place: usize) -> bool
 }
 
 /// Where a bracket ends, well or not.
-fn end_place(signs: &[Sign], end: End) -> usize
+pub(crate) fn end_place(signs: &[Sign], end: End) -> usize
     ensures { result ≡ end_place (length signs.now) end }
 {
     match end {

@@ -226,7 +226,7 @@ pub(crate) fn beginnings(alloc: Global, signs: &[Sign]) -> Result<Vec<bool>, Mem
 }
 
 /// Where the body of a procedure is closed whose head fits.
-fn body_end(signs: &[Sign], ends: &[End], head: Head) -> End
+pub(crate) fn body_end(signs: &[Sign], ends: &[End], head: Head) -> End
     requires opens { opens_curly (at signs.now head.stop) ≡ true }
     requires ends { AreEndsFrom signs.now ends.now 0 }
     ensures value { result ≡ closing signs.now head.stop }

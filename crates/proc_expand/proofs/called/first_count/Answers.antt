@@ -1,7 +1,7 @@
 use Rattle.std.proofs.Common.{suc, length, sym, ◌∙◌, arith}
 use Rattle.proc_expand.specs.Refusals.{is_count}
 use Rattle.proc_expand.proofs.First.{first_at, first_more, first_done}
-use Rattle.proc_expand.proofs.Naming.{as_long, no_count}
+use Rattle.proc_expand.proofs.KnownNames.{as_long, no_count}
 use Rattle.proc_expand.proofs.called.first_count.Goals as goal
 
 pub returns-then-is_count : goal.returns-then-is_count

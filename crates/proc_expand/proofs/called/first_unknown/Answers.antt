@@ -1,7 +1,7 @@
 use Rattle.std.proofs.Common.{suc, length, sym, ◌∙◌, arith}
 use Rattle.proc_expand.specs.Refusals.{is_unknown}
 use Rattle.proc_expand.proofs.First.{first_at, first_more, first_done}
-use Rattle.proc_expand.proofs.Naming.{as_long, no_unknown}
+use Rattle.proc_expand.proofs.KnownNames.{as_long, no_unknown}
 use Rattle.proc_expand.proofs.called.first_unknown.Goals as goal
 
 pub returns-then-is_unknown : goal.returns-then-is_unknown

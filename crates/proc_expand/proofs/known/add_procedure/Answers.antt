@@ -1,4 +1,4 @@
-use Rattle.proc_expand.proofs.Naming.{known_before}
+use Rattle.proc_expand.proofs.KnownNames.{known_before}
 use Rattle.proc_expand.proofs.known.add_procedure.Goals as goal
 
 pub returns-in-Some : goal.returns-in-Some

@@ -1,5 +1,5 @@
 use Rattle.std.proofs.Common.{◌∙◌, arith}
-use Rattle.proc_expand.proofs.Naming.{begun_within, begun_at, lies_in}
+use Rattle.proc_expand.proofs.KnownNames.{begun_within, begun_at, lies_in}
 use Rattle.proc_expand.proofs.scan.begins_at.Goals as goal
 
 pub index-requires : goal.index-requires

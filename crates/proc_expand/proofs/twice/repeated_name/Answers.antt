@@ -2,7 +2,7 @@ use Rattle.std.proofs.Common.{◌+◌, Some, None, ap, sym, ◌∙◌}
 use Rattle.std.specs.Map.{lookup}
 use Rattle.jade_syntax.specs.Numbering.{same_name}
 use Rattle.proc_expand.specs.Words.{bytes_at}
-use Rattle.proc_expand.proofs.Naming.{lies_in}
+use Rattle.proc_expand.proofs.KnownNames.{lies_in}
 use Rattle.proc_expand.proofs.Repeated.{no_name, name_repeats}
 use Rattle.proc_expand.proofs.twice.repeated_name.Goals as goal
 

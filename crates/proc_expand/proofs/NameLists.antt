@@ -1,0 +1,387 @@
+-- Lists of names, as they grow by one.
+use Rattle.std.proofs.Common.{◌≡◌, ℕ, zero, suc, ◌+◌, ◌<◌, ◌≤◌, Bool, true, false, cond, ◌||◌, List, [], ◌∷◌, ◌++◌, ◌-◌, ◌≢◌, length, drop, slice_set, Option, Some, None, refl, sym, ap, ◌∙◌, subst, arith}
+use Rattle.std.specs.Prelude.{map, slice_index_or, ◌&&◌, if◌then◌else◌}
+use Rattle.std.specs.Map.{lookup}
+use Rattle.std.specs.List.{filter}
+use Rattle.std.proofs.lemmas.List.{map-append, append_assoc, length-append, append-nil, get_or-set_same, get_or-set_other}
+use Rattle.std.proofs.lemmas.List.Elements.{filter-append}
+use Rattle.jade_base.specs.declared.place.Pos.{Pos}
+use Rattle.jade_lexer.specs.Lexemes.{TokenAt}
+use Rattle.jade_syntax.specs.Abstract.{Name}
+use Rattle.jade_syntax.specs.Numbering.{same_name}
+use Rattle.name_scope.proofs.Kept.{same_from, same_self}
+use Rattle.proc_expand.specs.declared.sign.Sign.{Sign}
+use Rattle.proc_expand.specs.declared.sign.Sign.TheVariants.{Proc, Main, Else, Kind, ItemWord, Called, Opens, Closes, Semicolon, Comma, Other}
+use Rattle.proc_expand.specs.Words.{at, bytes_at, those, one_if, is_called}
+use Rattle.proc_expand.specs.Names.{is_among, first_places, place_among}
+use Rattle.proc_expand.specs.Refusals.{param_place}
+use Rattle.proc_expand.specs.Written.{item_names_from, from, is_variable, names_at}
+use Rattle.proc_expand.specs.Replaced.{is_item_word, names_of, with_name, with_names, found_among, AreNumbered, IsNumber, IsMark}
+use Rattle.proc_expand.proofs.First.{drop_at, plus_one, both_left, both_right}
+use Rattle.proc_expand.proofs.Heads.{first_of, called_is, lies_within}
+
+-- ---- one name more
+
+pub among_more : (xs : List Name) (y x : Name) → is_among (xs ++ y ∷ []) x ≡ (is_among xs x || same_name x y)
+among_more [] y x = by (same_name x y)
+  where
+    by : (b : Bool) → (if b then true else false) ≡ (false || b)
+    by true = refl
+    by false = refl
+among_more (z ∷ xs) y x = by (same_name x z) (among_more xs y x)
+  where
+    by : (b : Bool) → is_among (xs ++ y ∷ []) x ≡ (is_among xs x || same_name x y)
+        → (if b then true else is_among (xs ++ y ∷ []) x) ≡ ((if b then true else is_among xs x) || same_name x y)
+    by true h = refl
+    by false h = h
+
+pub place_kept : (xs : List Name) (y x : Name) → is_among xs x ≡ true → place_among (xs ++ y ∷ []) x ≡ place_among xs x
+place_kept [] y x h = absurd (cc)
+place_kept (z ∷ xs) y x h = by (same_name x z) (place_kept xs y x) h
+  where
+    by : (b : Bool) → (is_among xs x ≡ true → place_among (xs ++ y ∷ []) x ≡ place_among xs x) → (if b then true else is_among xs x) ≡ true
+        → (if b then 0 else suc (place_among (xs ++ y ∷ []) x)) ≡ (if b then 0 else suc (place_among xs x))
+    by true k g = refl
+    by false k g = ap suc (k g)
+
+pub place_last : (xs : List Name) (y : Name) → is_among xs y ≡ false → place_among (xs ++ y ∷ []) y ≡ length xs
+place_last [] y h = ap (λ b. if b then 0 else suc 0) (same_self y)
+place_last (z ∷ xs) y h = by (same_name y z) (place_last xs y) h
+  where
+    by : (b : Bool) → (is_among xs y ≡ false → place_among (xs ++ y ∷ []) y ≡ length xs) → (if b then true else is_among xs y) ≡ false
+        → (if b then 0 else suc (place_among (xs ++ y ∷ []) y)) ≡ suc (length xs)
+    by true k g = absurd (cc)
+    by false k g = ap suc (k g)
+
+pub names_count : (es : List (Name × ℕ)) → length (names_of es) ≡ length es
+names_count [] = refl
+names_count (e ∷ es) = length-append (names_of es) (e.0 ∷ []) ∙ (let h = names_count es in omega (arith, h))
+
+-- something was found
+abbrev pub has : Option ℕ → Bool
+has None = false
+has (Some n) = true
+
+pub looked_up : (es : List (Name × ℕ)) (x : Name) → has (lookup (same_name x) es) ≡ is_among (names_of es) x
+looked_up [] x = refl
+looked_up (e ∷ es) x = by (same_name x e.0) (looked_up es x) ∙ sym (among_more (names_of es) e.0 x)
+  where
+    by : (b : Bool) → has (lookup (same_name x) es) ≡ is_among (names_of es) x
+        → has (cond b (Some e.1) (lookup (same_name x) es)) ≡ (is_among (names_of es) x || b)
+    by true k = sym (or_true (is_among (names_of es) x))
+      where
+        or_true : (a : Bool) → (a || true) ≡ true
+        or_true true = refl
+        or_true false = refl
+    by false k = k ∙ sym (or_false (is_among (names_of es) x))
+      where
+        or_false : (a : Bool) → (a || false) ≡ a
+        or_false true = refl
+        or_false false = refl
+
+pub not_there : (es : List (Name × ℕ)) (x : Name) → None ≡ lookup (same_name x) es → is_among (names_of es) x ≡ false
+not_there es x h = sym (looked_up es x) ∙ ap has (sym h)
+
+pub there : (es : List (Name × ℕ)) (x : Name) (n : ℕ) → Some n ≡ lookup (same_name x) es → is_among (names_of es) x ≡ true
+there es x n h = sym (looked_up es x) ∙ ap has (sym h)
+
+found_last : (xs : List Name) (y x : Name) → is_among xs y ≡ false → same_name x y ≡ true → Some (length xs) ≡ found_among (xs ++ y ∷ []) x
+found_last xs y x n e =
+    let s = same_from x y e in
+    let here : is_among (xs ++ y ∷ []) x ≡ true = among_more xs y x ∙ ap (λ b. is_among xs x || b) e ∙ or_true (is_among xs x) in
+    ap Some (sym (ap (place_among (xs ++ y ∷ [])) s ∙ place_last xs y n))
+    ∙ ap (λ b. if b then Some (place_among (xs ++ y ∷ []) x) else None) (sym here)
+  where
+    or_true : (a : Bool) → (a || true) ≡ true
+    or_true true = refl
+    or_true false = refl
+
+found_other : (xs : List Name) (y x : Name) → same_name x y ≡ false → found_among xs x ≡ found_among (xs ++ y ∷ []) x
+found_other xs y x e = by (is_among xs x) refl
+  where
+    or_false : (a : Bool) → (a || false) ≡ a
+    or_false true = refl
+    or_false false = refl
+
+    same : is_among (xs ++ y ∷ []) x ≡ is_among xs x
+    same = among_more xs y x ∙ ap (λ b. is_among xs x || b) e ∙ or_false (is_among xs x)
+
+    by : (b : Bool) → is_among xs x ≡ b → found_among xs x ≡ found_among (xs ++ y ∷ []) x
+    by true h = ap (λ b. if b then Some (place_among xs x) else None) h ∙ ap Some (sym (place_kept xs y x h))
+        ∙ ap (λ b. if b then Some (place_among (xs ++ y ∷ []) x) else None) (sym (same ∙ h))
+    by false h = ap (λ b. if b then Some (place_among xs x) else None) h
+        ∙ ap (λ b. if b then Some (place_among (xs ++ y ∷ []) x) else None) (sym (same ∙ h))
+
+pub none_numbered : (es : List (Name × ℕ)) → es ≡ [] → AreNumbered es
+none_numbered es h = subst AreNumbered (sym h) (record { found = λ x. refl })
+
+-- a new name gets the next number
+pub numbered_more : (es : List (Name × ℕ)) (y : Name) (n : ℕ) → n ≡ length es → is_among (names_of es) y ≡ false → AreNumbered es
+    → AreNumbered ((y, n) ∷ es)
+numbered_more es y n count is_new h = record { found = λ x. by x (same_name x y) refl }
+  where
+    by : (x : Name) (b : Bool) → same_name x y ≡ b → cond (same_name x y) (Some n) (lookup (same_name x) es) ≡ found_among (names_of es ++ y ∷ []) x
+    by x true e = ap (λ t. cond t (Some n) (lookup (same_name x) es)) e ∙ ap Some (count ∙ sym (names_count es))
+        ∙ found_last (names_of es) y x is_new e
+    by x false e = ap (λ t. cond t (Some n) (lookup (same_name x) es)) e ∙ h.found x ∙ found_other (names_of es) y x e
+
+-- ---- names that are met
+
+or_left : (a b : Bool) → a ≡ true → (a || b) ≡ true
+or_left a b h = ap (λ t. t || b) h
+
+or_right : (a b : Bool) → b ≡ true → (a || b) ≡ true
+or_right true b h = refl
+or_right false b h = h
+
+pub met_item : (items names : List Name) (x : Name) → is_among items x ≡ true → IsNumber items (with_name items names x) x None
+met_item items names x h = record {
+  met = or_left (is_among items x) (is_among (with_name items names x) x) h;
+  value = ap (λ b. if b then None else Some (place_among (with_name items names x) x)) (sym h);
+}
+
+pub item_changes_nothing : (items names : List Name) (x : Name) → is_among items x ≡ true → names ≡ with_name items names x
+item_changes_nothing items names x h = ap (λ b. if b then names else names ++ x ∷ []) (sym (or_left (is_among items x) (is_among names x) h))
+
+pub seen_changes_nothing : (items names : List Name) (x : Name) → is_among names x ≡ true → names ≡ with_name items names x
+seen_changes_nothing items names x h = ap (λ b. if b then names else names ++ x ∷ []) (sym (or_right (is_among items x) (is_among names x) h))
+
+pub new_joins : (items names : List Name) (x : Name) → is_among items x ≡ false → is_among names x ≡ false → names ++ x ∷ [] ≡ with_name items names x
+new_joins items names x h g = ap (λ b. if b then names else names ++ x ∷ []) (sym (ap (λ a. a || is_among names x) h ∙ g))
+
+pub is_number : (items names : List Name) (x : Name) (n : ℕ) → is_among items x ≡ false → is_among names x ≡ true → n ≡ place_among names x
+    → IsNumber items names x (Some n)
+is_number items names x n h g e = record {
+  met = or_right (is_among items x) (is_among names x) g;
+  value = ap Some e ∙ ap (λ b. if b then None else Some (place_among names x)) (sym h);
+}
+
+found_place : (names : List Name) (x : Name) (n : ℕ) (b : Bool) → is_among names x ≡ b → Some n ≡ found_among names x → (b ≡ true) × (n ≡ place_among names x)
+found_place names x n true e h = (refl, ap (get n) (h ∙ ap (λ t. if t then Some (place_among names x) else None) e))
+  where
+    get : ℕ → Option ℕ → ℕ
+    get d None = d
+    get d (Some m) = m
+found_place names x n false e h = absurd (let g = h ∙ ap (λ t. if t then Some (place_among names x) else None) e in cc)
+
+pub seen_number : (items : List Name) (es : List (Name × ℕ)) (x : Name) (n : ℕ) → is_among items x ≡ false → AreNumbered es
+    → Some n ≡ lookup (same_name x) es → IsNumber items (names_of es) x (Some n)
+seen_number items es x n h k g =
+    let f = found_place (names_of es) x n (is_among (names_of es) x) refl (g ∙ k.found x) in is_number items (names_of es) x n h f.0 f.1
+
+pub new_number : (items : List Name) (es : List (Name × ℕ)) (x : Name) (n : ℕ) → is_among items x ≡ false → n ≡ length es
+    → is_among (names_of es) x ≡ false → IsNumber items (names_of es ++ x ∷ []) x (Some n)
+new_number items es x n h count g =
+    is_number items (names_of es ++ x ∷ []) x n h
+    (among_more (names_of es) x x ∙ or_right (is_among (names_of es) x) (same_name x x) (same_self x))
+    (count ∙ sym (names_count es) ∙ sym (place_last (names_of es) x g))
+
+-- numbers stay as more names are met
+number_kept : (items names : List Name) (y x : Name) (m : Option ℕ) → IsNumber items names x m → IsNumber items (names ++ y ∷ []) x m
+number_kept items names y x m h = by (is_among items x) refl
+  where
+    by : (b : Bool) → is_among items x ≡ b → IsNumber items (names ++ y ∷ []) x m
+    by true e = record {
+      met = or_left (is_among items x) (is_among (names ++ y ∷ []) x) e;
+      value = h.value ∙ ap (λ b. if b then None else Some (place_among names x)) e
+          ∙ ap (λ b. if b then None else Some (place_among (names ++ y ∷ []) x)) (sym e);
+    }
+    by false e =
+        let here : is_among names x ≡ true = sym (ap (λ a. a || is_among names x) e) ∙ h.met in
+        record {
+          met = or_right (is_among items x) (is_among (names ++ y ∷ []) x)
+              (among_more names y x ∙ or_left (is_among names x) (same_name x y) here);
+          value = h.value ∙ ap (λ n. if is_among items x then None else Some n) (sym (place_kept names y x here));
+        }
+
+pub number_stays : (items names : List Name) (y x : Name) (m : Option ℕ) → IsNumber items names x m → IsNumber items (with_name items names y) x m
+number_stays items names y x m h = by (is_among items y || is_among names y)
+  where
+    by : (b : Bool) → IsNumber items (if b then names else names ++ y ∷ []) x m
+    by true = h
+    by false = number_kept items names y x m h
+
+pub numbers_stay : (items names ys : List Name) (x : Name) (m : Option ℕ) → IsNumber items names x m → IsNumber items (with_names items names ys) x m
+numbers_stay items names [] x m h = h
+numbers_stay items names (y ∷ ys) x m h = numbers_stay items (with_name items names y) ys x m (number_stays items names y x m h)
+
+pub met_more : (items names xs ys : List Name) → with_names items names (xs ++ ys) ≡ with_names items (with_names items names xs) ys
+met_more items names [] ys = refl
+met_more items names (x ∷ xs) ys = met_more items (with_name items names x) xs ys
+
+-- they are the names at their first places
+pub are_first : (items names seen xs : List Name) → ((z : Name) → is_among seen z ≡ is_among names z)
+    → with_names items names xs ≡ names ++ first_places items seen xs
+are_first items names seen [] h = sym (append-nil names)
+are_first items names seen (x ∷ xs) h = by (is_among items x) (is_among names x) refl (are_first items names seen xs h)
+    (are_first items (names ++ x ∷ []) (x ∷ seen) xs (λ z. more z (same_name z x)))
+  where
+    more : (z : Name) (b : Bool) → (if same_name z x then true else is_among seen z) ≡ is_among (names ++ x ∷ []) z
+    more z b = step (same_name z x) ∙ sym (among_more names x z)
+      where
+        step : (b : Bool) → (if b then true else is_among seen z) ≡ (is_among names z || b)
+        step true = sym (or_right (is_among names z) true refl)
+        step false = h z ∙ or_none (is_among names z)
+          where
+            or_none : (a : Bool) → a ≡ (a || false)
+            or_none true = refl
+            or_none false = refl
+
+    by : (a b : Bool) → is_among names x ≡ b → with_names items names xs ≡ names ++ first_places items seen xs
+        → with_names items (names ++ x ∷ []) xs ≡ (names ++ x ∷ []) ++ first_places items (x ∷ seen) xs
+        → with_names items (if a || b then names else names ++ x ∷ []) xs
+        ≡ names ++ (if a then first_places items seen xs
+        else (if is_among seen x then first_places items seen xs else x ∷ first_places items (x ∷ seen) xs))
+    by true b e k l = k
+    by false true e k l =
+        k ∙ ap (λ t. names ++ (if t then first_places items seen xs else x ∷ first_places items (x ∷ seen) xs)) (sym (h x ∙ e))
+    by false false e k l =
+        l ∙ append_assoc names (x ∷ []) (first_places items (x ∷ seen) xs)
+        ∙ ap (λ t. names ++ (if t then first_places items seen xs else x ∷ first_places items (x ∷ seen) xs)) (sym (h x ∙ e))
+
+-- ---- places in a row
+
+pub from_more : (ts : List TokenAt) (end : Pos) (k n : ℕ) → from ts end k (suc n) ≡ from ts end k n ++ (k + n) ∷ []
+from_more ts end k zero = ap (λ i. i ∷ []) (omega arith)
+from_more ts end k (suc n) = ap (λ u. k ∷ u) (from_more ts end (suc k) n ∙ ap (λ i. from ts end (suc k) n ++ i ∷ []) (omega arith))
+
+pub params_more : (ts : List TokenAt) (end : Pos) (p n : ℕ)
+    → map (bytes_at ts) (map (param_place p) (from ts end 0 (suc n)))
+    ≡ map (bytes_at ts) (map (param_place p) (from ts end 0 n)) ++ bytes_at ts (param_place p n) ∷ []
+params_more ts end p n =
+    ap (λ u. map (bytes_at ts) (map (param_place p) u)) (from_more ts end 0 n)
+    ∙ ap (map (bytes_at ts)) (map-append (param_place p) (from ts end 0 n) ((0 + n) ∷ []))
+    ∙ map-append (bytes_at ts) (map (param_place p) (from ts end 0 n)) (param_place p (0 + n) ∷ [])
+    ∙ ap (λ i. map (bytes_at ts) (map (param_place p) (from ts end 0 n)) ++ bytes_at ts (param_place p i) ∷ []) (omega arith)
+
+pub names_both : (ts : List TokenAt) (end : Pos) (ks js : List ℕ) → names_at ts end (ks ++ js) ≡ names_at ts end ks ++ names_at ts end js
+names_both ts end ks js =
+    ap (map (bytes_at ts)) (filter-append (is_variable ts end) ks js)
+    ∙ map-append (bytes_at ts) (filter (is_variable ts end) ks) (filter (is_variable ts end) js)
+
+-- ---- the names of items and of the text
+
+item_is : (s : Sign) → is_item_word s ≡ true → s ≡ ItemWord
+item_is ItemWord h = refl
+item_is Proc h = absurd (cc)
+item_is Main h = absurd (cc)
+item_is Else h = absurd (cc)
+item_is Kind h = absurd (cc)
+item_is Called h = absurd (cc)
+item_is (Opens b) h = absurd (cc)
+item_is (Closes b) h = absurd (cc)
+item_is Semicolon h = absurd (cc)
+item_is Comma h = absurd (cc)
+item_is Other h = absurd (cc)
+
+module _ (ts : List TokenAt) (end : Pos) where
+  no_item : (u : Sign) (us : List Sign) (k : ℕ) → is_called u ≡ false
+      → item_names_from ts end (ItemWord ∷ u ∷ us) k ≡ item_names_from ts end (u ∷ us) (suc k)
+  no_item Called us k h = absurd (cc)
+  no_item Proc us k h = refl
+  no_item Main us k h = refl
+  no_item Else us k h = refl
+  no_item Kind us k h = refl
+  no_item ItemWord us k h = refl
+  no_item (Opens b) us k h = refl
+  no_item (Closes b) us k h = refl
+  no_item Semicolon us k h = refl
+  no_item Comma us k h = refl
+  no_item Other us k h = refl
+
+  passed : (s : Sign) (us : List Sign) (k : ℕ) → (is_item_word s && is_called (slice_index_or us 0 Other)) ≡ false
+      → item_names_from ts end (s ∷ us) k ≡ item_names_from ts end us (suc k)
+  passed ItemWord [] k h = refl
+  passed ItemWord (u ∷ us) k h = no_item u us k h
+  passed Proc us k h = refl
+  passed Main us k h = refl
+  passed Else us k h = refl
+  passed Kind us k h = refl
+  passed Called us k h = refl
+  passed (Opens b) us k h = refl
+  passed (Closes b) us k h = refl
+  passed Semicolon us k h = refl
+  passed Comma us k h = refl
+  passed Other us k h = refl
+
+  pub items_pass : (ss : List Sign) (k : ℕ) → k < length ss → (is_item_word (at ss k) && is_called (at ss (k + 1))) ≡ false
+      → item_names_from ts end (drop k ss) k ≡ item_names_from ts end (drop (k + 1) ss) (k + 1)
+  items_pass ss k l h =
+      ap (λ u. item_names_from ts end u k) (drop_at ss k l)
+      ∙ passed (at ss k) (drop (k + 1) ss) k (ap (λ s. is_item_word (at ss k) && is_called s) (first_of ss (k + 1)) ∙ h)
+      ∙ ap (item_names_from ts end (drop (k + 1) ss)) (sym (plus_one k))
+
+  pub items_take : (ss : List Sign) (k : ℕ) → k < length ss → (is_item_word (at ss k) && is_called (at ss (k + 1))) ≡ true
+      → item_names_from ts end (drop k ss) k ≡ bytes_at ts (k + 1) ∷ item_names_from ts end (drop (k + 2) ss) (k + 2)
+  items_take ss k l h =
+      let is_word = item_is (at ss k) (both_left (is_item_word (at ss k)) (is_called (at ss (k + 1))) h) in
+      let called = both_right (is_item_word (at ss k)) (is_called (at ss (k + 1))) h in
+      let m = lies_within ss (k + 1) is_called refl called in
+      ap (λ u. item_names_from ts end u k)
+      (drop_at ss k l ∙ ap (λ s. s ∷ drop (k + 1) ss) is_word ∙ ap (λ u. ItemWord ∷ u) (drop_at ss (k + 1) m)
+      ∙ ap (λ s. ItemWord ∷ s ∷ drop (k + 1 + 1) ss) (called_is (at ss (k + 1)) called))
+      ∙ ap (λ i. bytes_at ts i ∷ item_names_from ts end (drop (k + 1 + 1) ss) (suc i)) (sym (plus_one k))
+      ∙ ap (λ i. bytes_at ts (k + 1) ∷ item_names_from ts end (drop (k + 1 + 1) ss) i) (sym (plus_one (k + 1)))
+      ∙ (let e : k + 1 + 1 ≡ k + 2 = omega arith in ap (λ i. bytes_at ts (k + 1) ∷ item_names_from ts end (drop i ss) i) e)
+
+pub those_more : (ts : List TokenAt) (k : ℕ) (is : ℕ → Bool)
+    → map (bytes_at ts) (those (suc k) is) ≡ map (bytes_at ts) (those k is) ++ map (bytes_at ts) (one_if (is k) k)
+those_more ts k is = map-append (bytes_at ts) (those k is) (one_if (is k) k)
+
+pub not_added : (ts : List TokenAt) (es : List (Name × ℕ)) (b : Bool) (k : ℕ) → b ≡ false
+    → names_of es ≡ names_of es ++ map (bytes_at ts) (one_if b k)
+not_added ts es b k h = sym (append-nil (names_of es)) ∙ ap (λ t. names_of es ++ map (bytes_at ts) (one_if t k)) (sym h)
+
+pub added : (ts : List TokenAt) (es more : List (Name × ℕ)) (x : Name) (v : ℕ) (b : Bool) (k : ℕ) → more ≡ (x, v) ∷ es → x ≡ bytes_at ts k → b ≡ true
+    → names_of more ≡ names_of es ++ map (bytes_at ts) (one_if b k)
+added ts es more x v b k h e t =
+    ap names_of h ∙ ap (λ y. names_of es ++ y ∷ []) e ∙ ap (λ u. names_of es ++ map (bytes_at ts) (one_if u k)) (sym t)
+
+-- ---- marks that are set
+
+pub set_number : (own names : List Name) (ms : List (Option ℕ)) (x y : Name) (k j : ℕ) (m : Option ℕ) → k < length ms → IsNumber own names y m → x ≡ y
+    → j ≡ k → IsNumber own names x (slice_index_or (slice_set ms k m) j None)
+set_number own names ms x y k j m l h e s =
+    subst (IsNumber own names x) (sym (ap (λ i. slice_index_or (slice_set ms k m) i None) s ∙ get_or-set_same ms k m None l))
+    (subst (λ z. IsNumber own names z m) (sym e) h)
+
+pub other_number : (own names : List Name) (ms : List (Option ℕ)) (x : Name) (k j : ℕ) (m : Option ℕ) → j ≢ k
+    → IsNumber own names x (slice_index_or ms j None) → IsNumber own names x (slice_index_or (slice_set ms k m) j None)
+other_number own names ms x k j m f h = subst (IsNumber own names x) (sym (get_or-set_other ms k j m None f)) h
+
+pub set_mark : (ts : List TokenAt) (end : Pos) (own names : List Name) (ms : List (Option ℕ)) (k j : ℕ) (m : Option ℕ) → k < length ms
+    → IsMark ts end own names k m → j ≡ k → IsMark ts end own names j (slice_index_or (slice_set ms k m) j None)
+set_mark ts end own names ms k j m l h s =
+    subst (λ i. IsMark ts end own names i (slice_index_or (slice_set ms k m) i None)) (sym s)
+    (subst (IsMark ts end own names k) (sym (get_or-set_same ms k m None l)) h)
+
+pub other_mark : (ts : List TokenAt) (end : Pos) (own names : List Name) (ms : List (Option ℕ)) (k j : ℕ) (m : Option ℕ) → j ≢ k
+    → IsMark ts end own names j (slice_index_or ms j None) → IsMark ts end own names j (slice_index_or (slice_set ms k m) j None)
+other_mark ts end own names ms k j m f h = subst (IsMark ts end own names j) (sym (get_or-set_other ms k j m None f)) h
+
+pub mark_stays : (ts : List TokenAt) (end : Pos) (own names ys : List Name) (k : ℕ) (m : Option ℕ) → IsMark ts end own names k m
+    → IsMark ts end own (with_names own names ys) k m
+mark_stays ts end own names ys k m h = record { variable = λ v. numbers_stay own names ys (bytes_at ts k) m (h.variable v); other = h.other }
+
+pub from_step : (ts : List TokenAt) (end : Pos) (start k : ℕ) → start ≤ k → from ts end start (k - start) ++ k ∷ [] ≡ from ts end start (k + 1 - start)
+from_step ts end start k h =
+    let a : k ≡ start + (k - start) = omega (arith, h) in
+    let b : suc (k - start) ≡ k + 1 - start = omega (arith, h) in
+    ap (λ i. from ts end start (k - start) ++ i ∷ []) a ∙ sym (from_more ts end start (k - start)) ∙ ap (from ts end start) b
+
+pub params_step : (ts : List TokenAt) (end : Pos) (own old now more : List Name) (p i : ℕ) (x : Name)
+    → now ≡ with_names own old (map (bytes_at ts) (map (param_place p) (from ts end 0 i))) → more ≡ with_name own now x
+    → x ≡ bytes_at ts (param_place p i) → more ≡ with_names own old (map (bytes_at ts) (map (param_place p) (from ts end 0 (i + 1))))
+params_step ts end own old now more p i x h g e =
+    let xs = map (bytes_at ts) (map (param_place p) (from ts end 0 i)) in
+    g ∙ ap (with_name own now) e ∙ ap (λ u. with_name own u (bytes_at ts (param_place p i))) h
+    ∙ sym (met_more own old xs (bytes_at ts (param_place p i) ∷ [])) ∙ ap (with_names own old) (sym (params_more ts end p i))
+    ∙ ap (λ n. with_names own old (map (bytes_at ts) (map (param_place p) (from ts end 0 n)))) (sym (plus_one i))
+
+pub body_step : (ts : List TokenAt) (end : Pos) (own old now more : List Name) (start k : ℕ) → start ≤ k
+    → now ≡ with_names own old (names_at ts end (from ts end start (k - start))) → more ≡ with_names own now (names_at ts end (k ∷ []))
+    → more ≡ with_names own old (names_at ts end (from ts end start (k + 1 - start)))
+body_step ts end own old now more start k l h g =
+    let ks = from ts end start (k - start) in
+    g ∙ ap (λ u. with_names own u (names_at ts end (k ∷ []))) h ∙ sym (met_more own old (names_at ts end ks) (names_at ts end (k ∷ [])))
+    ∙ ap (with_names own old) (sym (names_both ts end ks (k ∷ [])) ∙ ap (names_at ts end) (from_step ts end start k l))
