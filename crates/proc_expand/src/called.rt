@@ -31,7 +31,7 @@ pub(crate) fn first_unknown(
 }
 
 /// Whether a name is called that is no procedure before.
-#[tactic(auto, using(crate::proofs::Naming::unknown_so, crate::proofs::Naming::known_so))]
+#[tactic(auto, using(crate::proofs::KnownNames::unknown_so, crate::proofs::KnownNames::known_so))]
 fn is_unknown(
     tokens: &Tokens<'_>,
     scan: &Scan,
@@ -71,7 +71,7 @@ pub(crate) fn first_count(
 }
 
 /// Whether a call has another number of arguments than its procedure has parameters.
-#[tactic(auto, using(crate::proofs::Naming::other_so))]
+#[tactic(auto, using(crate::proofs::KnownNames::other_so))]
 fn is_count(
     tokens: &Tokens<'_>,
     scan: &Scan,

@@ -29,7 +29,7 @@ pub(crate) fn procedures_by_name<'t>(
 }
 
 /// With the procedure that begins at a place, if it does and is the first of its name.
-#[tactic(auto, using(crate::proofs::Naming::passed, crate::proofs::Naming::known_before, crate::proofs::Naming::known_now, crate::proofs::Naming::same_place))]
+#[tactic(auto, using(crate::proofs::KnownNames::passed, crate::proofs::KnownNames::known_before, crate::proofs::KnownNames::known_now, crate::proofs::KnownNames::same_place))]
 fn add_procedure<'t>(
     known: &mut NameScope<'t, Procedure>,
     tokens: &Tokens<'t>,
@@ -73,7 +73,7 @@ fn if_before(procedure: Procedure, call: usize) -> Option<Procedure>
 }
 
 /// The procedure that a call means: the first of its name, if its body is closed before the call.
-#[tactic(auto, using(crate::proofs::Naming::not_meant, crate::proofs::Naming::meant_so))]
+#[tactic(auto, using(crate::proofs::KnownNames::not_meant, crate::proofs::KnownNames::meant_so))]
 pub(crate) fn meant(
     known: &NameScope<'_, Procedure>,
     tokens: &Tokens<'_>,

@@ -71,7 +71,7 @@ fn name_of_later(other: Procedure, place: usize) -> Option<usize>
 }
 
 /// The first parameter of the procedure that begins at a place, if one does, that repeats another.
-#[tactic(auto, using(crate::proofs::Naming::as_long))]
+#[tactic(auto, using(crate::proofs::KnownNames::as_long))]
 fn repeated_param(
     alloc: Global,
     tokens: &Tokens<'_>,
