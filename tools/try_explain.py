@@ -46,7 +46,7 @@ def is_told(jade, text, limit):
         place = (int(fault[1]), int(fault[2])) if fault[1] else None
         return fault[3], explain.same_fault(text.encode(), words, place, fault[3], fault[4]) is not None
     place = mistakes.refused_in(text.encode())
-    return "ok", place is None and explain.first_fault(text.encode(), [], limit) is None
+    return "ok", place is None and explain.first_fault(text.encode(), [], int(limit)) is None
 
 
 def main():
