@@ -50,10 +50,24 @@ FAULTS = {
     "limit": "One step more than LIMIT would be begun, and a larger LIMIT allows it; a step is a statement or a turn of a loop.",
 }
 
+# What is told of a recording that is not written, or is not right.
+RECORDINGS = {
+    "record: long": "With its turns, answer and text the recording would have more than 1,048,576 bytes, the most that replay reads.",
+    "replay: turns": "The lines `turns` must name declared objects in declared order, and have exactly the turns that the tasks take when"
+    " those of each group take them in this order: one is missing, too many, in another group's place, or of a task that does not commute.",
+    "replay: answer": "By these turns the program has another answer than the lines after `answer` have.",
+}
+
+# What the lines of a recording are, from its first on; the lines after these are any of the last.
+LINES = ("`jade record 1`", "`limit LIMIT`", "`numbers` and the NUMBERs")
+LATER = "`turns LABEL PATH..`, or `answer K`, or one of K lines of answer, and then `text`"
+
 # The words of each command, and the most that those may be which are numbers from 1 on.
 FORMS = {
     "run": ("WORKERS", "LIMIT", "NUMBER*"),
     "serial": ("LIMIT", "NUMBER*"),
+    "record": ("WORKERS", "LIMIT", "NUMBER*"),
+    "replay": (),
     "check": (),
     "show": (),
     "drill": ("TASKS", "WORKERS"),
@@ -148,6 +162,24 @@ def why_usage(words):
     return "There are at most 64 NUMBERs."
 
 
+def recorded(text):
+    """The text of the program in a recording, and the words that run it."""
+    head = re.match(rb"jade record 1\nlimit ([0-9]+)\nnumbers([^\n]*)\n(?:turns [^\n]*\n)*answer ([0-9]+)\n", text)
+    lines = text[head.end() :].split(b"\n", int(head[3]) + 1)
+    return lines[-1], ["run", "1", head[1].decode(), *head[2].decode().split()]
+
+
+def why_recording(answer):
+    """What is told of a recording that is not written, or is not right."""
+    form = re.fullmatch(r"replay: form ([0-9]+)\n", answer)
+    if form:
+        line = int(form[1])
+        wanted = LINES[line - 1] if line <= len(LINES) else LATER
+        return f"replay: Line {line} must be {wanted}, with single spaces and a line feed at its end.\n"
+    told = answer.rstrip("\n")
+    return f"{told.partition(':')[0]}: {RECORDINGS[told]}\n"
+
+
 def why_numbers(text):
     """Which numbers a program wants."""
     tokens = tokens_of(text)
@@ -159,6 +191,10 @@ def explanation(text, words, answer):
     """What is added to an answer: nothing, where there is nothing to explain."""
     fault = re.fullmatch(r"fault (?:([0-9]+):([0-9]+) )?([a-z]+) task ([0-9.]+)\n", answer)
     refusal = re.fullmatch(r"refused ([0-9]+):([0-9]+) ([a-z]+)\n", answer)
+    if answer.startswith(("record: ", "replay: ")):
+        return why_recording(answer)
+    if words[:1] == ["replay"] and answer != "usage\n" and not answer.startswith("refused 1:1 text"):
+        text, words = recorded(text)
     if answer == "usage\n":
         return f"usage: {why_usage(words)}\n"
     if answer.startswith("numbers: "):
@@ -182,7 +218,7 @@ def main():
     text = sys.stdin.buffer.read()
     ran = run([program, *words], text)
     sys.stdout.buffer.write(ran.written)
-    if ran.status in (1, 2, 3, 4):
+    if ran.status in (1, 2, 3, 4, 8):
         sys.stdout.buffer.write(explanation(text, words, ran.text).encode())
     sys.stdout.buffer.flush()
     return ran.status

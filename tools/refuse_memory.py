@@ -79,6 +79,15 @@ main {
 }
 """
 ONE_TASK = "object s : 1; main { withonly { wr(s); } do () { s[0] = 5; } s[0] = s[0] + 1; }\n"
+PAIR = """object s : 1;
+main {
+    s[0] = 1;
+    withonly { cm(s); } do () { s[0] = s[0] * 2; }
+    withonly { cm(s); } do () { s[0] = s[0] + 3; }
+}
+"""
+# The turns are not those of a run by one worker, so the recording is followed turn by turn.
+RECORDED = f"jade record 1\nlimit 1000\nnumbers\nturns s 0.1 0.0\nanswer 1\ns = 8\ntext\n{PAIR}"
 RUNS = (
     (["run", "1", "1000"], ONE_TASK, "s = 6\n"),
     (["run", "4", "1000"], ONE_TASK, "s = 6\n"),
@@ -87,6 +96,8 @@ RUNS = (
     (["serial", "1000"], SUMS, "part[0] = 0\npart[1] = 0\nsum = 12\n"),
     (["run", "1", "1000"], SUMS, "part[0] = 0\npart[1] = 0\nsum = 12\n"),
     (["run", "4", "1000"], SUMS, "part[0] = 0\npart[1] = 0\nsum = 12\n"),
+    (["record", "1", "1000"], ONE_TASK, f"jade record 1\nlimit 1000\nnumbers\nanswer 1\ns = 6\ntext\n{ONE_TASK}"),
+    (["replay"], RECORDED, "same\n"),
 )
 
 

@@ -4,10 +4,10 @@ use Rattle.std.specs.Prelude.{codes, ℤ}
 use Rattle.std.proofs.lemmas.List.{drop_all}
 use Rattle.jade_base.specs.Bytes.{WholeText, CutText, left_after, taken_with}
 use Rattle.jade_run.specs.declared.status.Status.{Status}
-use Rattle.jade_run.specs.declared.status.Status.TheVariants.{Good, Fault, Refused, Words, Numbers, Reading, Writing, Memory}
+use Rattle.jade_run.specs.declared.status.Status.TheVariants.{Good, Fault, Refused, Words, Numbers, Reading, Writing, Memory, Replay}
 use Rattle.jade_run.specs.Headline.{Answers, Headline, Moment, Stops}
 use Rattle.jade_run.specs.declared.words.Command.{Command}
-use Rattle.jade_run.specs.declared.words.Command.TheVariants.{Run, Serial, Check, Show, Drill}
+use Rattle.jade_run.specs.declared.words.Command.TheVariants.{Run, Serial, Check, Show, Drill, Record, Replay as ToReplay}
 use Rattle.jade_run.specs.declared.words.Execution.{Execution}
 use Rattle.jade_run.specs.declared.words.WordsError.{WordsError}
 use Rattle.jade_run.specs.declared.words.WordsError.TheVariants.{Usage}
@@ -20,30 +20,19 @@ use Rattle.jade_run.specs.declared.answer.Answer.{Answer as AnswerOf}
 use Rattle.jade_run.specs.declared.answer.ReadError.{ReadError}
 use Rattle.jade_run.specs.declared.answer.ReadError.TheVariants.{Refused as NotRead, Memory as Unread}
 use Rattle.jade_meaning.specs.Turns.{in_order}
-use Rattle.jade_run.specs.Outcome.{
+use Rattle.jade_run.specs.Answered.{
   TurnLists,
   BySomeTurns,
-  IsOutcome,
   IsAnswered,
   IsGood,
   Shows,
   IsShown,
   IsTested,
   IsDrilled,
-  IsCommanded,
   IsNotRead,
   OnRefused,
   RefusedAs,
   RefusedFor,
-  IsAllowed,
-  IsLimited,
-  usage,
-  too_long,
-  run,
-  serial,
-  check,
-  show,
-  drill,
   refused,
   answered,
   miscounted,
@@ -58,8 +47,22 @@ use Rattle.jade_run.specs.Outcome.{
   answer_status,
   input_count,
 }
+use Rattle.jade_run.specs.Outcome.{IsOutcome, IsCommanded, IsAllowed, IsLimited, usage, too_long, run, serial, check, show, drill, keep, replay}
+use Rattle.jade_run.specs.Recordings.{
+  IsKept,
+  IsReplayed,
+  kept,
+  long as overlong,
+  not_run,
+  formless,
+  unfit,
+  uncounted,
+  turnless,
+  differs,
+  same,
+}
 use Rattle.jade_run.specs.Texts.{usage_text, refused_text, ok_text}
-use Rattle.jade_run.specs.Words.{SpellsExecution, NeedsText, RefusesWords, Asks, IsUsage, to_run, to_serial, to_check, to_show, on_text}
+use Rattle.jade_run.specs.Words.{SpellsExecution, NeedsText, RefusesWords, Asks, IsUsage, to_run, to_serial, to_check, to_show, to_record, to_replay, on_text}
 use Rattle.jade_run.specs.Words.{works_on_text}
 use Rattle.jade_run.specs.Witnessed.{Carried, SeenRun, SawWords, of_none, of_drill, refuses}
 use Rattle.jade_run.proofs.Naming.{drill_only}
@@ -128,6 +131,8 @@ asks_text words (Serial e) h on = to_serial e.limit e.numbers h
 asks_text words Check h on = to_check h
 asks_text words Show h on = to_show h
 asks_text words (Drill n w) h on = absurd (cc)
+asks_text words (Record w e) h on = to_record w e.limit e.numbers h
+asks_text words ToReplay h on = to_replay h
 
 executed : (words : List (List ℕ)) (e : Execution) → SpellsExecution words e.limit e.numbers → IsLimited e
 executed words e h = (h.steps.some, h.given.few)
@@ -138,6 +143,8 @@ asks_allowed words (Serial e) h = executed h.more e h.execution
 asks_allowed words Check h = tt
 asks_allowed words Show h = tt
 asks_allowed words (Drill n w) h = ((h.drill.crew.some, h.drill.crew.within), (h.drill.amount.some, h.drill.amount.within))
+asks_allowed words (Record w e) h = ((h.run.crew.some, h.run.crew.within), executed h.run.more e h.run.execution)
+asks_allowed words ToReplay h = tt
 
 commanded : (words : List (List ℕ)) (c : Command) (bytes : List ℕ) (turns : TurnLists) (text : List ℕ) (status : Status) → Asks words c
     → length bytes ≤ 1048576 → IsCommanded c bytes turns text status → IsOutcome words bytes turns text status
@@ -146,6 +153,8 @@ commanded words (Serial e) bytes turns text status asked within h = serial e.lim
 commanded words Check bytes turns text status asked within h = check asked within h
 commanded words Show bytes turns text status asked within h = show asked within h
 commanded words (Drill n w) bytes turns text status asked within h = drill n w asked h
+commanded words (Record w e) bytes turns text status asked within h = keep w e.limit e.numbers asked within h
+commanded words ToReplay bytes turns text status asked within h = replay asked within h
 
 pub command_answers : (words : List (List ℕ)) (before after : Option (List ℕ)) (c : Command) (bytes read text : List ℕ) (status : Status)
     (old new : Option (List SeenRun)) → Asks words c → works_on_text c ≡ true → WholeText before after bytes → read ≡ bytes →
@@ -174,6 +183,8 @@ drilled_answers words left (Run w e) text status old new asked off h = absurd (c
 drilled_answers words left (Serial e) text status old new asked off h = absurd (cc)
 drilled_answers words left Check text status old new asked off h = absurd (cc)
 drilled_answers words left Show text status old new asked off h = absurd (cc)
+drilled_answers words left (Record w e) text status old new asked off h = absurd (cc)
+drilled_answers words left ToReplay text status old new asked off h = absurd (cc)
 drilled_answers words left (Drill n w) text status old new asked off h = record {
   comes = record {
     bytes = bytes_of left;
@@ -204,6 +215,7 @@ Written Numbers = Unit {0}
 Written Reading = ⊥
 Written Writing = ⊥
 Written Memory = ⊥
+Written Replay = Unit {0}
 
 answer_written : (a : Answer) → Written (answer_status a)
 unfolding Written
@@ -232,6 +244,22 @@ unfolding Written
 drilled_written tasks text status (summed tree g n store e t s) = subst Written (sym s) tt
 drilled_written tasks text status (not_summed h bad) = answered_written _ _ _ _ _ _ h
 
+kept_written : (bytes : List ℕ) (numbers : List ℤ) (limit : ℕ) (turns : TurnLists) (text : List ℕ) (status : Status)
+    → IsKept bytes numbers limit turns text status → Written status
+unfolding Written
+kept_written bytes numbers limit turns text status (kept tree g n r h within t s) = subst Written (sym s) tt
+kept_written bytes numbers limit turns text status (overlong tree g n r h over t s) = subst Written (sym s) tt
+kept_written bytes numbers limit turns text status (not_run h x y) = answered_written _ _ _ _ _ _ h
+
+replayed_written : (bytes text : List ℕ) (status : Status) → IsReplayed bytes text status → Written status
+unfolding Written
+replayed_written bytes text status (formless line b t s) = subst Written (sym s) tt
+replayed_written bytes text status (unfit r h place why for t s) = subst Written (sym s) tt
+replayed_written bytes text status (uncounted r h tree g n t s) = subst Written (sym s) tt
+replayed_written bytes text status (turnless r tree p none t s) = subst Written (sym s) tt
+replayed_written bytes text status (differs r tree p lists h not_told t s) = subst Written (sym s) tt
+replayed_written bytes text status (same r tree lists h t s) = subst Written (sym s) tt
+
 pub outcome_written : (words : List (List ℕ)) (bytes : List ℕ) (turns : TurnLists) (text : List ℕ) (status : Status) → IsOutcome words bytes turns text status → Written status
 unfolding Written
 outcome_written words bytes turns text status (usage never t s) = subst Written (sym s) tt
@@ -241,6 +269,8 @@ outcome_written words bytes turns text status (serial l ns named within h) = ans
 outcome_written words bytes turns text status (check named within h) = tested_written _ _ _ h
 outcome_written words bytes turns text status (show named within h) = shown_written _ _ _ h
 outcome_written words bytes turns text status (drill n w named h) = drilled_written _ _ _ h
+outcome_written words bytes turns text status (keep w l ns named within h) = kept_written _ _ _ _ _ _ h
+outcome_written words bytes turns text status (replay named within h) = replayed_written _ _ _ h
 
 written_headline : (words : List (List ℕ)) (status : Status) (before after : Moment) (text : List ℕ) → Written status →
     Answers words before.left after.left text status before.seen after.seen → after.taken ≡ taken_with before.taken text → Headline words status before after
@@ -253,6 +283,7 @@ written_headline words Numbers before after text h a w = record { text = text; a
 written_headline words Reading before after text h a w = absurd h
 written_headline words Writing before after text h a w = absurd h
 written_headline words Memory before after text h a w = absurd h
+written_headline words Replay before after text h a w = record { text = text; answers = a; written = w }
 
 -- an outcome that was written whole
 pub wrote_headline : (words : List (List ℕ)) (status : Status) (before after : Moment) (text : List ℕ) →
@@ -271,6 +302,7 @@ stopped_headline words Numbers before after w s e = absurd s
 stopped_headline words Reading before after w s e = record { rose = s; written = w; unseen = e refl }
 stopped_headline words Writing before after w s e = absurd s
 stopped_headline words Memory before after w s e = w
+stopped_headline words Replay before after w s e = absurd s
 
 no_reading : (status : Status) → Written status → status ≡ Reading → ⊥
 unfolding Written

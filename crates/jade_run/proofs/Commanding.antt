@@ -5,12 +5,15 @@ use Rattle.jade_base.specs.declared.failure.Memory.{Memory}
 use Rattle.jade_meaning.specs.Turns.{in_order}
 use Rattle.jade_run.specs.declared.answer.Answer.{Answer}
 use Rattle.jade_run.specs.declared.words.Command.{Command}
-use Rattle.jade_run.specs.declared.words.Command.TheVariants.{Run, Serial, Check, Show, Drill}
+use Rattle.jade_run.specs.declared.words.Command.TheVariants.{Run, Serial, Check, Show, Drill, Record, Replay}
 use Rattle.jade_run.specs.declared.words.Execution.{Execution}
-use Rattle.jade_run.specs.Outcome.{BySomeTurns, IsAnswered, IsCommanded, IsShown, IsTested}
+use Rattle.jade_run.specs.Answered.{BySomeTurns, IsAnswered, IsShown, IsTested}
+use Rattle.jade_run.specs.Outcome.{IsCommanded}
+use Rattle.jade_run.specs.Recordings.{IsReplayed}
 use Rattle.jade_run.specs.Witnessed.{Carried, SawCommand, SeenRun}
 use Rattle.jade_run.specs.steps.Drilling.{IsRunDrill}
 use Rattle.jade_run.specs.steps.Ending.{IsRunText}
+use Rattle.jade_run.specs.steps.Recording.{IsKeptText}
 
 pub by_run : (c : Command) (w : ℕ) (e : Execution) (bytes : List ℕ) (ns : List ℤ) (r : Result Answer Memory) (old new : Option (List SeenRun))
     → c ≡ Run w e → ns ≡ e.numbers
@@ -57,3 +60,20 @@ by_drill c n w bytes (Ok a) old new is h =
     let Q : Command → Type 0 = λ z. Carried z bytes h.0 a.text.items a.status old new in
     (h.0, subst Q (sym is) (record { is = h.1.is; saw = h.1.saw }))
 by_drill c n w bytes (Err m) old new is h = tt
+
+pub by_record : (c : Command) (w : ℕ) (e : Execution) (bytes : List ℕ) (ns : List ℤ) (r : Result Answer Memory) (old new : Option (List SeenRun))
+    → c ≡ Record w e → ns ≡ e.numbers
+    → IfOk r (λ a. BySomeTurns (λ turns. IsKeptText bytes ns e.limit turns a.text.items a.status old new))
+    → IfOk r (λ a. BySomeTurns (λ turns. Carried c bytes turns a.text.items a.status old new))
+by_record c w e bytes ns (Ok a) old new is same h =
+    let P : List ℤ → Type 0 = λ ms. IsKeptText bytes ms e.limit h.0 a.text.items a.status old new in
+    let Q : Command → Type 0 = λ z. Carried z bytes h.0 a.text.items a.status old new in
+    let k = subst P same h.1 in
+    (h.0, subst Q (sym is) (record { is = k.is; saw = k.saw }))
+by_record c w e bytes ns (Err m) old new is same h = tt
+
+pub by_replay : (c : Command) (bytes : List ℕ) (r : Result Answer Memory) (seen : Option (List SeenRun)) → c ≡ Replay
+    → IfOk r (λ a. IsReplayed bytes a.text.items a.status)
+    → IfOk r (λ a. BySomeTurns (λ turns. Carried c bytes turns a.text.items a.status seen seen))
+by_replay c bytes (Ok a) seen is h = unseen c Replay bytes a seen is h refl
+by_replay c bytes (Err m) seen is h = tt

@@ -41,7 +41,7 @@ use Rattle.fault_order.specs.Order.{IsFirstNote, PassesLimit, steps_in, comes_be
 use Rattle.jade_meaning.specs.Laws.{Every}
 use Rattle.jade_meaning.specs.Report.{Ascends}
 use Rattle.jade_meaning.specs.ReportAnswer.{first_note, step_over}
-use Rattle.jade_run.specs.Outcome.{fault_key}
+use Rattle.jade_run.specs.Answered.{fault_key}
 
 every_at : (P : List ℕ → Type 0) (fs : List FaultNote) (k : ℕ) (x : FaultNote) → Every P (map fault_key fs) → slice_get fs k ≡ Some x → P (fault_key x)
 every_at P [] k x h e = absurd (cc)

@@ -9,9 +9,9 @@ use Rattle.jade_meaning.specs.Answer.{Answer, Faulted, Cells, answer}
 use Rattle.jade_run.specs.declared.answer.Answer.{Answer as AnswerOf}
 use Rattle.jade_run.specs.declared.status.Status.{Status}
 use Rattle.jade_run.specs.declared.status.Status.TheVariants.{Good, Fault, Refused, Numbers}
-use Rattle.jade_run.specs.Outcome.{TurnLists, BySomeTurns, IsAnswered, IsDrilled, IsGood, Shows}
+use Rattle.jade_run.specs.Answered.{TurnLists, BySomeTurns, IsAnswered, IsDrilled, IsGood, Shows}
 use Rattle.jade_meaning.specs.Turns.{in_order}
-use Rattle.jade_run.specs.Outcome.{summed, not_summed, answered, input_count}
+use Rattle.jade_run.specs.Answered.{summed, not_summed, answered, input_count}
 use Rattle.jade_run.specs.Witnessed.{SeenRun}
 use Rattle.jade_run.specs.steps.Drilling.{IsDrillOf, ShowsSum}
 use Rattle.jade_run.specs.steps.Preparing.{IsSettled}

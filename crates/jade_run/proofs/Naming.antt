@@ -1,8 +1,8 @@
 -- The first words of the commands, and words that are no command's.
-use Rattle.std.proofs.Common.{◌≡◌, ℕ, ◌+◌, List, [], ◌∷◌, refl, sym, ◌∙◌, subst, arith}
+use Rattle.std.proofs.Common.{◌≡◌, ℕ, ◌+◌, ◌<◌, List, [], ◌∷◌, get_or, refl, ap, sym, ◌∙◌, subst, arith}
 use Rattle.std.specs.Prelude.{codes, ℤ}
 use Rattle.jade_run.specs.Words.{SpellsExecution, SpellsRun, AcceptsWords, NeedsText, DrillWords, SpellsDrill}
-use Rattle.jade_run.specs.Words.{to_run, to_serial, to_check, to_show, on_text, to_drill, IsUsage, NoExecution, NoRun, NoDrill}
+use Rattle.jade_run.specs.Words.{to_run, to_serial, to_check, to_show, to_record, to_replay, on_text, to_drill, IsUsage, NoExecution, NoRun, NoDrill}
 use Rattle.jade_run.specs.declared.words.WordsError.{WordsError}
 use Rattle.jade_run.specs.declared.words.WordsError.TheVariants.{Usage, Memory}
 
@@ -50,12 +50,51 @@ drill_check e = next 100 99 refl (firsts 100 99 (codes "rill") (codes "heck") e)
 pub drill_show : codes "drill" ≡ codes "show" → ⊥
 drill_show e = absurd (cc)
 
+-- texts whose third bytes differ
+other_third : (x y : List ℕ) (a b : ℕ) → get_or x 2 0 ≡ a → get_or y 2 0 ≡ b → a < b → x ≡ y → ⊥
+other_third x y a b f g lt e = let same = ap (λ l. get_or l 2 0) e in absurd (omega (arith, f, g, same, lt))
+
+pub record_run : codes "record" ≡ codes "run" → ⊥
+record_run e = other_third (codes "record") (codes "run") 99 110 refl refl (omega arith) e
+
+pub record_serial : codes "record" ≡ codes "serial" → ⊥
+record_serial e = other_third (codes "record") (codes "serial") 99 114 refl refl (omega arith) e
+
+pub record_check : codes "record" ≡ codes "check" → ⊥
+record_check e = other_third (codes "record") (codes "check") 99 101 refl refl (omega arith) e
+
+pub record_show : codes "record" ≡ codes "show" → ⊥
+record_show e = other_third (codes "record") (codes "show") 99 111 refl refl (omega arith) e
+
+pub record_drill : codes "record" ≡ codes "drill" → ⊥
+record_drill e = other_third (codes "record") (codes "drill") 99 105 refl refl (omega arith) e
+
+pub replay_run : codes "replay" ≡ codes "run" → ⊥
+replay_run e = other_third (codes "run") (codes "replay") 110 112 refl refl (omega arith) (sym e)
+
+pub replay_serial : codes "replay" ≡ codes "serial" → ⊥
+replay_serial e = other_third (codes "replay") (codes "serial") 112 114 refl refl (omega arith) e
+
+pub replay_check : codes "replay" ≡ codes "check" → ⊥
+replay_check e = other_third (codes "check") (codes "replay") 101 112 refl refl (omega arith) (sym e)
+
+pub replay_show : codes "replay" ≡ codes "show" → ⊥
+replay_show e = other_third (codes "show") (codes "replay") 111 112 refl refl (omega arith) (sym e)
+
+pub replay_drill : codes "replay" ≡ codes "drill" → ⊥
+replay_drill e = other_third (codes "drill") (codes "replay") 105 112 refl refl (omega arith) (sym e)
+
+pub replay_record : codes "replay" ≡ codes "record" → ⊥
+replay_record e = other_third (codes "record") (codes "replay") 99 112 refl refl (omega arith) (sym e)
+
 -- a drill needs no text
 pub drill_only : (words : List (List ℕ)) (tasks workers : ℕ) → DrillWords words tasks workers → NeedsText words → ⊥
 drill_only words n v d (to_run w l ns h) = two_names words d.more h.more _ _ drill_run d.two h.two
 drill_only words n v d (to_serial l ns h) = two_names words d.more h.more _ _ drill_serial d.two h.two
 drill_only words n v d (to_check h) = two_names words d.more [] _ _ drill_check d.two h.spelled
 drill_only words n v d (to_show h) = two_names words d.more [] _ _ drill_show d.two h.spelled
+drill_only words n v d (to_record w l ns h) = two_names words h.more d.more _ _ record_drill h.two d.two
+drill_only words n v d (to_replay h) = two_names words [] d.more _ _ replay_drill h.spelled d.two
 
 pub swapped : {A : Type 0} {x y : A} → (x ≡ y → ⊥) → y ≡ x → ⊥
 swapped f e = f (sym e)
@@ -73,11 +112,28 @@ no_run_named name rest is never (on_text (to_run w l ns h)) =
 no_run_named name rest is never (on_text (to_serial l ns h)) = run_serial (sym is ∙ firsts _ _ _ _ h.two)
 no_run_named name rest is never (on_text (to_check h)) = run_check (sym is ∙ firsts _ _ _ _ h.spelled)
 no_run_named name rest is never (on_text (to_show h)) = run_show (sym is ∙ firsts _ _ _ _ h.spelled)
+no_run_named name rest is never (on_text (to_record w l ns h)) = record_run (sym (firsts _ _ _ _ h.two) ∙ is)
+no_run_named name rest is never (on_text (to_replay h)) = replay_run (sym (firsts _ _ _ _ h.spelled) ∙ is)
 no_run_named name rest is never (to_drill n v h) = drill_run (sym (firsts _ _ _ _ h.two) ∙ is)
 
 pub not_run : (name : List ℕ) (rest : List (List ℕ)) (e : WordsError) → name ≡ codes "run" → NoRun rest e → IsUsage (name ∷ rest) e
 not_run name rest Usage is never = no_run_named name rest is never
 not_run name rest Memory is never = tt
+
+no_record_named : (name : List ℕ) (rest : List (List ℕ)) → name ≡ codes "record" → ((w l : ℕ) (ns : List ℤ) → SpellsRun rest w l ns → ⊥) →
+    AcceptsWords (name ∷ rest) → ⊥
+no_record_named name rest is never (on_text (to_run w l ns h)) = record_run (sym is ∙ firsts _ _ _ _ h.two)
+no_record_named name rest is never (on_text (to_serial l ns h)) = record_serial (sym is ∙ firsts _ _ _ _ h.two)
+no_record_named name rest is never (on_text (to_check h)) = record_check (sym is ∙ firsts _ _ _ _ h.spelled)
+no_record_named name rest is never (on_text (to_show h)) = record_show (sym is ∙ firsts _ _ _ _ h.spelled)
+no_record_named name rest is never (on_text (to_record w l ns h)) =
+    let P : List (List ℕ) → Type 0 = λ ws. SpellsRun ws w l ns in never w l ns (subst P (sym (rests _ _ _ _ h.two)) h.run)
+no_record_named name rest is never (on_text (to_replay h)) = replay_record (sym (firsts _ _ _ _ h.spelled) ∙ is)
+no_record_named name rest is never (to_drill n v h) = record_drill (sym is ∙ firsts _ _ _ _ h.two)
+
+pub not_record : (name : List ℕ) (rest : List (List ℕ)) (e : WordsError) → name ≡ codes "record" → NoRun rest e → IsUsage (name ∷ rest) e
+not_record name rest Usage is never = no_record_named name rest is never
+not_record name rest Memory is never = tt
 
 no_serial_named : (name : List ℕ) (rest : List (List ℕ)) → name ≡ codes "serial" → ((l : ℕ) (ns : List ℤ) → SpellsExecution rest l ns → ⊥) →
     AcceptsWords (name ∷ rest) → ⊥
@@ -86,6 +142,8 @@ no_serial_named name rest is never (on_text (to_serial l ns h)) =
     let P : List (List ℕ) → Type 0 = λ ws. SpellsExecution ws l ns in never l ns (subst P (sym (rests _ _ _ _ h.two)) h.execution)
 no_serial_named name rest is never (on_text (to_check h)) = serial_check (sym is ∙ firsts _ _ _ _ h.spelled)
 no_serial_named name rest is never (on_text (to_show h)) = serial_show (sym is ∙ firsts _ _ _ _ h.spelled)
+no_serial_named name rest is never (on_text (to_record w l ns h)) = record_serial (sym (firsts _ _ _ _ h.two) ∙ is)
+no_serial_named name rest is never (on_text (to_replay h)) = replay_serial (sym (firsts _ _ _ _ h.spelled) ∙ is)
 no_serial_named name rest is never (to_drill n v h) = drill_serial (sym (firsts _ _ _ _ h.two) ∙ is)
 
 pub not_serial : (name : List ℕ) (rest : List (List ℕ)) (e : WordsError) → name ≡ codes "serial" → NoExecution rest e → IsUsage (name ∷ rest) e
@@ -97,5 +155,7 @@ not_drill name rest is never (on_text (to_run w l ns h)) = drill_run (sym is ∙
 not_drill name rest is never (on_text (to_serial l ns h)) = drill_serial (sym is ∙ firsts _ _ _ _ h.two)
 not_drill name rest is never (on_text (to_check h)) = drill_check (sym is ∙ firsts _ _ _ _ h.spelled)
 not_drill name rest is never (on_text (to_show h)) = drill_show (sym is ∙ firsts _ _ _ _ h.spelled)
+not_drill name rest is never (on_text (to_record w l ns h)) = record_drill (sym (firsts _ _ _ _ h.two) ∙ is)
+not_drill name rest is never (on_text (to_replay h)) = replay_drill (sym (firsts _ _ _ _ h.spelled) ∙ is)
 not_drill name rest is never (to_drill n v h) =
     let P : List (List ℕ) → Type 0 = λ ws. SpellsDrill ws n v in never n v (subst P (sym (rests _ _ _ _ h.two)) h.drill)

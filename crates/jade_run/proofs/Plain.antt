@@ -9,7 +9,7 @@ use Rattle.jade_meaning.specs.Laws.{NoneCommutes, RunsPlainly}
 use Rattle.jade_meaning.specs.Serial.{Mark, after, zeros}
 use Rattle.jade_meaning.specs.Uncommuting.{uses_cm}
 use Rattle.jade_run.specs.declared.status.Status.{Status}
-use Rattle.jade_run.specs.Outcome.{IsAnswered, IsPlain, Shows, TurnLists, answered, miscounted, refused}
+use Rattle.jade_run.specs.Answered.{IsAnswered, IsPlain, Shows, TurnLists, answered, miscounted, refused}
 
 -- a program without the word has one answer
 pub one_answer : ((p : AbstractProgram) (ns : List ℤ) (limit : ℕ) (turns : TurnLists) → uses_cm p ≡ false → NoneCommutes p ns limit turns)

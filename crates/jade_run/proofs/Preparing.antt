@@ -6,8 +6,8 @@ use Rattle.jade_run.specs.declared.answer.ReadError.{ReadError}
 use Rattle.jade_run.specs.declared.answer.ReadError.TheVariants.{Refused as NotRead, Memory as Unread}
 use Rattle.jade_run.specs.declared.status.Status.{Status}
 use Rattle.jade_run.specs.declared.status.Status.TheVariants.{Numbers}
-use Rattle.jade_run.specs.Outcome.{IsGood, IsNotRead, OnRefused, RefusedFor}
-use Rattle.jade_run.specs.Outcome.{refused, miscounted, input_count}
+use Rattle.jade_run.specs.Answered.{IsGood, IsNotRead, OnRefused, RefusedFor}
+use Rattle.jade_run.specs.Answered.{refused, miscounted, input_count}
 use Rattle.jade_run.specs.Texts.{numbers_text}
 use Rattle.jade_run.specs.steps.Preparing.{IsSettled}
 

@@ -15,7 +15,7 @@ use Rattle.jade_run.specs.declared.answer.Ready.{Ready}
 use Rattle.jade_run.specs.declared.answer.Ready.TheVariants.{Program, Answered}
 use Rattle.jade_run.specs.declared.answer.Answer.{Answer as AnswerOf}
 use Rattle.jade_run.specs.declared.status.Status.{Status}
-use Rattle.jade_run.specs.Outcome.{fault_key, Shows, TurnLists}
+use Rattle.jade_run.specs.Answered.{fault_key, Shows, TurnLists}
 use Rattle.jade_run.specs.Witnessed.{SeenRun, seen_with}
 use Rattle.jade_run.specs.steps.Ending.{ShownRun}
 use Rattle.jade_run.specs.steps.Preparing.{IsReady, IsSettled}

@@ -13,14 +13,14 @@ use Rattle.jade_run.specs.declared.answer.Answer.{Answer as AnswerOf}
 use Rattle.jade_run.specs.declared.status.Status.{Status}
 use Rattle.jade_run.specs.declared.status.Status.TheVariants.{Refused, Numbers, Reading, Memory}
 use Rattle.jade_run.specs.declared.words.Command.{Command}
-use Rattle.jade_run.specs.declared.words.Command.TheVariants.{Run, Serial, Check, Show, Drill}
-use Rattle.jade_run.specs.Outcome.{BySomeTurns, IsDrilled, IsGood, TurnLists, answer_status, answered, input_count}
+use Rattle.jade_run.specs.declared.words.Command.TheVariants.{Run, Serial, Check, Show, Drill, Record, Replay}
+use Rattle.jade_run.specs.Answered.{BySomeTurns, IsDrilled, IsGood, TurnLists, answer_status, answered, input_count}
 use Rattle.jade_run.specs.steps.Drilling.{IsDrillOf, IsRunDrill, ShowsSum}
 use Rattle.jade_run.specs.steps.Ending.{IsRunOf, IsRunText, ShownRun}
 use Rattle.jade_run.specs.steps.Preparing.{IsSettled}
 use Rattle.jade_run.specs.Witnessed.{SeenRun, SawOne, SawRun, SawCommand, SawWords}
-use Rattle.jade_run.specs.Witnessed.{serially, checks, shows, of_run, of_drill, of_none}
-use Rattle.jade_run.specs.Words.{NeedsText, Asks, to_run, to_serial, to_check, to_show}
+use Rattle.jade_run.specs.Witnessed.{serially, checks, shows, replays, of_run, of_drill, of_record, of_none}
+use Rattle.jade_run.specs.Words.{NeedsText, Asks, to_run, to_serial, to_check, to_show, to_record, to_replay}
 
 answer_saw : (bytes : List ℕ) (ns : List ℤ) (limit : ℕ) (turns : TurnLists) (a : Answer) (before after : Option (List SeenRun))
     → SawOne bytes ns limit turns before after → SawRun bytes ns limit turns (answer_status a) before after
@@ -28,7 +28,7 @@ answer_saw bytes ns limit turns (Faulted path blame) before after h = h
 answer_saw bytes ns limit turns (Cells store) before after h = h
 
 -- the run of the program of a text
-one : (bytes : List ℕ) (ns : List ℤ) (limit : ℕ) (turns : TurnLists) (tree : Program) (before after : Option (List SeenRun)) → IsGood bytes tree
+pub one : (bytes : List ℕ) (ns : List ℤ) (limit : ℕ) (turns : TurnLists) (tree : Program) (before after : Option (List SeenRun)) → IsGood bytes tree
     → ShownRun tree ns limit turns before after → SawOne bytes ns limit turns before after
 one bytes ns limit turns tree before after g s = record {
   run = s.run;
@@ -107,6 +107,8 @@ command_words words (Serial e) bytes turns status before after asked h = of_none
 command_words words Check bytes turns status before after asked h = of_none (checks asked) h
 command_words words Show bytes turns status before after asked h = of_none (shows asked) h
 command_words words (Drill n w) bytes turns status before after asked h = of_drill n w asked h
+command_words words (Record w e) bytes turns status before after asked h = of_record w e.limit e.numbers asked h
+command_words words Replay bytes turns status before after asked h = of_none (replays asked) h
 
 -- a text that is too long
 pub refused_words : (words : List (List ℕ)) (bytes : List ℕ) (turns : TurnLists) (before : Option (List SeenRun)) → NeedsText words
@@ -115,6 +117,8 @@ refused_words words bytes turns before (to_run w limit ns h) = of_run w limit ns
 refused_words words bytes turns before (to_serial limit ns h) = of_none (serially limit ns h) refl
 refused_words words bytes turns before (to_check h) = of_none (checks h) refl
 refused_words words bytes turns before (to_show h) = of_none (shows h) refl
+refused_words words bytes turns before (to_record w limit ns h) = of_record w limit ns h refl
+refused_words words bytes turns before (to_replay h) = of_none (replays h) refl
 
 -- want of memory is no failed source
 pub memory_still : {T : Type 0} (r : Result T Status) (before after : Option (List SeenRun)) → IfErr r (λ s. s ≡ Memory)

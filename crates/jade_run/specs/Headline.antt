@@ -2,8 +2,9 @@
 use Rattle.std.specs.Prelude.{◌≡◌, ℕ, ◌<◌, List, length, take, drop, Option, Some}
 use Rattle.jade_base.specs.Bytes.{Rose, taken_with}
 use Rattle.jade_run.specs.declared.status.Status.{Status}
-use Rattle.jade_run.specs.declared.status.Status.TheVariants.{Good, Fault, Refused, Words, Numbers, Reading, Writing, Memory}
-use Rattle.jade_run.specs.Outcome.{IsOutcome, TurnLists}
+use Rattle.jade_run.specs.declared.status.Status.TheVariants.{Good, Fault, Refused, Words, Numbers, Reading, Writing, Memory, Replay}
+use Rattle.jade_run.specs.Answered.{TurnLists}
+use Rattle.jade_run.specs.Outcome.{IsOutcome}
 use Rattle.jade_run.specs.Witnessed.{SeenRun, SawWords}
 use Rattle.jade_run.specs.Words.{NeedsText, NeedsNoText}
 
@@ -47,6 +48,7 @@ Stops Refused before after = ⊥
 Stops Words before after = ⊥
 Stops Numbers before after = ⊥
 Stops Writing before after = ⊥
+Stops Replay before after = ⊥
 
 -- the outcome was written whole, and nothing is left to read, unless the text was too long; words that need no text leave all of it
 pub record WroteAll (words : List (List ℕ)) (status : Status) (before after : Moment) : Type 0 where
@@ -81,3 +83,4 @@ Headline words Numbers before after = WroteAll words Numbers before after
 Headline words Reading before after = ReadFailed before after
 Headline words Writing before after = WrotePart words before after
 Headline words Memory before after = after.taken ≡ before.taken
+Headline words Replay before after = WroteAll words Replay before after

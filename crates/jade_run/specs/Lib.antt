@@ -1,7 +1,9 @@
+pub mod Answered
 pub mod Complete
 pub mod Headline
 pub mod Numbers
 pub mod Outcome
+pub mod Recordings
 pub mod Sums
 pub mod steps
 pub mod Texts

@@ -1,7 +1,7 @@
 -- The number with which the program ends.
 use Rattle.std.specs.Prelude.{ℕ}
 use Rattle.jade_run.specs.declared.status.Status.{Status}
-use Rattle.jade_run.specs.declared.status.Status.TheVariants.{Good, Fault, Refused, Words, Numbers, Reading, Writing, Memory}
+use Rattle.jade_run.specs.declared.status.Status.TheVariants.{Good, Fault, Refused, Words, Numbers, Reading, Writing, Memory, Replay}
 
 -- 0 is success; each other status has its own number
 abbrev pub number_of_status : Status → ℕ
@@ -13,3 +13,4 @@ number_of_status Numbers = 4
 number_of_status Reading = 5
 number_of_status Writing = 6
 number_of_status Memory = 7
+number_of_status Replay = 8

@@ -2,6 +2,7 @@
 use Rattle.std.specs.Prelude.{ℕ, zero, suc, List, [], ◌∷◌, ◌++◌, map, codes, Option, Some, None, ℤ}
 use Rattle.std.specs.Fmt.{decimal, signed_decimal}
 use Rattle.std.specs.List.{join_with_byte}
+use Rattle.record_parts.specs.Labels.{member_text}
 use Rattle.jade_base.specs.declared.place.Pos.{Pos}
 use Rattle.jade_base.specs.declared.report.Blame.{Blame}
 use Rattle.jade_base.specs.declared.report.FaultKind.{FaultKind}
@@ -73,11 +74,6 @@ static_word static.Kind = codes "kind"
 static_word static.Assign = codes "assign"
 static_word static.Size = codes "size"
 
--- the index of a family's member in brackets
-abbrev pub member_text : Option ℕ → List ℕ
-member_text None = []
-member_text (Some i) = codes "[" ++ decimal i ++ codes "]"
-
 -- cells with one space between them
 abbrev pub cells_text : List ℤ → List ℕ
 cells_text cells = join_with_byte 32 (map signed_decimal cells)
@@ -96,3 +92,23 @@ objects_text (label ∷ labels) (cells ∷ objects) = object_text label cells ++
 -- tasks N sum X
 abbrev pub drilled_text : (tasks : ℕ) → (total : ℤ) → List ℕ
 drilled_text tasks total = line_of (codes "tasks " ++ decimal tasks ++ codes " sum " ++ signed_decimal total)
+
+-- what is written where a recording would be longer than a text may be
+abbrev pub long_text : List ℕ
+long_text = line_of (codes "record: long")
+
+-- replay: form LINE
+abbrev pub form_text : (line : ℕ) → List ℕ
+form_text line = line_of (codes "replay: form " ++ decimal line)
+
+-- what is written of a recording whose turns are those of no run of its program
+abbrev pub no_turns_text : List ℕ
+no_turns_text = line_of (codes "replay: turns")
+
+-- what is written of a recording whose lines are not the answer of its run
+abbrev pub differs_text : List ℕ
+differs_text = line_of (codes "replay: answer")
+
+-- what is written of a recording that is right
+abbrev pub same_text : List ℕ
+same_text = line_of (codes "same")

@@ -6,11 +6,12 @@ use Rattle.jade_meaning.specs.Serial.{Path}
 use Rattle.jade_meaning.specs.Turns.{Full, turns_in}
 use Rattle.jade_syntax.specs.Image.{program}
 use Rattle.jade_run.specs.declared.status.Status.{Status}
-use Rattle.jade_run.specs.declared.status.Status.TheVariants.{Good, Fault, Refused, Words, Numbers, Reading, Writing, Memory}
+use Rattle.jade_run.specs.declared.status.Status.TheVariants.{Good, Fault, Refused, Words, Numbers, Reading, Writing, Memory, Replay}
 use Rattle.jade_run.specs.declared.words.Command.{Command}
-use Rattle.jade_run.specs.declared.words.Command.TheVariants.{Run, Serial, Check, Show, Drill}
-use Rattle.jade_run.specs.Outcome.{IsCommanded, IsGood, TurnLists}
-use Rattle.jade_run.specs.Words.{RunWords, SerialWords, CheckWords, ShowWords, DrillWords, RefusesWords}
+use Rattle.jade_run.specs.declared.words.Command.TheVariants.{Run, Serial, Check, Show, Drill, Record, Replay as ToReplay}
+use Rattle.jade_run.specs.Answered.{IsGood, TurnLists}
+use Rattle.jade_run.specs.Outcome.{IsCommanded}
+use Rattle.jade_run.specs.Words.{RunWords, SerialWords, CheckWords, ShowWords, DrillWords, RecordWords, ReplayWords, RefusesWords}
 
 -- what a witness is told of a run: what was run, and the turns that its tasks took on each object
 pub record SeenRun : Type 0 where
@@ -42,6 +43,19 @@ SawRun bytes numbers limit turns Numbers before after = after ≡ before
 SawRun bytes numbers limit turns Reading before after = after ≡ before
 SawRun bytes numbers limit turns Writing before after = after ≡ before
 SawRun bytes numbers limit turns Memory before after = after ≡ before
+SawRun bytes numbers limit turns Replay before after = after ≡ before
+
+-- what is shown of a text whose run is recorded, and that comes to this status: one run where it comes to a recording, or to one that is too long, and else none
+abbrev pub SawKept : (bytes : List ℕ) (numbers : List ℤ) (limit : ℕ) (turns : TurnLists) → Status → (before after : Option (List SeenRun)) → Type 0
+SawKept bytes numbers limit turns Good before after = SawOne bytes numbers limit turns before after
+SawKept bytes numbers limit turns Fault before after = after ≡ before
+SawKept bytes numbers limit turns Refused before after = after ≡ before
+SawKept bytes numbers limit turns Words before after = after ≡ before
+SawKept bytes numbers limit turns Numbers before after = after ≡ before
+SawKept bytes numbers limit turns Reading before after = after ≡ before
+SawKept bytes numbers limit turns Writing before after = after ≡ before
+SawKept bytes numbers limit turns Memory before after = after ≡ before
+SawKept bytes numbers limit turns Replay before after = SawOne bytes numbers limit turns before after
 
 -- what is shown of a command on a text; a drill has its own text, no numbers and the greatest limit
 abbrev pub SawCommand : Command → (bytes : List ℕ) (turns : TurnLists) → Status → (before after : Option (List SeenRun)) → Type 0
@@ -50,6 +64,8 @@ SawCommand (Serial e) bytes turns status before after = after ≡ before
 SawCommand Check bytes turns status before after = after ≡ before
 SawCommand Show bytes turns status before after = after ≡ before
 SawCommand (Drill tasks workers) bytes turns status before after = SawRun (drill_text tasks) [] 4294967295 turns status before after
+SawCommand (Record workers e) bytes turns status before after = SawKept bytes e.numbers e.limit turns status before after
+SawCommand ToReplay bytes turns status before after = after ≡ before
 
 -- what a command comes to on a text by turn lists, and what is shown of it
 pub record Carried (c : Command) (bytes : List ℕ) (turns : TurnLists) (text : List ℕ) (status : Status) (before after : Option (List SeenRun)) : Type 0 where
@@ -61,6 +77,7 @@ pub data NeedsNoWorkers (words : List (List ℕ)) : Type 0 where
   serially : (limit : ℕ) (numbers : List ℤ) → SerialWords words limit numbers → NeedsNoWorkers words
   checks : CheckWords words → NeedsNoWorkers words
   shows : ShowWords words → NeedsNoWorkers words
+  replays : ReplayWords words → NeedsNoWorkers words
   refuses : RefusesWords words → NeedsNoWorkers words
 
 -- what is shown of words and a text that come to this status by these turn lists: a run by workers with its turns, which are those lists
@@ -68,5 +85,7 @@ pub data SawWords (words : List (List ℕ)) (bytes : List ℕ) (turns : TurnList
   of_run : (workers limit : ℕ) (numbers : List ℤ) → RunWords words workers limit numbers → SawRun bytes numbers limit turns status before after →
       SawWords words bytes turns status before after
   of_drill : (tasks workers : ℕ) → DrillWords words tasks workers → SawRun (drill_text tasks) [] 4294967295 turns status before after →
+      SawWords words bytes turns status before after
+  of_record : (workers limit : ℕ) (numbers : List ℤ) → RecordWords words workers limit numbers → SawKept bytes numbers limit turns status before after →
       SawWords words bytes turns status before after
   of_none : NeedsNoWorkers words → after ≡ before → SawWords words bytes turns status before after

@@ -1,10 +1,10 @@
 -- The words of a command. A number is spelled in decimal, without a needless zero.
-use Rattle.std.specs.Prelude.{◌≡◌, ℕ, ◌≤◌, Bool, true, false, List, [], ◌∷◌, length, map, codes, ℤ, pos, negsuc, nat_le}
+use Rattle.std.specs.Prelude.{◌≡◌, ℕ, ◌≤◌, Bool, true, false, List, [], ◌∷◌, length, map, codes, ℤ}
 use Rattle.std.specs.List.{list_all}
 use Rattle.std.specs.Fmt.{decimal, signed_decimal}
 use Rattle.number_words.specs.Numbers.{is_number}
 use Rattle.jade_run.specs.declared.words.Command.{Command}
-use Rattle.jade_run.specs.declared.words.Command.TheVariants.{Run, Serial, Check, Show, Drill}
+use Rattle.jade_run.specs.declared.words.Command.TheVariants.{Run, Serial, Check, Show, Drill, Record, Replay}
 use Rattle.jade_run.specs.declared.words.WordsError.{WordsError}
 use Rattle.jade_run.specs.declared.words.WordsError.TheVariants.{Usage, Memory}
 
@@ -42,6 +42,16 @@ pub record RunWords (words : List (List ℕ)) (workers limit : ℕ) (numbers : L
   pub two : words ≡ codes "run" ∷ more
   pub run : SpellsRun more workers limit numbers
 
+-- `record WORKERS LIMIT NUMBER*`
+pub record RecordWords (words : List (List ℕ)) (workers limit : ℕ) (numbers : List ℤ) : Type 0 where
+  pub more : List (List ℕ)
+  pub two : words ≡ codes "record" ∷ more
+  pub run : SpellsRun more workers limit numbers
+
+-- `replay`
+pub record ReplayWords (words : List (List ℕ)) : Type 0 where
+  pub spelled : words ≡ codes "replay" ∷ []
+
 -- `serial LIMIT NUMBER*`
 pub record SerialWords (words : List (List ℕ)) (limit : ℕ) (numbers : List ℤ) : Type 0 where
   pub more : List (List ℕ)
@@ -76,6 +86,8 @@ pub data NeedsText (words : List (List ℕ)) : Type 0 where
   to_serial : (limit : ℕ) (numbers : List ℤ) → SerialWords words limit numbers → NeedsText words
   to_check : CheckWords words → NeedsText words
   to_show : ShowWords words → NeedsText words
+  to_record : (workers limit : ℕ) (numbers : List ℤ) → RecordWords words workers limit numbers → NeedsText words
+  to_replay : ReplayWords words → NeedsText words
 
 -- no text is needed for the words: they are a drill's, or are refused
 abbrev pub NeedsNoText : List (List ℕ) → Type 0
@@ -97,6 +109,8 @@ Asks words (Serial e) = SerialWords words e.limit e.numbers
 Asks words Check = CheckWords words
 Asks words Show = ShowWords words
 Asks words (Drill tasks workers) = DrillWords words tasks workers
+Asks words (Record workers e) = RecordWords words workers e.limit e.numbers
+Asks words Replay = ReplayWords words
 
 -- whether a command works on a text
 abbrev pub works_on_text : Command → Bool
@@ -105,6 +119,8 @@ works_on_text (Serial e) = true
 works_on_text Check = true
 works_on_text Show = true
 works_on_text (Drill tasks workers) = false
+works_on_text (Record workers e) = true
+works_on_text Replay = true
 
 -- words are refused that are those of no command; want of memory says nothing of them
 abbrev pub IsUsage : List (List ℕ) → WordsError → Type 0

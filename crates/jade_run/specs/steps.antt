@@ -1,3 +1,4 @@
 pub mod Drilling
 pub mod Ending
 pub mod Preparing
+pub mod Recording

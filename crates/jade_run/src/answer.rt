@@ -3,7 +3,7 @@
 ghost use Rattle.std.specs.Prelude.{◌≡◌, ◌≤◌, length, IfErr, IfOk};
 ghost use Rattle.jade_lexer.specs.Reading.{reading, Whole};
 ghost use Rattle.jade_reading.specs.Reading.{ReadsAs};
-ghost use Rattle.jade_run.specs.Outcome.{IsGood, IsNotRead, IsShown, IsTested, OnRefused, RefusedAs, RefusedFor};
+ghost use Rattle.jade_run.specs.Answered.{IsGood, IsNotRead, IsShown, IsTested, OnRefused, RefusedAs, RefusedFor};
 ghost use Rattle.jade_run.specs.Texts.{numbers_text, refused_text};
 ghost use Rattle.jade_run.specs.steps.Preparing.{IsReady};
 

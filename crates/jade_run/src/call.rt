@@ -2,13 +2,16 @@
 
 ghost use Rattle.std.specs.Prelude.{◌≡◌, ◌≤◌, [], length, IfOk, IfErr, MatchResult, codes};
 ghost use Rattle.jade_run.specs.Headline.{Answers, Headline, Stops};
-ghost use Rattle.jade_run.specs.Outcome.{first_place, BySomeTurns, IsAllowed};
+ghost use Rattle.jade_run.specs.Answered.{first_place, BySomeTurns};
+ghost use Rattle.jade_run.specs.Outcome.{IsAllowed};
 ghost use Rattle.jade_run.specs.Witnessed.{Carried};
 ghost use Rattle.jade_run.specs.Words.{NeedsNoText};
 ghost use Rattle.jade_run.specs.Texts.{refused_text, usage_text};
 
 use crate::answer::{Answer, check_text, show_text};
 use crate::drill::run_drill;
+use crate::record::record_text;
+use crate::replay::replay_text;
 use crate::run::{run_text, serial_text};
 use crate::status::Status;
 use crate::texts;
@@ -27,8 +30,9 @@ const FIRST_PLACE: Pos = Pos { line: 1, column: 1 };
 /// source where they are those of a command that works on one, writes what it comes to, and answers
 /// the status. For a drill and for refused words nothing is read.
 ///
-/// `run` and `drill` run the tasks on as many workers as the words say, the caller among them. What
-/// they write does not depend on that, nor on the gate, but for the order in which tasks take their
+/// `run`, `drill` and `record` run the tasks on as many workers as the words say, the caller among
+/// them, and `record` writes a recording of the run, by which `replay` checks its answer. What they
+/// write does not depend on that, nor on the gate, but for the order in which tasks take their
 /// turns that commute. The witness is shown what such a run did, with the turns, where it comes to an
 /// answer, before that is written; what is written is the outcome by these turns.
 ///
@@ -161,6 +165,20 @@ fn of_text<R: Threads + Wait + Sync, G: Gate, W: Witness>(
         Command::Check => check_text(alloc, text),
         Command::Show => show_text(alloc, text),
         Command::Drill(tasks, workers) => run_drill(rt, alloc, *tasks, *workers, gate, witness),
+        Command::Record(workers, execution) => {
+            let numbers = execution.numbers.as_slice();
+            record_text(
+                rt,
+                alloc,
+                text,
+                numbers,
+                *workers,
+                execution.limit,
+                gate,
+                witness,
+            )
+        }
+        Command::Replay => replay_text(rt, alloc, text),
     }
 }
 

@@ -7,7 +7,8 @@ ghost use Rattle.jade_syntax.specs.Objects.{input_names};
 ghost use Rattle.jade_meaning.specs.Report.{report};
 ghost use Rattle.jade_meaning.specs.ReportAnswer.{report_answer};
 ghost use Rattle.jade_meaning.specs.Turns.{Full, turns_in};
-ghost use Rattle.jade_run.specs.Outcome.{BySomeTurns, IsCrew};
+ghost use Rattle.jade_run.specs.Answered.{BySomeTurns};
+ghost use Rattle.jade_run.specs.Outcome.{IsCrew};
 ghost use Rattle.jade_run.specs.steps.Drilling.{IsDrillOf, IsRunDrill, ShowsSum};
 
 use crate::answer::{Answer, Ready, prepare};

@@ -3,13 +3,14 @@
 ghost use Rattle.std.specs.Prelude.{◌≤◌, ℕ, ℤ, List};
 ghost use Rattle.jade_gen.specs.Drill.{drill_text};
 ghost use Rattle.jade_run.specs.declared.status.Status.{Status};
-ghost use Rattle.jade_run.specs.Outcome.{IsAnswered, IsOutcome, IsPlain, SameOutcome, TurnLists};
+ghost use Rattle.jade_run.specs.Answered.{IsAnswered, IsPlain, TurnLists};
+ghost use Rattle.jade_run.specs.Outcome.{IsOutcome, SameOutcome};
 
 use erased_places::laws::erased_is_program;
 use jade_lexer::laws::reading_is_cut;
 use jade_meaning::laws::{runs_plainly, without_cm};
 use jade_parser::laws::one_reading;
-use jade_reading::laws::{one_tree, spelled_alike};
+use jade_reading::laws::{one_tree, read_is_shaped, spelled_alike};
 
 /// By the same turn lists words and a text come to one text and one status.
 pub fn one_outcome()
@@ -20,6 +21,7 @@ pub fn one_outcome()
     erased_is_program();
     one_reading();
     spelled_alike();
+    read_is_shaped();
 }
 
 /// A text in whose program the word `cm` does not stand comes to the same by all turn lists.

@@ -5,6 +5,8 @@ pub mod answer;
 pub mod call;
 pub mod drill;
 pub mod laws;
+pub mod record;
+pub mod replay;
 pub mod run;
 pub mod status;
 pub mod sums;

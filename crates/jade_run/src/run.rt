@@ -9,7 +9,8 @@ ghost use Rattle.jade_meaning.specs.Report.{Ascends, report};
 ghost use Rattle.jade_meaning.specs.ReportAnswer.{report_answer, first_note, step_over};
 ghost use Rattle.jade_meaning.specs.Turns.{Full, in_order, turns_in};
 ghost use Rattle.serial_machine.specs.Answers.{told};
-ghost use Rattle.jade_run.specs.Outcome.{fault_key, BySomeTurns, IsAnswered, IsCrew, Shows};
+ghost use Rattle.jade_run.specs.Answered.{fault_key, BySomeTurns, IsAnswered, Shows};
+ghost use Rattle.jade_run.specs.Outcome.{IsCrew};
 ghost use Rattle.jade_run.specs.steps.Ending.{IsRunOf, IsRunText};
 
 use crate::answer::{Answer, Ready, prepare};

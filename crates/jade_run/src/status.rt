@@ -4,7 +4,7 @@ ghost use Rattle.jade_run.specs.Numbers.{number_of_status};
 /// How a command ended. The number of a status is the one with which the program ends.
 #[derive(Clone, Copy, Debug, PartialEq, Eq)]
 pub enum Status {
-    /// The objects were written, or `ok`, or the layout.
+    /// The objects were written, or `ok`, or the layout, or a recording, or `same`.
     Good,
     /// The serially first fault was written.
     Fault,
@@ -20,6 +20,8 @@ pub enum Status {
     Writing,
     /// Memory was wanting.
     Memory,
+    /// The recording would be too long, or it is not right.
+    Replay,
 }
 
 impl Status {
@@ -36,6 +38,7 @@ impl Status {
             Status::Reading => 5,
             Status::Writing => 6,
             Status::Memory => 7,
+            Status::Replay => 8,
         }
     }
 }

@@ -2,13 +2,14 @@
 
 ghost use Rattle.std.specs.Prelude.{◌≡◌, ◌++◌, ◌∷◌, [], codes, IfOk, OnOk, ◌<◌, length, slice_get, Some};
 ghost use Rattle.std.specs.Fmt.{decimal, signed_decimal};
-ghost use Rattle.jade_run.specs.Texts.{place_text, path_text, fault_word, fault_text, place_before, refused_text, line_of, cells_text, member_text};
-ghost use Rattle.jade_run.specs.Texts.{object_text, objects_text, between, numbers_text, static_word, drilled_text};
+ghost use Rattle.jade_run.specs.Texts.{place_text, path_text, fault_word, fault_text, place_before, refused_text, line_of, cells_text};
+ghost use Rattle.jade_run.specs.Texts.{object_text, objects_text, between, numbers_text, static_word, drilled_text, form_text};
 ghost use Rattle.jade_syntax.specs.Objects.{labels};
 
 use itoa::Buffer;
 use jade_base::{Blame, CellLists, FaultKind, Numbers, ObjectId, Path, Pos};
 use jade_syntax::{Checked, Name, StaticKind};
+use record_parts::push_label;
 use std::alloc::{AllocError, Global};
 
 /// Puts a number last, in decimal.
@@ -154,19 +155,6 @@ fn push_cells(text: &mut Vec<u8>, cells: &[i64]) -> Result<(), AllocError>
     Ok(())
 }
 
-/// Puts the label of an object last.
-fn push_label(text: &mut Vec<u8>, name: &Name, member: Option<u32>) -> Result<(), AllocError>
-    ensures { OnOk result (text.new.items ≡ text.old.items ++ (name.now ++ member_text member)) }
-{
-    text.extend_from_slice(name.bytes())?;
-    if let Some(index) = member {
-        text.push(b'[')?;
-        push_decimal(text, index)?;
-        text.push(b']')?;
-    }
-    Ok(())
-}
-
 /// Puts the line of one object last.
 fn push_object(
     text: &mut Vec<u8>,
@@ -207,6 +195,16 @@ pub fn drilled(alloc: Global, tasks: u32, sum: i128) -> Result<Vec<u8>, AllocErr
     push_decimal(&mut text, tasks)?;
     text.extend_from_slice(b" sum ")?;
     push_sum(&mut text, sum)?;
+    text.push(b'\n')?;
+    Ok(text)
+}
+
+/// What a recording is answered with of which this line is the first that breaks the form.
+pub fn form(alloc: Global, line: u32) -> Result<Vec<u8>, AllocError>
+    ensures { IfOk result (λ text. text.items ≡ form_text line) }
+{
+    let mut text = Vec::from_slice(alloc, b"replay: form ")?;
+    push_decimal(&mut text, line)?;
     text.push(b'\n')?;
     Ok(text)
 }

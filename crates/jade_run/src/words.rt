@@ -1,6 +1,6 @@
 //! What the words of a command ask for.
 
-ghost use Rattle.std.specs.Prelude.{◌≡◌, ◌≢◌, ℕ, ◌<◌, ◌≤◌, ◌↔◌, ◌∷◌, true, Some, IfSome, IfNone, IsTrue, MatchOption, MatchResult};
+ghost use Rattle.std.specs.Prelude.{◌≡◌, ℕ, ◌↔◌, ◌∷◌, IsTrue, MatchOption, MatchResult};
 ghost use Rattle.jade_run.specs.Words.{Asks, IsUsage, NoDrill, NoExecution, NoNumbers, NoRun, SpellsAmount, SpellsDrill, SpellsExecution, SpellsNumbers};
 ghost use Rattle.jade_run.specs.Words.{SpellsRun, works_on_text};
 
@@ -42,7 +42,8 @@ pub struct Execution {
 }
 
 /// What is asked for: that a text be run with so many workers, or serially, that it be checked, that
-/// the layout of its program be shown, or that a drill of so many tasks be run with so many workers.
+/// the layout of its program be shown, that a drill of so many tasks be run with so many workers, that
+/// a run of a text with so many workers be recorded, or that a recording be replayed.
 #[derive(Debug, Drop)]
 pub enum Command {
     Run(u32, Execution),
@@ -50,6 +51,8 @@ pub enum Command {
     Check,
     Show,
     Drill(u32, u32),
+    Record(u32, Execution),
+    Replay,
 }
 
 impl Command {
@@ -58,7 +61,12 @@ impl Command {
         ensures { result ≡ works_on_text self.now }
     {
         match self {
-            Command::Run(_, _) | Command::Serial(_) | Command::Check | Command::Show => true,
+            Command::Run(_, _)
+            | Command::Serial(_)
+            | Command::Check
+            | Command::Show
+            | Command::Record(_, _)
+            | Command::Replay => true,
             Command::Drill(_, _) => false,
         }
     }
@@ -155,6 +163,12 @@ fn named(alloc: Global, name: &[u8], rest: &[Word]) -> Result<Command, WordsErro
             Err(error) => Err(error),
         };
     }
+    if is_text(name, b"record") {
+        return match run_of(alloc, rest) {
+            Ok((workers, execution)) => Ok(Command::Record(workers, execution)),
+            Err(error) => Err(error),
+        };
+    }
     if is_text(name, b"serial") {
         return match execution_of(alloc, rest) {
             Ok(execution) => Ok(Command::Serial(execution)),
@@ -176,11 +190,14 @@ fn named(alloc: Global, name: &[u8], rest: &[Word]) -> Result<Command, WordsErro
     if is_text(name, b"show") {
         return Ok(Command::Show);
     }
+    if is_text(name, b"replay") {
+        return Ok(Command::Replay);
+    }
     Err(WordsError::Usage)
 }
 
 /// The command that the words spell: `run WORKERS LIMIT NUMBER*`, `serial LIMIT NUMBER*`, `check`,
-/// `show` or `drill TASKS WORKERS`, with 1 to 64 workers, a limit of 1 to 4,294,967,295 steps, at most
+/// `show`, `drill TASKS WORKERS`, `record WORKERS LIMIT NUMBER*` or `replay`, with 1 to 64 workers, a limit of 1 to 4,294,967,295 steps, at most
 /// 64 numbers of 64 bits with their signs, and 1 to 10,000 tasks. The error is `Usage` exactly where
 /// they are none of these.
 pub fn command_of(alloc: Global, words: &[Word]) -> Result<Command, WordsError>

@@ -7,7 +7,7 @@ use Rattle.jade_meaning.specs.Answer.{Answer, Faulted, Cells, answer}
 use Rattle.jade_run.specs.declared.status.Status.{Status}
 use Rattle.jade_run.specs.declared.status.Status.TheVariants.{Good}
 use Rattle.jade_gen.specs.Drill.{drill_text}
-use Rattle.jade_run.specs.Outcome.{IsDrilled, Shows, TurnLists}
+use Rattle.jade_run.specs.Answered.{IsDrilled, Shows, TurnLists}
 use Rattle.jade_run.specs.Sums.{sum_of_cells}
 use Rattle.jade_run.specs.Texts.{drilled_text}
 use Rattle.jade_run.specs.Witnessed.{SawRun, SeenRun}

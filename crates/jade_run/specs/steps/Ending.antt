@@ -5,7 +5,7 @@ use Rattle.jade_syntax.specs.Image.{program}
 use Rattle.jade_meaning.specs.Answer.{answer}
 use Rattle.jade_meaning.specs.Turns.{Full, turns_in}
 use Rattle.jade_run.specs.declared.status.Status.{Status}
-use Rattle.jade_run.specs.Outcome.{IsAnswered, Shows, TurnLists}
+use Rattle.jade_run.specs.Answered.{IsAnswered, Shows, TurnLists}
 use Rattle.jade_run.specs.Witnessed.{SawRun, SeenRun, seen_with}
 
 -- a run of a program was shown, whose tasks took these turns, and no others wait

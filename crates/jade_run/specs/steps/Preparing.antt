@@ -4,7 +4,7 @@ use Rattle.jade_run.specs.declared.answer.Ready.{Ready}
 use Rattle.jade_run.specs.declared.answer.Ready.TheVariants.{Program, Answered}
 use Rattle.jade_run.specs.declared.status.Status.{Status}
 use Rattle.jade_run.specs.declared.status.Status.TheVariants.{Refused, Numbers}
-use Rattle.jade_run.specs.Outcome.{IsGood, IsAnswered, TurnLists, input_count}
+use Rattle.jade_run.specs.Answered.{IsGood, IsAnswered, TurnLists, input_count}
 
 -- what a text comes to under whatever limit and turn lists, which is a refusal or a word on the count of numbers
 pub record IsSettled (bytes : List ℕ) (numbers : List ℤ) (text : List ℕ) (status : Status) : Type 0 where

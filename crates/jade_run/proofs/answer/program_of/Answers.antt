@@ -1,5 +1,5 @@
 use Rattle.std.proofs.Common.{refl}
-use Rattle.jade_run.specs.Outcome.{token, long}
+use Rattle.jade_run.specs.Answered.{token, long}
 use Rattle.jade_run.proofs.answer.program_of.Goals as goal
 
 pub returns-in-Err-Token-clause-refused : goal.returns-in-Err-Token-clause-refused

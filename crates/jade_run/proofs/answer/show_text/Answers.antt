@@ -1,5 +1,5 @@
 use Rattle.std.proofs.Common.{refl}
-use Rattle.jade_run.specs.Outcome.{shown}
+use Rattle.jade_run.specs.Answered.{shown}
 use Rattle.jade_run.proofs.Calls.{refused_shown}
 use Rattle.jade_run.proofs.answer.show_text.Goals as goal
 

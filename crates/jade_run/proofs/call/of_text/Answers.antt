@@ -1,4 +1,4 @@
-use Rattle.jade_run.proofs.Commanding.{by_run, by_serial, by_check, by_show, by_drill}
+use Rattle.jade_run.proofs.Commanding.{by_run, by_serial, by_check, by_show, by_drill, by_record, by_replay}
 use Rattle.jade_run.proofs.call.of_text.Goals as goal
 
 pub returns-in-Run : goal.returns-in-Run
@@ -20,3 +20,11 @@ returns-in-Show g c = by_show c.args.command.now c.args.text.now c.show_text.res
 pub returns-in-Drill : goal.returns-in-Drill
 returns-in-Drill g c =
     by_drill c.args.command.now c.in-Drill.tasks c.in-Drill.workers c.args.text.now c.run_drill.result _ _ c.in-Drill.is c.run_drill.ensures
+
+pub returns-in-Record : goal.returns-in-Record
+returns-in-Record g c =
+    by_record c.args.command.now c.in-Record.workers c.in-Record.execution c.args.text.now c.as_slice-numbers-in-Record.result.now c.record_text.result _ _ c.in-Record.is
+    c.as_slice-numbers-in-Record.ensures c.record_text.ensures
+
+pub returns-in-Replay : goal.returns-in-Replay
+returns-in-Replay g c = by_replay c.args.command.now c.args.text.now c.replay_text.result _ c.in-Replay.is c.replay_text.ensures

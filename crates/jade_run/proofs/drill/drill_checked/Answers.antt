@@ -9,7 +9,7 @@ use Rattle.jade_meaning.specs.Answer.{Answer, answer}
 use Rattle.jade_meaning.specs.Report.{report}
 use Rattle.jade_meaning.specs.ReportAnswer.{report_answer, ReportTells}
 use Rattle.jade_meaning.specs.Turns.{marks_by, turns_in}
-use Rattle.jade_run.specs.Outcome.{TurnLists}
+use Rattle.jade_run.specs.Answered.{TurnLists}
 use Rattle.jade_run.specs.declared.status.Status.{Status}
 use Rattle.jade_run.specs.steps.Drilling.{ShowsSum}
 use Rattle.jade_run.proofs.Running.{planned, reported, run_is_shown}

@@ -10,4 +10,5 @@ returns c = same_outcomes (record {
       c.spelled_alike.ensures;
   placed = c.one_tree.ensures;
   erased = c.erased_is_program.ensures;
+  shaped = c.read_is_shaped.ensures;
 })

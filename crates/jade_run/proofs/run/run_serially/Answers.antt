@@ -5,7 +5,7 @@ use Rattle.jade_syntax.specs.Image.{program}
 use Rattle.jade_meaning.specs.Answer.{Answer, answer}
 use Rattle.jade_meaning.specs.Turns.{in_order}
 use Rattle.jade_run.specs.declared.status.Status.{Status}
-use Rattle.jade_run.specs.Outcome.{Shows}
+use Rattle.jade_run.specs.Answered.{Shows}
 use Rattle.jade_run.proofs.run.run_serially.Goals as goal
 
 -- what shows the answer of the program that was compiled shows that of the program

@@ -1,0 +1,8 @@
+use Rattle.jade_run.proofs.Keeping.{written_whole, written_long}
+use Rattle.jade_run.proofs.record.written.Goals as goal
+
+pub returns-in-Ok : goal.returns-in-Ok
+returns-in-Ok c = written_whole c.args.kept.now _ c.in-Ok.ensures
+
+pub returns-in-Err-Long : goal.returns-in-Err-Long
+returns-in-Err-Long c = written_long c.args.kept.now _ c.in-Err-Long.ensures c.in_ok-from_slice.ensures.items
