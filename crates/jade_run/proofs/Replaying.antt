@@ -53,7 +53,7 @@ use Rattle.jade_meaning.proofs.Filling.{same_self}
 use Rattle.run_record.specs.Form.{BreaksAt, at_head}
 use Rattle.run_record.specs.Recording.{IsRecorded, Recorded, ended, lines, recording}
 use Rattle.record_parts.specs.Lines.{AreLines}
-use Rattle.record_parts.specs.steps.Naming.{AreNamed, NoneNamed}
+use Rattle.record_parts.specs.Named.{AreNamed, NoneNamed}
 use Rattle.record_parts.proofs.Cutting.{take_one}
 use Rattle.record_parts.proofs.Naming.{some_same}
 use Rattle.jade_run.specs.declared.answer.Answer.{Answer as AnswerOf}

@@ -5,7 +5,7 @@ ghost use Rattle.jade_syntax.specs.Image.{program};
 ghost use Rattle.jade_syntax.specs.Objects.{sizes};
 ghost use Rattle.jade_meaning.specs.Report.{report as reported};
 ghost use Rattle.jade_meaning.specs.Turns.{Full, turns_in};
-ghost use Rattle.record_parts.specs.steps.Naming.{AreNamed};
+ghost use Rattle.record_parts.specs.Named.{AreNamed};
 ghost use Rattle.jade_run.specs.Recordings.{IsReplayed, Plays};
 ghost use Rattle.jade_run.specs.steps.Recording.{IsCompared};
 ghost use Rattle.jade_run.specs.Texts.{form_text, no_turns_text};

@@ -9,16 +9,8 @@ ghost use Rattle.jade_syntax.specs.Objects.{labels};
 use itoa::Buffer;
 use jade_base::{Blame, CellLists, FaultKind, Numbers, ObjectId, Path, Pos};
 use jade_syntax::{Checked, Name, StaticKind};
-use record_parts::push_label;
+use record_parts::{push_decimal, push_label};
 use std::alloc::{AllocError, Global};
-
-/// Puts a number last, in decimal.
-fn push_decimal(text: &mut Vec<u8>, number: u32) -> Result<(), AllocError>
-    ensures { OnOk result (text.new.items ≡ text.old.items ++ decimal number) }
-{
-    let mut buffer = Buffer::new();
-    text.extend_from_slice(buffer.format(number).as_bytes())
-}
 
 /// Puts a number with its sign last, in decimal.
 fn push_signed(text: &mut Vec<u8>, number: i64) -> Result<(), AllocError>

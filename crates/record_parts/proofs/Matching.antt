@@ -13,7 +13,8 @@ use Rattle.jade_syntax.proofs.Limits.{drop_item, labels_counted}
 use Rattle.run_record.specs.declared.turns.LabelledTurn.{LabelledTurn}
 use Rattle.run_record.specs.Recording.{IsTurn}
 use Rattle.record_parts.specs.Labels.{label_text, turns_on_one, turns_from, labelled_turns}
-use Rattle.record_parts.specs.steps.Naming.{AreNamed, IsNext, IsNextList, NoneNamed, none, taken}
+use Rattle.record_parts.specs.Named.{AreNamed, NoneNamed}
+use Rattle.record_parts.specs.steps.Naming.{IsNext, IsNextList, none, taken}
 use Rattle.record_parts.proofs.Apart.{AreApart}
 use Rattle.record_parts.proofs.Cutting.{take_one}
 use Rattle.record_parts.proofs.Naming.{at_place, by, label_at, on_one, some_same, turns_step}

@@ -12,7 +12,8 @@ use Rattle.jade_syntax.specs.declared.tree.Item.{Item}
 use Rattle.jade_syntax.specs.Objects.{Label, labels, sizes}
 use Rattle.jade_syntax.proofs.Limits.{labels_counted}
 use Rattle.record_parts.specs.Labels.{label_text, turns_on_one, turns_from, labelled_turns}
-use Rattle.record_parts.specs.steps.Naming.{AddsTurns, IsRooted, IsTurnOn}
+use Rattle.record_parts.specs.Named.{IsRooted}
+use Rattle.record_parts.specs.steps.Naming.{AddsTurns, IsTurnOn}
 use Rattle.record_parts.proofs.Cutting.{take_one}
 
 pub at_place : {A : Type 0} (P : A → Type 0) (xs : List A) (i : ℕ) (x : A) → slice_get xs i ≡ Some x → All P xs → P x

@@ -12,7 +12,7 @@ use Rattle.jade_meaning.specs.Turns.{touched_at_once, made_touchable, turns_on, 
 use Rattle.jade_meaning.specs.Laws.{Every}
 use Rattle.jade_meaning.proofs.Groups.{every_append, every_arranged, every_group, every_others}
 use Rattle.jade_meaning.proofs.Filling.{turns_both, turn_turns}
-use Rattle.record_parts.specs.steps.Naming.{IsRooted}
+use Rattle.record_parts.specs.Named.{IsRooted}
 
 -- who waits is a task
 abbrev AreTasks : List Member → Type 0

@@ -1,3 +1,4 @@
 pub mod Labels
 pub mod Lines
+pub mod Named
 pub mod steps

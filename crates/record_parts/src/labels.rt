@@ -13,7 +13,7 @@ use jade_syntax::{Checked, Name};
 use std::alloc::{AllocError, Global};
 
 /// Puts a number last, in decimal.
-fn push_decimal(text: &mut Vec<u8>, number: u32) -> Result<(), AllocError>
+pub fn push_decimal(text: &mut Vec<u8>, number: u32) -> Result<(), AllocError>
     ensures { OnOk result (text.new.items ≡ text.old.items ++ decimal number) }
 {
     let mut buffer = Buffer::new();

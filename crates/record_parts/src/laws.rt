@@ -3,7 +3,7 @@
 ghost use Rattle.std.specs.Prelude.{ℕ, ℤ, List, All};
 ghost use Rattle.jade_meaning.specs.Turns.{Full, turns_in};
 ghost use Rattle.jade_syntax.specs.Abstract.{AbstractProgram};
-ghost use Rattle.record_parts.specs.steps.Naming.{IsRooted};
+ghost use Rattle.record_parts.specs.Named.{IsRooted};
 
 /// The turn lists of a run, where they are full, have paths that begin at the root.
 pub fn turns_are_rooted()

@@ -7,7 +7,7 @@ pub mod lines;
 pub mod lists;
 pub mod turns;
 
-pub use labels::{label_of, push_label};
+pub use labels::{label_of, push_decimal, push_label};
 pub use lines::{are_lines, lines_of};
 pub use lists::turn_lists;
 pub use turns::labelled;

@@ -3,7 +3,8 @@
 ghost use Rattle.std.specs.Prelude.{◌≡◌, ◌<◌, ◌↔◌, length, true, IfOk, IsTrue, MatchOption, All};
 ghost use Rattle.jade_syntax.specs.Objects.{sizes};
 ghost use Rattle.jade_syntax.specs.Shapes.{is_shaped};
-ghost use Rattle.record_parts.specs.steps.Naming.{AreNamed, IsNext, IsNextList, NoneNamed};
+ghost use Rattle.record_parts.specs.Named.{AreNamed, NoneNamed};
+ghost use Rattle.record_parts.specs.steps.Naming.{IsNext, IsNextList};
 ghost use Rattle.run_record.specs.Recording.{IsTurn};
 
 use crate::labels::label_of;

@@ -4,7 +4,8 @@ ghost use Rattle.std.specs.Prelude.{◌≡◌, ◌≢◌, ℕ, ◌<◌, [], leng
 ghost use Rattle.jade_syntax.specs.Objects.{sizes};
 ghost use Rattle.jade_syntax.specs.Shapes.{is_shaped};
 ghost use Rattle.record_parts.specs.Labels.{labelled_turns};
-ghost use Rattle.record_parts.specs.steps.Naming.{AddsTurns, IsRooted, IsTurnOn};
+ghost use Rattle.record_parts.specs.Named.{IsRooted};
+ghost use Rattle.record_parts.specs.steps.Naming.{AddsTurns, IsTurnOn};
 ghost use Rattle.run_record.specs.Pieces.{IsPath};
 ghost use Rattle.run_record.specs.Recording.{IsTurn};
 

@@ -1,14 +1,9 @@
--- Paths that begin at the root, and turn lists that a recording's turns name.
-use Rattle.std.specs.Prelude.{◌≡◌, ℕ, ◌+◌, ◌<◌, List, ◌∷◌, ◌++◌, length, map, slice_get, slice_index_or, [], Some}
+-- Turns that are told object by object.
+use Rattle.std.specs.Prelude.{◌≡◌, ℕ, ◌+◌, List, ◌++◌, map, slice_get, [], Some}
 use Rattle.jade_syntax.specs.declared.tree.Item.{Item}
-use Rattle.jade_syntax.specs.Objects.{labels, sizes}
+use Rattle.jade_syntax.specs.Objects.{labels}
 use Rattle.run_record.specs.declared.turns.LabelledTurn.{LabelledTurn}
-use Rattle.record_parts.specs.Labels.{label_text, labelled_turns, turns_on_one}
-
--- a path begins at the root
-pub record IsRooted (path : List ℕ) : Type 0 where
-  pub more : List ℕ
-  pub root : path ≡ 0 ∷ more
+use Rattle.record_parts.specs.Labels.{label_text, turns_on_one}
 
 -- the turns on an object by these paths, under its label
 pub record IsTurnOn (items : List Item) (object : ℕ) (taken : List (List ℕ)) (turn : LabelledTurn) : Type 0 where
@@ -29,13 +24,3 @@ pub record IsNext (items : List Item) (object : ℕ) (turns : List LabelledTurn)
 pub data IsNextList (items : List Item) (object : ℕ) (turns : List LabelledTurn) (place : ℕ) (found : List (List ℕ)) (next : ℕ) : Type 0 where
   taken : (here : IsNext items object turns place) → found ≡ here.turn.paths → next ≡ place + 1 → IsNextList items object turns place found next
   none : (IsNext items object turns place → ⊥) → found ≡ [] → next ≡ place → IsNextList items object turns place found next
-
--- the turns are those on the objects by these lists, one for each object, and by no others
-pub record AreNamed (items : List Item) (turns : List LabelledTurn) (lists : List (List (List ℕ))) : Type 0 where
-  pub counted : length lists ≡ length (sizes items)
-  pub named : turns ≡ labelled_turns items (λ o. slice_index_or lists o [])
-  pub only : (others : ℕ → List (List ℕ)) → turns ≡ labelled_turns items others → (o : ℕ) → o < length (sizes items) → others o ≡ slice_index_or lists o []
-
--- the turns are those on the objects by no lists
-abbrev pub NoneNamed : List Item → List LabelledTurn → Type 0
-NoneNamed items turns = (lists : ℕ → List (List ℕ)) → turns ≡ labelled_turns items lists → ⊥
