@@ -80,6 +80,9 @@ path_ends word text path left w r l =
       fit = record { more = r.more; root = r.root; fit = r.read.good };
     }
 
+pub path_made : (word path own : List ℕ) → path ≡ own → PathWhole word own → PathWhole word path
+path_made word path own e w = subst (PathWhole word) (sym e) w
+
 -- what a path would have after its 0
 after_zero : (word text : List ℕ) (p : List ℕ) → word ≡ 48 ∷ text → (h : IsPath p) → word ≡ path_text p → text ≡ each_after 46 (map decimal h.more)
 after_zero word text p w h e =

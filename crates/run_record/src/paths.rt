@@ -10,7 +10,11 @@ use itoa::Buffer;
 use jade_base::{Memory, Path, PathList};
 use jade_list::sequence::Sequence;
 use number_words::number_of;
+use smallvec::SmallVec;
 use std::alloc::{AllocError, Global};
+
+/// So many numbers of a path are read without memory of their own.
+const SHORT: usize = 4;
 
 /// Why a part of a line is not read: it is not of its form, or there was no memory, which says
 /// nothing of it.
@@ -28,25 +32,27 @@ fn path_of(alloc: Global, word: &[u8]) -> Result<Path, Unfit>
         Some(left) => left,
         None => return Err(Unfit::Form),
     };
-    let mut path = match Path::root(alloc) {
-        Ok(path) => path,
-        Err(Memory) => return Err(Unfit::Memory),
-    };
+    let mut numbers: SmallVec<u32, SHORT> = SmallVec::new(alloc);
+    if numbers.push(0).is_err() {
+        return Err(Unfit::Memory);
+    }
     'pieces: while let Some((piece, rest)) = next_piece(left, b'.') {
         let number = match number_of(piece) {
             Some(number) => number,
             None => return Err(Unfit::Form),
         };
-        path = match path.child(alloc, number) {
-            Ok(path) => path,
-            Err(Memory) => return Err(Unfit::Memory),
-        };
+        if numbers.push(number).is_err() {
+            return Err(Unfit::Memory);
+        }
         left = rest;
     }
     if !left.is_empty() {
         return Err(Unfit::Form);
     }
-    Ok(path)
+    match Path::of(alloc, numbers.as_slice()) {
+        Ok(path) => Ok(path),
+        Err(Memory) => Err(Unfit::Memory),
+    }
 }
 
 /// The paths that a text spells, one or more, each after a space.
