@@ -1,4 +1,5 @@
 pub mod Made
+pub mod Nodes
 pub mod SeenTerms
 pub mod SpelledTerms
 pub mod MovedStatements

@@ -7,12 +7,12 @@ use Rattle.jade_syntax.specs.declared.tree.ProductOp.{ProductOp}
 use Rattle.jade_syntax.specs.declared.tree.UnaryOp.{UnaryOp}
 use Rattle.jade_syntax.specs.declared.tree.Atom.{Atom, roll-Atom, fold-roll-Atom, map-Atom}
 use Rattle.jade_syntax.specs.declared.tree.Atom.TheOpen.{Atom-F, CellRef-F, Compare-F}
-use Rattle.jade_syntax.specs.declared.tree.AndExpr.{AndExpr, roll-AndExpr, fold-roll-AndExpr}
+use Rattle.jade_syntax.specs.declared.tree.AndExpr.{AndExpr, roll-AndExpr}
 use Rattle.jade_syntax.specs.declared.tree.CellRef.{CellRef, roll-CellRef, fold-roll-CellRef, map-CellRef, out-CellRef, fold_out-CellRef}
-use Rattle.jade_syntax.specs.declared.tree.Compare.{Compare, roll-Compare, fold-roll-Compare, map-Compare}
-use Rattle.jade_syntax.specs.declared.tree.Expr.{Expr, roll-Expr, fold-roll-Expr, ind-Expr}
-use Rattle.jade_syntax.specs.declared.tree.Product.{Product, roll-Product, fold-roll-Product}
-use Rattle.jade_syntax.specs.declared.tree.Sum.{Sum, roll-Sum, fold-roll-Sum}
+use Rattle.jade_syntax.specs.declared.tree.Compare.{Compare, roll-Compare, map-Compare}
+use Rattle.jade_syntax.specs.declared.tree.Expr.{Expr, roll-Expr, ind-Expr}
+use Rattle.jade_syntax.specs.declared.tree.Product.{Product, roll-Product}
+use Rattle.jade_syntax.specs.declared.tree.Sum.{Sum, roll-Sum}
 use Rattle.jade_syntax.specs.declared.tree.Unary.{Unary, fold_out-Unary}
 use Rattle.jade_syntax.specs.Abstract.{Name, Or, And, Relates, Adds, Multiplies}
 use Rattle.jade_syntax.specs.Placed as syntax
@@ -23,6 +23,7 @@ use Rattle.jade_syntax.specs.PlacedImage.{Reference, Linked, forms, chained, com
 use Rattle.jade_syntax.specs.PlacedImage.{term, and_term, reference, compare_term, product_term, sum_term, unary_term, atom_term}
 use Rattle.jade_syntax.proofs.Opened as opened
 use Rattle.replaced_trees.proofs.Made.{and_made, expr_made, sum_made, product_made, compare_made}
+use Rattle.replaced_trees.proofs.Nodes.{and_tree, expr_tree, sum_tree, product_tree, atom_tree, cell_tree, compare_tree}
 use Rattle.replaced_trees.specs.Replaced.{at_atom, at_and, at_cell, at_compare, at_expr, at_product, at_sum, at_unary}
 use Rattle.replaced_trees.specs.Replaced.{expr_replaced, and_replaced, cell_replaced, compare_replaced, sum_replaced, product_replaced}
 use Rattle.replaced_trees.specs.Replaced.{unary_replaced, atom_replaced, term_replaced, links_replaced, reference_replaced}
@@ -70,8 +71,7 @@ module _ (to : Name → Name) (home : Pos → Pos) where
     and_seen : (x : D) (xs : List (Pos × D)) → and_term (and_replaced to home (roll-AndExpr (record { first = d x; rest = and_rest xs })))
         ≡ term_replaced to home (and_term (roll-AndExpr (record { first = d x; rest = and_rest xs })))
     and_seen x xs =
-        ap and_term (fold-roll-AndExpr Atom AndExpr CellRef Compare Expr Product Sum Unary (at_atom to home) (at_and to home) (at_cell to home)
-        (at_compare to home) (at_expr to home) (at_product to home) (at_sum to home) (at_unary to home) (record { first = d x; rest = and_rest xs }))
+        ap and_term (and_tree to home (record { first = d x; rest = and_rest xs }))
         ∙ and_made forms (compare_replaced to home (d x)) (and_rest_made xs) ∙ (λ i. chained (same x i) (and_links xs i))
         ∙ sym (chain_seen (compare_term (d x)) (map (general.and_link forms) (and_rest xs)))
         ∙ sym (ap (term_replaced to home) (and_made forms (d x) (and_rest xs)))
@@ -90,8 +90,7 @@ module _ (to : Name → Name) (home : Pos → Pos) where
     or_seen : (x : B) (xs : List (Pos × B)) → term (expr_replaced to home (roll-Expr (record { first = b x; rest = or_rest xs })))
         ≡ term_replaced to home (term (roll-Expr (record { first = b x; rest = or_rest xs })))
     or_seen x xs =
-        ap term (fold-roll-Expr Atom AndExpr CellRef Compare Expr Product Sum Unary (at_atom to home) (at_and to home) (at_cell to home)
-        (at_compare to home) (at_expr to home) (at_product to home) (at_sum to home) (at_unary to home) (record { first = b x; rest = or_rest xs }))
+        ap term (expr_tree to home (record { first = b x; rest = or_rest xs }))
         ∙ expr_made forms (and_replaced to home (b x)) (or_rest_made xs) ∙ (λ i. chained (same x i) (or_links xs i))
         ∙ sym (chain_seen (and_term (b x)) (map (general.or_link forms) (or_rest xs)))
         ∙ sym (ap (term_replaced to home) (expr_made forms (b x) (or_rest xs)))
@@ -114,8 +113,7 @@ module _ (to : Name → Name) (home : Pos → Pos) where
         → product_term (product_replaced to home (roll-Product (record { first = h x; rest = product_rest xs })))
         ≡ term_replaced to home (product_term (roll-Product (record { first = h x; rest = product_rest xs })))
     product_seen x xs =
-        ap product_term (fold-roll-Product Atom AndExpr CellRef Compare Expr Product Sum Unary (at_atom to home) (at_and to home) (at_cell to home)
-        (at_compare to home) (at_expr to home) (at_product to home) (at_sum to home) (at_unary to home) (record { first = h x; rest = product_rest xs }))
+        ap product_term (product_tree to home (record { first = h x; rest = product_rest xs }))
         ∙ product_made forms (unary_replaced to home (h x)) (product_rest_made xs) ∙ (λ i. chained (same x i) (product_links xs i))
         ∙ sym (chain_seen (unary_term (h x)) (map (general.product_link forms) (product_rest xs)))
         ∙ sym (ap (term_replaced to home) (product_made forms (h x) (product_rest xs)))
@@ -138,8 +136,7 @@ module _ (to : Name → Name) (home : Pos → Pos) where
         → sum_term (sum_replaced to home (roll-Sum (record { first = f x; rest = sum_rest xs })))
         ≡ term_replaced to home (sum_term (roll-Sum (record { first = f x; rest = sum_rest xs })))
     sum_seen x xs =
-        ap sum_term (fold-roll-Sum Atom AndExpr CellRef Compare Expr Product Sum Unary (at_atom to home) (at_and to home) (at_cell to home)
-        (at_compare to home) (at_expr to home) (at_product to home) (at_sum to home) (at_unary to home) (record { first = f x; rest = sum_rest xs }))
+        ap sum_term (sum_tree to home (record { first = f x; rest = sum_rest xs }))
         ∙ sum_made forms (product_replaced to home (f x)) (sum_rest_made xs) ∙ (λ i. chained (same x i) (sum_links xs i))
         ∙ sym (chain_seen (product_term (f x)) (map (general.sum_link forms) (sum_rest xs)))
         ∙ sym (ap (term_replaced to home) (sum_made forms (f x) (sum_rest xs)))
@@ -172,51 +169,37 @@ module _ (to : Name → Name) (home : Pos → Pos) where
     abbrev atom_of : Atom-F A B C D E F G H → Atom-F Atom AndExpr CellRef Compare Expr Product Sum Unary
     atom_of y = map-Atom A B C D E F G H Atom AndExpr CellRef Compare Expr Product Sum Unary a b c d e f g h y
 
-    atom_tree : (y : Atom-F Atom AndExpr CellRef Compare Expr Product Sum Unary) → atom_replaced to home (roll-Atom y)
-        ≡ at_atom to home (map-Atom Atom AndExpr CellRef Compare Expr Product Sum Unary Atom AndExpr CellRef Compare Expr Product Sum Unary
-        (atom_replaced to home) (and_replaced to home) (cell_replaced to home) (compare_replaced to home) (expr_replaced to home)
-        (product_replaced to home) (sum_replaced to home) (unary_replaced to home) y)
-    atom_tree y = fold-roll-Atom Atom AndExpr CellRef Compare Expr Product Sum Unary (at_atom to home) (at_and to home) (at_cell to home)
-        (at_compare to home) (at_expr to home) (at_product to home) (at_sum to home) (at_unary to home) y
-
     atom_seen : (y : Atom-F A B C D E F G H) → atom_term (atom_replaced to home (roll-Atom (atom_of y)))
         ≡ term_replaced to home (atom_term (roll-Atom (atom_of y)))
     atom_seen (Atom-F.Whole n) =
-        ap atom_term (atom_tree (atom_of (Atom-F.Whole n))) ∙ atom_made (Atom-F.Whole (record { value = n.value; pos = home n.pos }))
+        ap atom_term (atom_tree to home (atom_of (Atom-F.Whole n))) ∙ atom_made (Atom-F.Whole (record { value = n.value; pos = home n.pos }))
         ∙ sym (ap (term_replaced to home) (atom_made (atom_of (Atom-F.Whole n))))
     atom_seen (Atom-F.Truth t p) =
-        ap atom_term (atom_tree (atom_of (Atom-F.Truth t p))) ∙ atom_made (Atom-F.Truth t (home p))
+        ap atom_term (atom_tree to home (atom_of (Atom-F.Truth t p))) ∙ atom_made (Atom-F.Truth t (home p))
         ∙ sym (ap (term_replaced to home) (atom_made (atom_of (Atom-F.Truth t p))))
     atom_seen (Atom-F.Group p x) =
-        ap atom_term (atom_tree (atom_of (Atom-F.Group p x))) ∙ atom_made _ ∙ ap (syntax.Group (home p)) (exprs x.value)
+        ap atom_term (atom_tree to home (atom_of (Atom-F.Group p x))) ∙ atom_made _ ∙ ap (syntax.Group (home p)) (exprs x.value)
         ∙ sym (ap (term_replaced to home) (atom_made (atom_of (Atom-F.Group p x))))
     atom_seen (Atom-F.Named n p) =
-        ap atom_term (atom_tree (atom_of (Atom-F.Named n p))) ∙ atom_made (Atom-F.Named (to n) (home p))
+        ap atom_term (atom_tree to home (atom_of (Atom-F.Named n p))) ∙ atom_made (Atom-F.Named (to n) (home p))
         ∙ sym (ap (term_replaced to home) (atom_made (atom_of (Atom-F.Named n p))))
     atom_seen (Atom-F.Cell x) =
-        ap atom_term (atom_tree (atom_of (Atom-F.Cell x))) ∙ atom_made _ ∙ ap (λ (k : Reference). syntax.Cell k.place k.cell) (cells x.value)
+        ap atom_term (atom_tree to home (atom_of (Atom-F.Cell x))) ∙ atom_made _ ∙ ap (λ (k : Reference). syntax.Cell k.place k.cell) (cells x.value)
         ∙ sym (ap (term_replaced to home) (atom_made (atom_of (Atom-F.Cell x))))
 
     abbrev cell_of : CellRef-F A B C D E F G H → CellRef-F Atom AndExpr CellRef Compare Expr Product Sum Unary
     cell_of y = map-CellRef A B C D E F G H Atom AndExpr CellRef Compare Expr Product Sum Unary a b c d e f g h y
 
-    cell_tree : (y : CellRef-F Atom AndExpr CellRef Compare Expr Product Sum Unary) → cell_replaced to home (roll-CellRef y)
-        ≡ at_cell to home (map-CellRef Atom AndExpr CellRef Compare Expr Product Sum Unary Atom AndExpr CellRef Compare Expr Product Sum Unary
-        (atom_replaced to home) (and_replaced to home) (cell_replaced to home) (compare_replaced to home) (expr_replaced to home)
-        (product_replaced to home) (sum_replaced to home) (unary_replaced to home) y)
-    cell_tree y = fold-roll-CellRef Atom AndExpr CellRef Compare Expr Product Sum Unary (at_atom to home) (at_and to home) (at_cell to home)
-        (at_compare to home) (at_expr to home) (at_product to home) (at_sum to home) (at_unary to home) y
-
     cell_at : (n : List ℕ) (p : Pos) (o : Option E) (x : E)
         → reference (cell_replaced to home (roll-CellRef (cell_of (record { name = n; pos = p; family = o; cell = x }))))
         ≡ reference_replaced to home (reference (roll-CellRef (cell_of (record { name = n; pos = p; family = o; cell = x }))))
     cell_at n p None x =
-        ap reference (cell_tree (cell_of (record { name = n; pos = p; family = None; cell = x })))
+        ap reference (cell_tree to home (cell_of (record { name = n; pos = p; family = None; cell = x })))
         ∙ cell_made (record { name = to n; pos = home p; family = None; cell = expr_replaced to home (e x) })
         ∙ (λ i. record { place = syntax.Alone (to n) (home p); cell = exprs x i })
         ∙ sym (ap (reference_replaced to home) (cell_made (cell_of (record { name = n; pos = p; family = None; cell = x }))))
     cell_at n p (Some o) x =
-        ap reference (cell_tree (cell_of (record { name = n; pos = p; family = Some o; cell = x })))
+        ap reference (cell_tree to home (cell_of (record { name = n; pos = p; family = Some o; cell = x })))
         ∙ cell_made (record { name = to n; pos = home p; family = Some (expr_replaced to home (e o)); cell = expr_replaced to home (e x) })
         ∙ (λ i. record { place = syntax.Member (to n) (home p) (exprs o i); cell = exprs x i })
         ∙ sym (ap (reference_replaced to home) (cell_made (cell_of (record { name = n; pos = p; family = Some o; cell = x }))))
@@ -228,21 +211,14 @@ module _ (to : Name → Name) (home : Pos → Pos) where
     abbrev compare_of : Compare-F A B C D E F G H → Compare-F Atom AndExpr CellRef Compare Expr Product Sum Unary
     compare_of y = map-Compare A B C D E F G H Atom AndExpr CellRef Compare Expr Product Sum Unary a b c d e f g h y
 
-    compare_tree : (y : Compare-F Atom AndExpr CellRef Compare Expr Product Sum Unary) → compare_replaced to home (roll-Compare y)
-        ≡ at_compare to home (map-Compare Atom AndExpr CellRef Compare Expr Product Sum Unary Atom AndExpr CellRef Compare Expr Product Sum Unary
-        (atom_replaced to home) (and_replaced to home) (cell_replaced to home) (compare_replaced to home) (expr_replaced to home)
-        (product_replaced to home) (sum_replaced to home) (unary_replaced to home) y)
-    compare_tree y = fold-roll-Compare Atom AndExpr CellRef Compare Expr Product Sum Unary (at_atom to home) (at_and to home) (at_cell to home)
-        (at_compare to home) (at_expr to home) (at_product to home) (at_sum to home) (at_unary to home) y
-
     compare_at : (x : G) (o : Option (Relation × Pos × G))
         → compare_term (compare_replaced to home (roll-Compare (compare_of (record { left = x; right = o }))))
         ≡ term_replaced to home (compare_term (roll-Compare (compare_of (record { left = x; right = o }))))
     compare_at x None =
-        ap compare_term (compare_tree (compare_of (record { left = x; right = None }))) ∙ compare_made forms (sum_replaced to home (g x)) None ∙ sums x
+        ap compare_term (compare_tree to home (compare_of (record { left = x; right = None }))) ∙ compare_made forms (sum_replaced to home (g x)) None ∙ sums x
         ∙ sym (ap (term_replaced to home) (compare_made forms (g x) None))
     compare_at x (Some o) =
-        ap compare_term (compare_tree (compare_of (record { left = x; right = Some o })))
+        ap compare_term (compare_tree to home (compare_of (record { left = x; right = Some o })))
         ∙ compare_made forms (sum_replaced to home (g x)) (Some (o.0, home o.1, sum_replaced to home (g o.2)))
         ∙ (λ i. syntax.Chain (sums x i) (syntax.Link (Relates o.0) (home o.1) (sums o.2 i) syntax.Last))
         ∙ sym (ap (term_replaced to home) (compare_made forms (g x) (Some (o.0, o.1, g o.2))))

@@ -13,12 +13,12 @@ use Rattle.jade_syntax.specs.declared.tree.UnaryOp.{UnaryOp}
 use Rattle.jade_syntax.specs.declared.tree.UnaryOp.TheVariants.{Negative, Not}
 use Rattle.jade_syntax.specs.declared.tree.Atom.{Atom, roll-Atom, fold-roll-Atom, map-Atom}
 use Rattle.jade_syntax.specs.declared.tree.Atom.TheOpen.{Atom-F, CellRef-F, Compare-F}
-use Rattle.jade_syntax.specs.declared.tree.AndExpr.{AndExpr, roll-AndExpr, fold-roll-AndExpr}
-use Rattle.jade_syntax.specs.declared.tree.CellRef.{CellRef, roll-CellRef, fold-roll-CellRef, map-CellRef}
-use Rattle.jade_syntax.specs.declared.tree.Compare.{Compare, roll-Compare, fold-roll-Compare, map-Compare}
-use Rattle.jade_syntax.specs.declared.tree.Expr.{Expr, roll-Expr, fold-roll-Expr, ind-Expr}
-use Rattle.jade_syntax.specs.declared.tree.Product.{Product, roll-Product, fold-roll-Product}
-use Rattle.jade_syntax.specs.declared.tree.Sum.{Sum, roll-Sum, fold-roll-Sum}
+use Rattle.jade_syntax.specs.declared.tree.AndExpr.{AndExpr, roll-AndExpr}
+use Rattle.jade_syntax.specs.declared.tree.CellRef.{CellRef, roll-CellRef, map-CellRef}
+use Rattle.jade_syntax.specs.declared.tree.Compare.{Compare, roll-Compare, map-Compare}
+use Rattle.jade_syntax.specs.declared.tree.Expr.{Expr, roll-Expr, ind-Expr}
+use Rattle.jade_syntax.specs.declared.tree.Product.{Product, roll-Product}
+use Rattle.jade_syntax.specs.declared.tree.Sum.{Sum, roll-Sum}
 use Rattle.jade_syntax.specs.declared.tree.Unary.{Unary, fold_out-Unary}
 use Rattle.jade_syntax.specs.Abstract.{Name}
 use Rattle.jade_parser.specs.declared.Sign.TheVariants.{LeftParen, RightParen, LeftBracket, RightBracket, OrSign, AndSign}
@@ -30,6 +30,7 @@ use Rattle.jade_parser.specs.Spelled.{or_part, and_part, sum_part, product_part,
 use Rattle.jade_parser.proofs.Spelling as spelling
 use Rattle.jade_parser.proofs.Spelling.{expr_made, and_made, sum_made, product_made}
 use Rattle.jade_parser.proofs.Steps.{alone_made, pair_made, single_made, member_made}
+use Rattle.replaced_trees.proofs.Nodes.{and_tree, expr_tree, sum_tree, product_tree, atom_tree, cell_tree, compare_tree}
 use Rattle.replaced_trees.specs.Replaced.{at_atom, at_and, at_cell, at_compare, at_expr, at_product, at_sum, at_unary}
 use Rattle.replaced_trees.specs.Replaced.{expr_replaced, and_replaced, cell_replaced, compare_replaced, sum_replaced, product_replaced}
 use Rattle.replaced_trees.specs.Replaced.{unary_replaced, atom_replaced}
@@ -99,8 +100,7 @@ module _ (to : Name → Name) (home : Pos → Pos) where
     and_spelled : (x : D) (xs : List (Pos × D)) → and_parts (and_replaced to home (roll-AndExpr (record { first = d x; rest = and_rest xs })))
         ≡ parts_replaced to home (and_parts (roll-AndExpr (record { first = d x; rest = and_rest xs })))
     and_spelled x xs =
-        ap and_parts (fold-roll-AndExpr Atom AndExpr CellRef Compare Expr Product Sum Unary (at_atom to home) (at_and to home) (at_cell to home)
-        (at_compare to home) (at_expr to home) (at_product to home) (at_sum to home) (at_unary to home) (record { first = d x; rest = and_rest xs }))
+        ap and_parts (and_tree to home (record { first = d x; rest = and_rest xs }))
         ∙ and_made (compare_replaced to home (d x)) (and_rest_made xs)
         ∙ joined (compare_parts (compare_replaced to home (d x))) (compare_parts (d x)) (flat_map and_part (and_rest_made xs))
         (flat_map and_part (and_rest xs)) (same x) (and_links xs)
@@ -123,8 +123,7 @@ module _ (to : Name → Name) (home : Pos → Pos) where
     or_spelled : (x : B) (xs : List (Pos × B)) → expr_parts (expr_replaced to home (roll-Expr (record { first = b x; rest = or_rest xs })))
         ≡ parts_replaced to home (expr_parts (roll-Expr (record { first = b x; rest = or_rest xs })))
     or_spelled x xs =
-        ap expr_parts (fold-roll-Expr Atom AndExpr CellRef Compare Expr Product Sum Unary (at_atom to home) (at_and to home) (at_cell to home)
-        (at_compare to home) (at_expr to home) (at_product to home) (at_sum to home) (at_unary to home) (record { first = b x; rest = or_rest xs }))
+        ap expr_parts (expr_tree to home (record { first = b x; rest = or_rest xs }))
         ∙ expr_made (and_replaced to home (b x)) (or_rest_made xs)
         ∙ joined (and_parts (and_replaced to home (b x))) (and_parts (b x)) (flat_map or_part (or_rest_made xs))
         (flat_map or_part (or_rest xs)) (same x) (or_links xs)
@@ -151,8 +150,7 @@ module _ (to : Name → Name) (home : Pos → Pos) where
         → product_parts (product_replaced to home (roll-Product (record { first = h x; rest = product_rest xs })))
         ≡ parts_replaced to home (product_parts (roll-Product (record { first = h x; rest = product_rest xs })))
     product_spelled x xs =
-        ap product_parts (fold-roll-Product Atom AndExpr CellRef Compare Expr Product Sum Unary (at_atom to home) (at_and to home) (at_cell to home)
-        (at_compare to home) (at_expr to home) (at_product to home) (at_sum to home) (at_unary to home) (record { first = h x; rest = product_rest xs }))
+        ap product_parts (product_tree to home (record { first = h x; rest = product_rest xs }))
         ∙ product_made (unary_replaced to home (h x)) (product_rest_made xs)
         ∙ joined (unary_parts (unary_replaced to home (h x))) (unary_parts (h x)) (flat_map product_part (product_rest_made xs))
         (flat_map product_part (product_rest xs)) (same x) (product_links xs)
@@ -178,8 +176,7 @@ module _ (to : Name → Name) (home : Pos → Pos) where
         → sum_parts (sum_replaced to home (roll-Sum (record { first = f x; rest = sum_rest xs })))
         ≡ parts_replaced to home (sum_parts (roll-Sum (record { first = f x; rest = sum_rest xs })))
     sum_spelled x xs =
-        ap sum_parts (fold-roll-Sum Atom AndExpr CellRef Compare Expr Product Sum Unary (at_atom to home) (at_and to home) (at_cell to home)
-        (at_compare to home) (at_expr to home) (at_product to home) (at_sum to home) (at_unary to home) (record { first = f x; rest = sum_rest xs }))
+        ap sum_parts (sum_tree to home (record { first = f x; rest = sum_rest xs }))
         ∙ sum_made (product_replaced to home (f x)) (sum_rest_made xs)
         ∙ joined (product_parts (product_replaced to home (f x))) (product_parts (f x)) (flat_map sum_part (sum_rest_made xs))
         (flat_map sum_part (sum_rest xs)) (same x) (sum_links xs)
@@ -215,58 +212,44 @@ module _ (to : Name → Name) (home : Pos → Pos) where
     abbrev atom_of : Atom-F A B C D E F G H → Atom-F Atom AndExpr CellRef Compare Expr Product Sum Unary
     atom_of y = map-Atom A B C D E F G H Atom AndExpr CellRef Compare Expr Product Sum Unary a b c d e f g h y
 
-    atom_tree : (y : Atom-F Atom AndExpr CellRef Compare Expr Product Sum Unary) → atom_replaced to home (roll-Atom y)
-        ≡ at_atom to home (map-Atom Atom AndExpr CellRef Compare Expr Product Sum Unary Atom AndExpr CellRef Compare Expr Product Sum Unary
-        (atom_replaced to home) (and_replaced to home) (cell_replaced to home) (compare_replaced to home) (expr_replaced to home)
-        (product_replaced to home) (sum_replaced to home) (unary_replaced to home) y)
-    atom_tree y = fold-roll-Atom Atom AndExpr CellRef Compare Expr Product Sum Unary (at_atom to home) (at_and to home) (at_cell to home)
-        (at_compare to home) (at_expr to home) (at_product to home) (at_sum to home) (at_unary to home) y
-
     atom_spelled : (y : Atom-F A B C D E F G H) → atom_parts (atom_replaced to home (roll-Atom (atom_of y)))
         ≡ parts_replaced to home (atom_parts (roll-Atom (atom_of y)))
     atom_spelled (Atom-F.Whole n) =
-        ap atom_parts (atom_tree (atom_of (Atom-F.Whole n))) ∙ atom_made (Atom-F.Whole (record { value = n.value; pos = home n.pos }))
+        ap atom_parts (atom_tree to home (atom_of (Atom-F.Whole n))) ∙ atom_made (Atom-F.Whole (record { value = n.value; pos = home n.pos }))
         ∙ sym (ap (parts_replaced to home) (atom_made (atom_of (Atom-F.Whole n))))
     atom_spelled (Atom-F.Truth true p) =
-        ap atom_parts (atom_tree (atom_of (Atom-F.Truth true p))) ∙ atom_made (Atom-F.Truth true (home p))
+        ap atom_parts (atom_tree to home (atom_of (Atom-F.Truth true p))) ∙ atom_made (Atom-F.Truth true (home p))
         ∙ sym (ap (parts_replaced to home) (atom_made (atom_of (Atom-F.Truth true p))))
     atom_spelled (Atom-F.Truth false p) =
-        ap atom_parts (atom_tree (atom_of (Atom-F.Truth false p))) ∙ atom_made (Atom-F.Truth false (home p))
+        ap atom_parts (atom_tree to home (atom_of (Atom-F.Truth false p))) ∙ atom_made (Atom-F.Truth false (home p))
         ∙ sym (ap (parts_replaced to home) (atom_made (atom_of (Atom-F.Truth false p))))
     atom_spelled (Atom-F.Group p x) =
-        ap atom_parts (atom_tree (atom_of (Atom-F.Group p x))) ∙ atom_made _
+        ap atom_parts (atom_tree to home (atom_of (Atom-F.Group p x))) ∙ atom_made _
         ∙ ap (λ (l : Parts). marked (Fixed LeftParen) (home p) ∷ l)
         (joined (expr_parts (expr_replaced to home (e x.value))) (expr_parts (e x.value)) (fixed RightParen ∷ []) (fixed RightParen ∷ [])
         (exprs x.value) refl)
         ∙ sym (ap (parts_replaced to home) (atom_made (atom_of (Atom-F.Group p x))))
     atom_spelled (Atom-F.Named n p) =
-        ap atom_parts (atom_tree (atom_of (Atom-F.Named n p))) ∙ atom_made (Atom-F.Named (to n) (home p))
+        ap atom_parts (atom_tree to home (atom_of (Atom-F.Named n p))) ∙ atom_made (Atom-F.Named (to n) (home p))
         ∙ sym (ap (parts_replaced to home) (atom_made (atom_of (Atom-F.Named n p))))
     atom_spelled (Atom-F.Cell x) =
-        ap atom_parts (atom_tree (atom_of (Atom-F.Cell x))) ∙ atom_made _ ∙ cells x.value
+        ap atom_parts (atom_tree to home (atom_of (Atom-F.Cell x))) ∙ atom_made _ ∙ cells x.value
         ∙ sym (ap (parts_replaced to home) (atom_made (atom_of (Atom-F.Cell x))))
 
     abbrev cell_of : CellRef-F A B C D E F G H → CellRef-F Atom AndExpr CellRef Compare Expr Product Sum Unary
     cell_of y = map-CellRef A B C D E F G H Atom AndExpr CellRef Compare Expr Product Sum Unary a b c d e f g h y
 
-    cell_tree : (y : CellRef-F Atom AndExpr CellRef Compare Expr Product Sum Unary) → cell_replaced to home (roll-CellRef y)
-        ≡ at_cell to home (map-CellRef Atom AndExpr CellRef Compare Expr Product Sum Unary Atom AndExpr CellRef Compare Expr Product Sum Unary
-        (atom_replaced to home) (and_replaced to home) (cell_replaced to home) (compare_replaced to home) (expr_replaced to home)
-        (product_replaced to home) (sum_replaced to home) (unary_replaced to home) y)
-    cell_tree y = fold-roll-CellRef Atom AndExpr CellRef Compare Expr Product Sum Unary (at_atom to home) (at_and to home) (at_cell to home)
-        (at_compare to home) (at_expr to home) (at_product to home) (at_sum to home) (at_unary to home) y
-
     cell_at : (n : List ℕ) (p : Pos) (o : Option E) (x : E)
         → cell_parts (cell_replaced to home (roll-CellRef (cell_of (record { name = n; pos = p; family = o; cell = x }))))
         ≡ parts_replaced to home (cell_parts (roll-CellRef (cell_of (record { name = n; pos = p; family = o; cell = x }))))
     cell_at n p None x =
-        ap cell_parts (cell_tree (cell_of (record { name = n; pos = p; family = None; cell = x })))
+        ap cell_parts (cell_tree to home (cell_of (record { name = n; pos = p; family = None; cell = x })))
         ∙ single_made (to n) (home p) (expr_replaced to home (e x))
         ∙ ap (λ (l : Parts). marked (Called (to n)) (home p) ∷ l)
         (bracketed_spelled (expr_parts (expr_replaced to home (e x))) (expr_parts (e x)) (exprs x))
         ∙ sym (ap (parts_replaced to home) (single_made n p (e x)))
     cell_at n p (Some o) x =
-        ap cell_parts (cell_tree (cell_of (record { name = n; pos = p; family = Some o; cell = x })))
+        ap cell_parts (cell_tree to home (cell_of (record { name = n; pos = p; family = Some o; cell = x })))
         ∙ member_made (to n) (home p) (expr_replaced to home (e o)) (expr_replaced to home (e x))
         ∙ ap (λ (l : Parts). marked (Called (to n)) (home p) ∷ l)
         (joined (bracketed (expr_parts (expr_replaced to home (e o)))) (bracketed (expr_parts (e o)))
@@ -282,22 +265,15 @@ module _ (to : Name → Name) (home : Pos → Pos) where
     abbrev compare_of : Compare-F A B C D E F G H → Compare-F Atom AndExpr CellRef Compare Expr Product Sum Unary
     compare_of y = map-Compare A B C D E F G H Atom AndExpr CellRef Compare Expr Product Sum Unary a b c d e f g h y
 
-    compare_tree : (y : Compare-F Atom AndExpr CellRef Compare Expr Product Sum Unary) → compare_replaced to home (roll-Compare y)
-        ≡ at_compare to home (map-Compare Atom AndExpr CellRef Compare Expr Product Sum Unary Atom AndExpr CellRef Compare Expr Product Sum Unary
-        (atom_replaced to home) (and_replaced to home) (cell_replaced to home) (compare_replaced to home) (expr_replaced to home)
-        (product_replaced to home) (sum_replaced to home) (unary_replaced to home) y)
-    compare_tree y = fold-roll-Compare Atom AndExpr CellRef Compare Expr Product Sum Unary (at_atom to home) (at_and to home) (at_cell to home)
-        (at_compare to home) (at_expr to home) (at_product to home) (at_sum to home) (at_unary to home) y
-
     compare_at : (x : G) (o : Option (Relation × Pos × G))
         → compare_parts (compare_replaced to home (roll-Compare (compare_of (record { left = x; right = o }))))
         ≡ parts_replaced to home (compare_parts (roll-Compare (compare_of (record { left = x; right = o }))))
     compare_at x None =
-        ap compare_parts (compare_tree (compare_of (record { left = x; right = None }))) ∙ alone_made (sum_replaced to home (g x))
+        ap compare_parts (compare_tree to home (compare_of (record { left = x; right = None }))) ∙ alone_made (sum_replaced to home (g x))
         ∙ joined (sum_parts (sum_replaced to home (g x))) (sum_parts (g x)) [] [] (sums x) refl
         ∙ sym (ap (parts_replaced to home) (alone_made (g x)))
     compare_at x (Some o) =
-        ap compare_parts (compare_tree (compare_of (record { left = x; right = Some o })))
+        ap compare_parts (compare_tree to home (compare_of (record { left = x; right = Some o })))
         ∙ pair_made (sum_replaced to home (g x)) (sum_replaced to home (g o.2)) o.0 (home o.1)
         ∙ joined (sum_parts (sum_replaced to home (g x))) (sum_parts (g x))
         (marked (relation_sign o.0) (home o.1) ∷ sum_parts (sum_replaced to home (g o.2))) (marked (relation_sign o.0) o.1 ∷ sum_parts (g o.2))
