@@ -95,8 +95,8 @@ place_above : (at : Option Pos) → Above 31 (place_before at)
 place_above None = All-nil (λ b. 31 < b)
 place_above (Some p) =
     then_above (place_text p) (codes " ")
-    (then_above (decimal p.line) (codes ":" ++ decimal p.column) (decimal_is_above p.line)
-    (then_above (codes ":") (decimal p.column) (above 31 (codes ":") refl) (decimal_is_above p.column)))
+    (then_above (decimal p.line ++ codes ":") (decimal p.column)
+    (then_above (decimal p.line) (codes ":") (decimal_is_above p.line) (above 31 (codes ":") refl)) (decimal_is_above p.column))
     (above 31 (codes " ") refl)
 
 word_is_above : (k : FaultKind) → Above 31 (fault_word k)
@@ -116,16 +116,19 @@ fault_line path blame = codes "fault " ++ place_before blame.pos ++ fault_word b
 
 fault_is_above : (path : List ℕ) (blame : Blame) → Above 31 (fault_line path blame)
 fault_is_above path blame =
-    then_above (codes "fault ") (place_before blame.pos ++ fault_word blame.kind ++ codes " task " ++ path_text path) (above 31 (codes "fault ") refl)
-    (then_above (place_before blame.pos) (fault_word blame.kind ++ codes " task " ++ path_text path) (place_above blame.pos)
-    (then_above (fault_word blame.kind) (codes " task " ++ path_text path) (word_is_above blame.kind)
-    (then_above (codes " task ") (path_text path) (above 31 (codes " task ") refl) (joined_above 46 decimal (omega arith) decimal_is_above path))))
+    let before = place_before blame.pos in
+    let word = fault_word blame.kind in
+    then_above (codes "fault " ++ before ++ word ++ codes " task ") (path_text path)
+    (then_above (codes "fault " ++ before ++ word) (codes " task ")
+    (then_above (codes "fault " ++ before) word
+    (then_above (codes "fault ") before (above 31 (codes "fault ") refl) (place_above blame.pos)) (word_is_above blame.kind)) (above 31 (codes " task ") refl))
+    (joined_above 46 decimal (omega arith) decimal_is_above path)
 
 member_above : (m : Option ℕ) → Above 31 (member_text m)
 member_above None = All-nil (λ b. 31 < b)
 member_above (Some i) =
-    then_above (codes "[") (decimal i ++ codes "]") (above 31 (codes "[") refl)
-    (then_above (decimal i) (codes "]") (decimal_is_above i) (above 31 (codes "]") refl))
+    then_above (codes "[" ++ decimal i) (codes "]")
+    (then_above (codes "[") (decimal i) (above 31 (codes "[") refl) (decimal_is_above i)) (above 31 (codes "]") refl)
 
 -- the line of an object
 abbrev object_line : Label → List ℤ → List ℕ
@@ -133,9 +136,10 @@ object_line label cells = label.name ++ member_text label.member ++ codes " = " 
 
 object_is_above : (label : Label) (cells : List ℤ) → Above 47 label.name → Above 31 (object_line label cells)
 object_is_above label cells named =
-    then_above label.name (member_text label.member ++ codes " = " ++ cells_text cells) (lower 47 31 label.name (omega arith) named)
-    (then_above (member_text label.member) (codes " = " ++ cells_text cells) (member_above label.member)
-    (then_above (codes " = ") (cells_text cells) (above 31 (codes " = ") refl) (joined_above 32 signed_decimal (omega arith) signed_is_above cells)))
+    then_above (label.name ++ member_text label.member ++ codes " = ") (cells_text cells)
+    (then_above (label.name ++ member_text label.member) (codes " = ")
+    (then_above label.name (member_text label.member) (lower 47 31 label.name (omega arith) named) (member_above label.member)) (above 31 (codes " = ") refl))
+    (joined_above 32 signed_decimal (omega arith) signed_is_above cells)
 
 -- ---- the lines of an answer
 

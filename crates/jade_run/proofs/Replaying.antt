@@ -196,6 +196,16 @@ pub followed_full : (p q : CheckedProgram) (ns : List ℤ) (limit : ℕ) (lists 
     → Full (program q.program) ns limit (turns_in lists) → Full (program p.program) ns limit (turns_in lists)
 followed_full p q ns limit lists e h = let C : CheckedProgram → Type 0 = λ x. Full (program x.program) ns limit (turns_in lists) in subst C e h
 
+-- so it is for other numbers and another limit that are the same
+pub full_given : (p : AbstractProgram) (ns ms : List ℤ) (k l : ℕ) (lists : ListsByObject) → ns ≡ ms → k ≡ l → Full p ns k (turns_in lists)
+    → Full p ms l (turns_in lists)
+full_given p ns ms k l lists e f h = subst (λ x. Full p ms x (turns_in lists)) f (subst (λ x. Full p x k (turns_in lists)) e h)
+
+pub settled_given : (bytes other : List ℕ) (ns ms : List ℤ) (text : List ℕ) (status : Status) → bytes ≡ other → ns ≡ ms → IsSettled bytes ns text status
+    → IsSettled other ms text status
+settled_given bytes other ns ms text status e f h =
+    subst (λ x. IsSettled other x text status) f (subst (λ x. IsSettled x ns text status) e h)
+
 -- the program of a recording is no longer than the recording
 text_within : (r : Recorded) (bytes : List ℕ) → recording r ≡ bytes → length r.text ≤ length bytes
 text_within r bytes e =

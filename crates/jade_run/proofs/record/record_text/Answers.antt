@@ -2,10 +2,6 @@ use Rattle.jade_run.proofs.Keeping.{program_kept, settled_kept}
 use Rattle.jade_run.proofs.Running.{answered_ready, program_ready}
 use Rattle.jade_run.proofs.record.record_text.Goals as goal
 
-pub record_by_workers-requires-clause-good : goal.record_by_workers-requires-clause-good
-record_by_workers-requires-clause-good g c =
-    (program_ready c.args.text.now c.args.numbers.now c.in_ok-ready.ready c.in-Program.checked c.in-Program.is c.in_ok-ready.ensures).0
-
 pub returns-in-Program : goal.returns-in-Program
 returns-in-Program g c =
     let ready = program_ready c.args.text.now c.args.numbers.now c.in_ok-ready.ready c.in-Program.checked c.in-Program.is c.in_ok-ready.ensures in
