@@ -3,7 +3,7 @@ use Rattle.std.proofs.Common.{◌≡◌, ℕ, zero, suc, ◌+◌, ◌/◌, ◌%�
 use Rattle.std.specs.Prelude.{ℤ, pos, negsuc, Result, Ok, Err, IfOk}
 use Rattle.std.specs.List.{join_with_byte, list_all, slice_get}
 use Rattle.std.specs.Fmt.{decimal, digit_glyph, digits, digits_onto, signed_decimal}
-use Rattle.std.proofs.lemmas.List.Elements.{All-nil, All-cons, All-append, All-map, All-push}
+use Rattle.std.proofs.lemmas.List.Elements.{All-nil, All-cons, All-append, All-push}
 use Rattle.jade_base.specs.declared.place.Pos.{Pos}
 use Rattle.jade_base.specs.declared.report.Blame.{Blame}
 use Rattle.jade_base.specs.declared.report.FaultKind.{FaultKind}
@@ -18,7 +18,7 @@ use Rattle.jade_meaning.specs.Answer.{Answer, Faulted, Cells, answer}
 use Rattle.number_words.specs.Numbers.{is_number}
 use Rattle.run_record.specs.Pieces.{Lacks}
 use Rattle.run_record.specs.Recording.{Recorded, IsRecorded, IsTurn, ended, recording}
-use Rattle.run_record.proofs.Bytes.{Above, above, lacks, lower, testing, word_above}
+use Rattle.run_record.proofs.Bytes.{Above, above, lacks, lower, word_above}
 use Rattle.run_record.proofs.PathLemmas.{IsNumber}
 use Rattle.record_parts.specs.Labels.{member_text}
 use Rattle.record_parts.specs.Lines.{AreLines}

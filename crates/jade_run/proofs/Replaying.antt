@@ -1,43 +1,13 @@
 -- What a recording comes to that is replayed.
-use Rattle.std.proofs.Common.{
-  ◌≡◌,
-  ℕ,
-  zero,
-  suc,
-  ◌+◌,
-  ◌<◌,
-  ◌≤◌,
-  ◌⊎◌,
-  inl,
-  inr,
-  Bool,
-  true,
-  false,
-  List,
-  [],
-  ◌∷◌,
-  ◌++◌,
-  length,
-  take,
-  Some,
-  refl,
-  ap,
-  sym,
-  ◌∙◌,
-  subst,
-  arith,
-  length-append,
-}
+use Rattle.std.proofs.Common.{◌≡◌, ℕ, suc, ◌+◌, ◌<◌, ◌≤◌, ◌⊎◌, inl, inr, Bool, true, false, List, [], ◌∷◌, ◌++◌, length, take, Some, refl, ap, sym, ◌∙◌, subst, arith, length-append}
 use Rattle.std.specs.Prelude.{ℤ, ◌↔◌, IsTrue, Result, Ok, Err, IfOk}
 use Rattle.std.specs.List.{slice_get}
-use Rattle.std.proofs.lemmas.List.{take_all}
 use Rattle.jade_base.specs.Places.{same_path}
 use Rattle.jade_base.specs.declared.failure.Memory.{Memory as NoMemory}
 use Rattle.jade_base.specs.declared.report.Report.{Report}
 use Rattle.jade_syntax.specs.Abstract.{AbstractProgram}
 use Rattle.jade_syntax.specs.CheckedProgram.{CheckedProgram}
 use Rattle.jade_syntax.specs.Image.{program}
-use Rattle.jade_syntax.specs.Objects.{sizes}
 use Rattle.jade_syntax.specs.Shapes.{is_shaped}
 use Rattle.jade_syntax.specs.declared.tree.Program.{Program}
 use Rattle.jade_lexer.specs.Lexemes.{TokenList}
@@ -59,7 +29,7 @@ use Rattle.record_parts.proofs.Naming.{some_same}
 use Rattle.jade_run.specs.declared.answer.Answer.{Answer as AnswerOf}
 use Rattle.jade_run.specs.declared.status.Status.{Status}
 use Rattle.jade_run.specs.declared.status.Status.TheVariants.{Good, Refused, Numbers, Replay}
-use Rattle.jade_run.specs.Answered.{IsAnswered, IsGood, Shows, answer_status, answer_text, answered, miscounted, refused}
+use Rattle.jade_run.specs.Answered.{IsAnswered, Shows, answer_status, answer_text, answered, miscounted, refused}
 use Rattle.jade_run.specs.Recordings.{HasTurns, IsRecording, IsReplayed, ListsByObject, Plays, differs, formless, same, turnless, uncounted, unfit}
 use Rattle.jade_run.specs.steps.Preparing.{IsSettled}
 use Rattle.jade_run.specs.steps.Recording.{IsCompared, alike, unlike}

@@ -130,4 +130,3 @@ pub data IsDrilled (tasks : ℕ) (text : List ℕ) (status : Status) : Type 0 wh
   summed : (tree : Program) → IsGood (drill_text tasks) tree → input_count tree ≡ 0 → (store : Store) → answer (program tree) [] 4294967295 in_order ≡ Cells store →
       text ≡ drilled_text tasks (sum_of_cells store) → status ≡ Good → IsDrilled tasks text status
   not_summed : IsAnswered (drill_text tasks) [] 4294967295 in_order text status → (status ≡ Good → ⊥) → IsDrilled tasks text status
-

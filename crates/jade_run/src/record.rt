@@ -166,7 +166,9 @@ pub fn record_text<R: Threads + Wait + Sync, G: Gate, W: Witness>(
     let ready = prepare(alloc, text, numbers)?;
     match ready {
         Ready::Program(checked) => {
-            record_by_workers(rt, alloc, checked, text, numbers, workers, limit, gate, witness)
+            record_by_workers(
+                rt, alloc, checked, text, numbers, workers, limit, gate, witness,
+            )
         }
         Ready::Answered(answer) => Ok(answer),
     }

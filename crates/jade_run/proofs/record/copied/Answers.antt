@@ -1,4 +1,4 @@
-use Rattle.std.proofs.Common.{◌≡◌, ◌∙◌, ap, sym, ◌++◌, ◌∷◌, [], FitsSigned, rules, w64}
+use Rattle.std.proofs.Common.{◌∙◌, ap, sym, ◌++◌, ◌∷◌, [], FitsSigned, rules, w64}
 use Rattle.std.proofs.Math.Facts.{to_z-of_z}
 use Rattle.run_record.proofs.Options.{went_well}
 use Rattle.record_parts.proofs.Cutting.{take_one}

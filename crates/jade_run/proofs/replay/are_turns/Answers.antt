@@ -1,4 +1,3 @@
-use Rattle.std.proofs.Common.{◌∙◌, sym}
 use Rattle.jade_run.proofs.Replaying.{item_differs, other_lists, same_more}
 use Rattle.jade_run.proofs.replay.are_turns.Goals as goal
 

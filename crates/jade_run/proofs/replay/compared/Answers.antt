@@ -1,9 +1,7 @@
-use Rattle.std.proofs.Common.{◌≡◌, ap, refl}
+use Rattle.std.proofs.Common.{ap, refl}
 use Rattle.jade_syntax.specs.Image.{program}
-use Rattle.jade_meaning.specs.Answer.{answer}
 use Rattle.jade_meaning.specs.Turns.{turns_in}
 use Rattle.run_record.specs.Recording.{Recorded}
-use Rattle.jade_run.specs.Answered.{answer_text}
 use Rattle.jade_run.proofs.Replaying.{is_alike, is_unlike, lines_are, lines_are_not, told_text}
 use Rattle.jade_run.proofs.Running.{faults_ascend}
 use Rattle.jade_run.proofs.replay.compared.Goals as goal
