@@ -135,6 +135,7 @@ fn desist(words: &Words, task: &mut Task, place: usize)
     ensures rests { Rests task.new }
     ensures after { (before : TaskState) (y : SlotOf) → Begun words.now.table_id.slots place y y before task.old → Desisted place y before task.new }
 {
+    core_laws();
     leave_turn::<Desist>(words, &mut task.seat, place);
 }
 
