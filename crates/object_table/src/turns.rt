@@ -39,8 +39,8 @@ use task_roll::PartNote;
 /// The words and slots of a table.
 pub(crate) type Words<'c> = Shared<Slot, View, Plan<'c>, Sharing>;
 
-// What is true of every core.
-fn core_laws()
+/// What is true of every core.
+pub(crate) fn core_laws()
     ensures { (key : RunPlan) → Laws key }
 {
     schedule_core::laws::core_tells();
