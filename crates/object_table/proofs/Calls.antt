@@ -223,9 +223,9 @@ module _ (t : Task) (r : Rests t) where
     pub off_seen : v.live ≡ true → (z : ShelfView) → y ≡ slot.Object z → Seen o z v
     off_seen live z is =
         let told : (k : ℕ) → all_touches k (in_turn o y v0) ≡ true → v0.live ≡ true → (x : ShelfView) → y ≡ slot.Object x
-            → Seen o x (passed k (in_turn o y v0)) =
+        → Seen o x (passed k (in_turn o y v0)) =
         subst (λ (m : Me Slot View). (k : ℕ) → all_touches k m.0 ≡ true → m.0.live ≡ true → (x : ShelfView) → m.0.note ≡ slot.Object x
-            → Seen m.0.place x (passed k m.0)) turn.me left.1 in
+        → Seen m.0.place x (passed k m.0)) turn.me left.1 in
         let h = told t.touched (all_try true (suc v0.tries) o 0 y t.touched v0 ∙ r.touches) (sym same.live ∙ live) z is in
         seen_on true (suc v0.tries) o 0 y v o z (subst (λ (w : View). Seen o z w) (passed_try true (suc v0.tries) o 0 y t.touched v0) h)
 

@@ -273,9 +273,9 @@ enrolling key laws slots id me alive born rich k t steps ahead s h _ at _ =
             let q = ahead_once k j (Enroll t steps) (Enroll d m) me.0 ahead other in
             let r = same_creation t d steps m q.1 in
             subst (λ i. (z : Seat) × Born (passed i me.0).seat z w.seat × (w ≡ bore m z (passed i me.0)) × (worth w ≤ most)
-                × OwnEvent (Enroll d m) (passed i me.0) (z ∷ (w.seat ∷ []))) q.0
+            × OwnEvent (Enroll d m) (passed i me.0) (z ∷ (w.seat ∷ []))) q.0
             (subst (λ (c : Task × ℕ). (z : Seat) × Born v.seat z w.seat × (w ≡ bore c.1 z v) × (worth w ≤ most)
-                × OwnEvent (Enroll c.0 c.1) v (z ∷ (w.seat ∷ []))) (λ i. (r.0 i, r.1 i)) (kid, is_born, refl, room, event))),
+            × OwnEvent (Enroll c.0 c.1) v (z ∷ (w.seat ∷ []))) (λ i. (r.0 i, r.1 i)) (kid, is_born, refl, room, event))),
         refl,
       ),
     )
