@@ -1,5 +1,5 @@
 -- A turn is left with nothing done, after the pass's touches.
-use Rattle.std.proofs.Common.{◌≡◌, ℕ, true, List, ◌∷◌, set, refl, sym, ap, ◌∙◌, subst, eq-eqb}
+use Rattle.std.proofs.Common.{◌≡◌, ℕ, true, ◌∷◌, set, refl, sym, ap, ◌∙◌, subst, eq-eqb}
 use Rattle.std.specs.Prelude.{nat_eq, if◌then◌else◌}
 use mathlib.Core.Logic.{dite}
 use mathlib.Core.Option.{none, some}

@@ -1,5 +1,5 @@
 -- A step that is no event leaves the core as it was, and each event moves its task's seat.
-use Rattle.std.proofs.Common.{◌≡◌, ◌≢◌, ℕ, zero, suc, ◌<◌, ◌≤◌, Bool, true, false, List, [], ◌∷◌, ◌++◌, set, length, refl, sym, ap, ◌∙◌, subst, arith, eq-eqb, ne_eqb, Option, Some}
+use Rattle.std.proofs.Common.{◌≡◌, ◌≢◌, ℕ, zero, suc, ◌<◌, ◌≤◌, Bool, true, false, List, [], ◌∷◌, set, length, refl, sym, ap, ◌∙◌, subst, arith, eq-eqb, ne_eqb, Option}
 use Rattle.std.specs.Prelude.{slice_index, nat_eq, if◌then◌else◌}
 use mathlib.Core.Logic.{dite}
 use mathlib.Core.Option.{Option as Maybe, some, some-injective}
