@@ -17,6 +17,7 @@ use Rattle.object_table.specs.Bags.{Mixed}
 use Rattle.object_table.specs.Views.{count_of, word_of, View, shelf_of, part_of, core_notes, worth, gathered}
 use Rattle.object_table.specs.Rule.{Ruled}
 use Rattle.object_table.specs.Plays.{supplied, left_restocked, is_all_in, all_in, relieved, left_relieved, looked}
+use Rattle.object_table.specs.Tries.{SameCore}
 use Rattle.object_table.specs.steps.Kept.{Laws}
 use Rattle.object_table.specs.declared.slot.Slot.{Slot}
 use Rattle.object_table.specs.declared.slot.Slot.TheVariants as slot
@@ -99,11 +100,22 @@ module _ (key : RunPlan) (s : table.State Slot View) (h : Ruled key s) (id : ℕ
           only = every_with _ _ (λ x o. owned_set s.views id x v w at_v refl refl o) h.owners h.only;
         }
 
-    pub restock_on : (carried : List (ℕ × Slot)) (new : Slot) → carried ≡ (n, new) ∷ rest carried → new ≡ slot.Roll (restocked r)
+    abbrev restock_on : (carried : List (ℕ × Slot)) (new : Slot) → carried ≡ (n, new) ∷ rest carried → new ≡ slot.Roll (restocked r)
         → Ruled key (stepped s (word_of n) 0 id carried w gives)
     restock_on carried new has made =
         leaving n key s h id v at_v w stocked n turn place carried new has refl (made ∙ ap (λ x. slot.Roll (restocked x)) is ∙ part_here tally2)
         (part_else tally2)
+
+    -- the core is the same
+    pub restock_keeps : (carried : List (ℕ × Slot)) (new : Slot) → carried ≡ (n, new) ∷ rest carried → new ≡ slot.Roll (restocked r)
+        → SameCore key s (stepped s (word_of n) 0 id carried w gives) h
+    restock_keeps carried new has made = record {
+      after = restock_on carried new has made;
+      count = refl;
+      roll = refl;
+      shelves = refl;
+      notes = ap (λ ns. core_notes (h.tally.notes ++ ns)) (hand_kept s.views id v w at_v refl);
+    }
 
   -- a pass whose task has ended hands in all that it has
   module _ (laws : Laws key) (over : v.live ≡ false) (born : v.unborn ≡ None) (r : TallyView) (found : v.note ≡ slot.Roll r) (last : Bool)
@@ -167,11 +179,22 @@ module _ (key : RunPlan) (s : table.State Slot View) (h : Ruled key s) (id : ℕ
           only = every_with _ _ (λ x o. owned_set s.views id x v w3 at_v refl refl o) h.owners h.only;
         }
 
-    pub relieve_on : (carried : List (ℕ × Slot)) (new : Slot) → carried ≡ (n, new) ∷ rest carried → new ≡ slot.Roll (received (worth v) v.notes r)
+    abbrev relieve_on : (carried : List (ℕ × Slot)) (new : Slot) → carried ≡ (n, new) ∷ rest carried → new ≡ slot.Roll (received (worth v) v.notes r)
         → Ruled key (stepped s (word_of n) 0 id carried w3 gives)
     relieve_on carried new has made =
         leaving n key s h id v at_v w3 handed n turn place carried new has refl
         (made ∙ ap (λ x. slot.Roll (received (worth v) v.notes x)) same_roll ∙ part_here tally3) (part_else tally3)
+
+    -- the core is the same
+    pub relieve_keeps : (carried : List (ℕ × Slot)) (new : Slot) → carried ≡ (n, new) ∷ rest carried → new ≡ slot.Roll (received (worth v) v.notes r)
+        → SameCore key s (stepped s (word_of n) 0 id carried w3 gives) h
+    relieve_keeps carried new has made = record {
+      after = relieve_on carried new has made;
+      count = refl;
+      roll = refl;
+      shelves = refl;
+      notes = sym (mixed_same mixed (laws.few.each h.count (map h.seats h.owners) h.shelves (gathered h.tally s.views) h.reached));
+    }
 
 -- a turn at the roll left with more tickets
 pub restocking : (key : RunPlan) (slots id : ℕ) (me : Me Slot View) (new : Slot) → me.0.live ≡ true → me.0.turn ≡ true → me.0.place ≡ count_of key

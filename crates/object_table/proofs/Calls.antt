@@ -45,13 +45,13 @@ use Rattle.schedule_core.specs.Plain.{seat_after}
 use Rattle.jade_meaning.specs.Plan.{RunPlan}
 use Rattle.object_table.specs.Views.{count_of, View, shelf_of, core_notes}
 use Rattle.object_table.specs.Touches.{is_touch, touched_first, touched, touch_next, passed, all_touches}
-use Rattle.object_table.specs.Plays.{Told, tried_at, in_turn, turned_off, left_as_it_was, did, Ahead, OneEvent, left_done}
+use Rattle.object_table.specs.Plays.{Told, tried_at, in_turn, turned_off, Lives, Seen, left_as_it_was, did, Ahead, OneEvent, left_done}
 use Rattle.object_table.specs.Calls.{Next, saw, found_busy, AsBefore}
 use Rattle.object_table.specs.steps.Kept.{Rests, InTurn, Leaves, Laws, Made, Youngest, shown, IsObject}
 use Rattle.object_table.specs.declared.task.Task.{Task}
 use Rattle.object_table.specs.declared.slot.Slot.{Slot}
 use Rattle.object_table.specs.declared.slot.Slot.TheVariants as slot
-use Rattle.object_table.proofs.Goes.{desisting}
+use Rattle.object_table.proofs.Desisting.{desisting}
 use Rattle.object_table.proofs.Touching.{passed_same, Same}
 use Rattle.object_table.proofs.Finishing.{finishing}
 use Rattle.object_table.proofs.Owners.{none_some}
@@ -114,6 +114,21 @@ told_sized slots v o y told z is p m xs got = dite (ℕ_discrete o told.objects)
 
     object_is : (a b : ShelfView) → slot.Object a ≡ slot.Object b → a ≡ b
     object_is a b e = cc
+
+-- a core is the same for a pass with another side of the table's
+abbrev pub lives_on : (b : Bool) (t o r : ℕ) (y : Slot) (v : View) → Lives (on_try b t o r y v) → Lives v
+lives_on b t o r y v c = record {
+  count = c.count;
+  front = c.front;
+  back = c.back;
+  shelves = c.shelves;
+  notes = c.notes;
+  reached = c.reached;
+  held = c.held;
+}
+
+abbrev pub seen_on : (b : Bool) (t o r : ℕ) (y : Slot) (v : View) (q : ℕ) (x : ShelfView) → Seen q x (on_try b t o r y v) → Seen q x v
+seen_on b t o r y v q x s = record { core = lives_on b t o r y v s.core; is = s.is }
 
 next_event : (l : List Event) (e d : Event) → First l (λ x. x ≡ e) → First l (λ x. x ≡ e)
 next_event l e d f = f
@@ -186,7 +201,7 @@ module _ (t : Task) (r : Rests t) where
   module _ (seat1 seat2 : Seat Slot View) (slots o : ℕ) (y new : Slot) (turn : InTurn slots o y new t.seat.me seat1.me)
       (left : left_as_it_was (step slots o 0 0 none) seat1.me 0 seat2.me) where
     pub off_is : seat2.me ≡ (on_try false (suc v0.tries) o 0 y v0, [])
-    off_is = left ∙ ap (λ (m : Me Slot View). (turned_off m.0, rest m.1)) turn.me
+    off_is = left.0 ∙ ap (λ (m : Me Slot View). (turned_off m.0, rest m.1)) turn.me
 
     pub off_shown : (z : ShelfView) → y ≡ slot.Object z → shown (record t { seat = seat2 }) ≡ saw o z v
     off_shown z is = tried_shown seat2 (suc v0.tries) o 0 y off_is ∙ λ i. on_try (idle_same i) (tries_same i) o 0 (is i) v
@@ -204,6 +219,16 @@ module _ (t : Task) (r : Rests t) where
           }) (sym e) (ap (λ b. on_try b (suc v0.tries) o 0 y v) idle_same);
         }
 
+    -- what the slot of an object showed is what a core shows of it in which the task lives
+    pub off_seen : v.live ≡ true → (z : ShelfView) → y ≡ slot.Object z → Seen o z v
+    off_seen live z is =
+        let told : (k : ℕ) → all_touches k (in_turn o y v0) ≡ true → v0.live ≡ true → (x : ShelfView) → y ≡ slot.Object x
+        → Seen o x (passed k (in_turn o y v0)) =
+        subst (λ (m : Me Slot View). (k : ℕ) → all_touches k m.0 ≡ true → m.0.live ≡ true → (x : ShelfView) → m.0.note ≡ slot.Object x
+        → Seen m.0.place x (passed k m.0)) turn.me left.1 in
+        let h = told t.touched (all_try true (suc v0.tries) o 0 y t.touched v0 ∙ r.touches) (sym same.live ∙ live) z is in
+        seen_on true (suc v0.tries) o 0 y v o z (subst (λ (w : View). Seen o z w) (passed_try true (suc v0.tries) o 0 y t.touched v0) h)
+
   -- the next event of what is shown comes after the touches of what the seat shows
   pub ahead_is : (e : Event) → is_touch e ≡ false → Next e v → (n o w : ℕ) (y : Slot) → Ahead t.touched e (on_try true n o w y v0)
   ahead_is e public next n o w y = record {
@@ -219,11 +244,11 @@ module _ (t : Task) (r : Rests t) where
   alive e next = alive_is next.live
 
   -- a turn may be left with nothing done
-  pub may_desist : (slots : ℕ) (seat1 : Seat Slot View) (o : ℕ) (y new : Slot) → InTurn slots o y new t.seat.me seat1.me → (key : RunPlan) → new ≡ y
-      → Leaves left_as_it_was key slots seat1.id seat1.me o
-  may_desist slots seat1 o y new turn key same =
+  pub may_desist : (slots : ℕ) (seat1 : Seat Slot View) (o : ℕ) (y new : Slot) → InTurn slots o y new t.seat.me seat1.me → (key : RunPlan) → Laws key
+      → new ≡ y → Leaves left_as_it_was key slots seat1.id seat1.me o
+  may_desist slots seat1 o y new turn key laws same =
       subst (λ (m : Me Slot View). Leaves left_as_it_was key slots seat1.id m o) (sym turn.me)
-      (desisting key slots seat1.id o (in_turn o y v0, (o, new) ∷ []) new refl refl refl same)
+      (desisting key slots seat1.id o (in_turn o y v0, (o, new) ∷ []) new (λ x e. laws.tells) refl refl refl same)
 
   module _ (key : RunPlan) (laws : Laws key) (slots : ℕ) (seat1 : Seat Slot View) (o : ℕ) (y new : Slot) (turn : InTurn slots o y new t.seat.me seat1.me)
       (e : Event) (public : is_touch e ≡ false) (next : Next e v) where
@@ -256,18 +281,7 @@ module _ (t : Task) (r : Rests t) where
         let d = subst (λ (m : Me Slot View). left_done (step slots o 0 0 none) m 0 after) turned_is left in
         let told = (d.0 t.touched e (ahead_is e public next (suc v0.tries) o 0 y)).1 z is in
         let h = subst (λ (w : View). OneEvent e o z w) (passed_try true (suc v0.tries) o 0 y t.touched v0) told in
-        record {
-          count = h.count;
-          front = h.front;
-          back = h.back;
-          shelves = h.shelves;
-          notes = h.notes;
-          reached = h.reached;
-          held = h.held;
-          found = h.found;
-          after = h.after;
-          does = h.does;
-        }
+        record { seen = seen_on true (suc v0.tries) o 0 y v o z h.seen; next = h.next; after = h.after; does = h.does }
 
   -- an event done: the fields follow
   pub left_rests : (t3 : Task) (w : View) → t3.seat.me ≡ (w, []) → t3.path ≡ w.seat.path → (w.live ≡ true → t3.spare ≡ Some t3.path)

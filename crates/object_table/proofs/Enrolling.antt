@@ -29,14 +29,14 @@ use Rattle.object_table.specs.Tallies.{most}
 use Rattle.object_table.specs.Views.{count_of, View, core_notes, worth, gathered}
 use Rattle.object_table.specs.Touches.{passed}
 use Rattle.object_table.specs.Rule.{pass_of, kid_of, hold_of, nothing, Absent, Spot, OnRoll, Agrees, Owned, by_maker, Sits, Ruled}
-use Rattle.object_table.specs.Plays.{note_after, bore, Ahead, did_enroll}
+use Rattle.object_table.specs.Plays.{note_after, bore, Ahead, OwnEvent, did_enroll}
 use Rattle.object_table.specs.steps.Kept.{Laws}
 use Rattle.object_table.specs.declared.slot.Slot.{Slot}
 use Rattle.object_table.proofs.Bearing.{child_walk}
 use Rattle.object_table.proofs.Lists.{put_seat, seat_here, seat_else, map_absent, roll_put, place_get, at_inside, every_with, path_same, not_kid}
 use Rattle.object_table.proofs.Owners.{spot_more, some_seat, owned_more, no_kid_of}
 use Rattle.object_table.proofs.Goes.{Goes, loaded}
-use Rattle.object_table.proofs.Quiet.{on, f, b, stands, reach_on}
+use Rattle.object_table.proofs.Quiet.{on, f, b, stands, lives, reach_on}
 use Rattle.object_table.proofs.Noting.{noted_on, noted_accounts, noted_room}
 use Rattle.object_table.proofs.Touching.{set_set, passing, passed_same}
 use Rattle.object_table.proofs.Finishing.{ahead_once}
@@ -74,6 +74,10 @@ module _ (key : RunPlan) (laws : Laws key) (s : table.State Slot View) (h : Rule
     seat = refl;
     parent = refl;
   }
+
+  -- which is one event of a core
+  pub own_event : OwnEvent (Enroll t steps) v (baby ∷ (u2 ∷ []))
+  own_event = record { core = lives n key s h id v at_v alive; next = next; does = (the_child.0, the_child.1, refl, refl) }
 
   abbrev me : ℕ
   me = pass_of id
@@ -240,8 +244,8 @@ module _ (key : RunPlan) (laws : Laws key) (s : table.State Slot View) (h : Rule
   pub enroll_room : worth w ≤ most
   enroll_room = noted_room key laws s h id v w at_v note refl spent
 
-same_steps : (t d : Task) (n m : ℕ) → Enroll t n ≡ Enroll d m → n ≡ m
-same_steps t d n m e = cc
+same_creation : (t d : Task) (n m : ℕ) → Enroll t n ≡ Enroll d m → (t ≡ d) × (n ≡ m)
+same_creation t d n m e = (cc, cc)
 
 -- a creation done at a load of the first word
 pub enrolling : (key : RunPlan) → Laws key → (slots id : ℕ) (me : Me Slot View) → me.0.live ≡ true → me.0.unborn ≡ None → 2 < me.0.tickets
@@ -257,6 +261,7 @@ enrolling key laws slots id me alive born rich k t steps ahead s h _ at _ =
     let kid = baby key laws s' h' id v at_v (same.live ∙ alive) rich' (same.unborn ∙ born) t steps ahead.next in
     let is_born = born_of key laws s' h' id v at_v (same.live ∙ alive) rich' (same.unborn ∙ born) t steps ahead.next in
     let room = enroll_room key laws s' h' id v at_v (same.live ∙ alive) rich' (same.unborn ∙ born) t steps ahead.next in
+    let event = own_event key laws s' h' id v at_v (same.live ∙ alive) rich' (same.unborn ∙ born) t steps ahead.next in
     let w = bore steps kid v in (
       w,
       keeps,
@@ -266,8 +271,11 @@ enrolling key laws slots id me alive born rich k t steps ahead s h _ at _ =
       (
         (λ j d m other.
             let q = ahead_once k j (Enroll t steps) (Enroll d m) me.0 ahead other in
-            subst (λ i. (z : Seat) × Born (passed i me.0).seat z w.seat × (w ≡ bore m z (passed i me.0)) × (worth w ≤ most)) q.0
-            (subst (λ c. (z : Seat) × Born v.seat z w.seat × (w ≡ bore c z v) × (worth w ≤ most)) (same_steps t d steps m q.1) (kid, is_born, refl, room))),
+            let r = same_creation t d steps m q.1 in
+            subst (λ i. (z : Seat) × Born (passed i me.0).seat z w.seat × (w ≡ bore m z (passed i me.0)) × (worth w ≤ most)
+            × OwnEvent (Enroll d m) (passed i me.0) (z ∷ (w.seat ∷ []))) q.0
+            (subst (λ (c : Task × ℕ). (z : Seat) × Born v.seat z w.seat × (w ≡ bore c.1 z v) × (worth w ≤ most)
+            × OwnEvent (Enroll c.0 c.1) v (z ∷ (w.seat ∷ []))) (λ i. (r.0 i, r.1 i)) (kid, is_born, refl, room, event))),
         refl,
       ),
     )

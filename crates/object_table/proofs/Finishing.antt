@@ -22,7 +22,7 @@ use Rattle.object_shelf.specs.Homes.{hand_in, handed, returned, on_queue}
 use Rattle.task_roll.specs.declared.note.PartNote.{PartNote}
 use Rattle.schedule_core.specs.Notes.{noted}
 use Rattle.schedule_core.specs.ByNumber.{shelf_at}
-use Rattle.schedule_core.specs.Plain.{Reached, seat_after, on_shelf, blocked_at, Does}
+use Rattle.schedule_core.specs.Plain.{seat_after, on_shelf, blocked_at, Does}
 use Rattle.schedule_core.specs.Tells.{CoreTells, EntriesAreThere, MayTake, MayGive}
 use Rattle.jade_meaning.specs.Plan.{RunPlan}
 use Rattle.object_table.specs.Views.{count_of, word_of, View, core_notes, shelf_of, gathered}
@@ -36,7 +36,7 @@ use Rattle.object_table.proofs.Sizes.{how_many}
 use Rattle.object_table.proofs.Lists.{shelf_on, shelf_within, shelf_else, held_here, held_else, at_inside}
 use Rattle.object_table.proofs.Entries.{some_entry}
 use Rattle.object_table.proofs.Goes.{SamePurse, parts0, leaving}
-use Rattle.object_table.proofs.Quiet.{on, f, b, stands, found, seat_on, quiet, part_else, part_here}
+use Rattle.object_table.proofs.Quiet.{on, lives, found, seat_on, quiet, part_else, part_here}
 use Rattle.object_table.proofs.Touching.{and_left, and_right, set_set, passing, passed_same}
 use Rattle.object_table.proofs.Effects.{take_shows, take_mine, take_others, give_shows, give_mine, give_others, enter_shows, enter_mine, enter_others}
 use Rattle.object_table.proofs.Effects.{shift_shows, shift_mine, shift_others, leave_shows, leave_mine, leave_others}
@@ -122,42 +122,42 @@ module _ (key : RunPlan) (tells : CoreTells key.program key.numbers key.limit) (
     found_is y e = same_object y (shelf_of x) (sym e ∙ note_is)
 
     -- an event of the pass's task is one of the core
-    occurs : (e : Event) (after : List ObjectView) → Does e v.seat h.shelves (seat_after None v.seat ∷ []) after → (y : ShelfView)
-        → v.note ≡ slot.Object y → OneEvent e o y v
-    occurs e after does y note = record {
-      count = h.count;
-      front = f n key s h id v at_v alive;
-      back = b n key s h id v at_v alive;
-      shelves = h.shelves;
-      notes = core_notes (gathered h.tally s.views);
-      reached = subst (λ (k : RunPlan). Reached k.program k.numbers k.limit h.count (f n key s h id v at_v alive ++ (v.seat ∷ b n key s h id v at_v alive))
-          h.shelves (core_notes (gathered h.tally s.views))) (sym ((h.passes id v at_v).plan alive)) (stands n key s h id v at_v alive);
-      held = held;
-      found = found_is y note;
+    occurs : (e : Event) (after : List ObjectView) → First (upcoming v.seat.walker) (λ z. z ≡ e)
+        → Does e v.seat h.shelves (seat_after None v.seat ∷ []) after → (y : ShelfView) → v.note ≡ slot.Object y → OneEvent e o y v
+    occurs e after next does y note = record {
+      seen = record { core = lives n key s h id v at_v alive; is = found_is y note };
+      next = next;
       after = after;
       does = does;
     }
 
     -- and so is the one that was made of the slot
-    pub event_is : (e : Event) → Made o e v new → (y : ShelfView) → v.note ≡ slot.Object y → OneEvent e o y v
-    event_is (Take q m) (same, z, note, free, made) y is =
+    pub event_is : (e : Event) → First (upcoming v.seat.walker) (λ z. z ≡ e) → Made o e v new → (y : ShelfView) → v.note ≡ slot.Object y → OneEvent e o y v
+    event_is (Take q m) next (same, z, note, free, made) y is =
         let clear : keeper_in v.seat.path m x.queue ≡ None = ap (λ (w : ShelfView). keeper_in v.seat.path m w.queue) (sym (found_is z note)) ∙ free in
         subst (λ i. OneEvent (Take i m) o y v) (sym same)
-        (occurs (Take o m) (on_shelf o (taken v.seat.path m) h.shelves) (blocked_is o v.seat.path m h.shelves ∙ clear, refl, refl) y is)
-    event_is (Give q) (same, z, c, note, has_it, made) y is =
-        subst (λ i. OneEvent (Give i) o y v) (sym same) (occurs (Give o) (on_shelf o (given v.seat.path) h.shelves) (refl, refl) y is)
-    event_is (Enter q a) (same, z, note, made) y is =
+        (occurs (Take o m) (on_shelf o (taken v.seat.path m) h.shelves) (subst (λ i. First (upcoming v.seat.walker) (λ z. z ≡ Take i m)) same next)
+        (blocked_is o v.seat.path m h.shelves ∙ clear, refl, refl) y is)
+    event_is (Give q) next (same, z, c, note, has_it, made) y is =
+        subst (λ i. OneEvent (Give i) o y v) (sym same)
+        (occurs (Give o) (on_shelf o (given v.seat.path) h.shelves) (subst (λ i. First (upcoming v.seat.walker) (λ z. z ≡ Give i)) same next) (refl, refl) y is)
+    event_is (Enter q a) next (same, z, note, made) y is =
         subst (λ i. OneEvent (Enter i a) o y v) (sym same)
-        (occurs (Enter o a) (on_shelf o (entered v.seat.path (v.seat.path ++ v.seat.children ∷ []) a) h.shelves) (refl, refl) y is)
-    event_is (Shift q a) (same, z, note, made) y is =
-        subst (λ i. OneEvent (Shift i a) o y v) (sym same) (occurs (Shift o a) (on_shelf o (shifted v.seat.path a) h.shelves) (refl, refl) y is)
-    event_is (Leave q) (same, z, note, made) y is =
-        subst (λ i. OneEvent (Leave i) o y v) (sym same) (occurs (Leave o) (on_shelf o (left v.seat.path) h.shelves) (refl, refl) y is)
-    event_is (Enroll t m) made y is = absurd made
-    event_is (Resign c m) made y is = absurd made
-    event_is (TouchRead q c z) made y is = absurd made
-    event_is (TouchWrite q c z) made y is = absurd made
-    event_is (Wants q c) made y is = absurd made
+        (occurs (Enter o a) (on_shelf o (entered v.seat.path (v.seat.path ++ v.seat.children ∷ []) a) h.shelves)
+        (subst (λ i. First (upcoming v.seat.walker) (λ z. z ≡ Enter i a)) same next) (refl, refl) y is)
+    event_is (Shift q a) next (same, z, note, made) y is =
+        subst (λ i. OneEvent (Shift i a) o y v) (sym same)
+        (occurs (Shift o a) (on_shelf o (shifted v.seat.path a) h.shelves) (subst (λ i. First (upcoming v.seat.walker) (λ z. z ≡ Shift i a)) same next)
+        (refl, refl) y is)
+    event_is (Leave q) next (same, z, note, made) y is =
+        subst (λ i. OneEvent (Leave i) o y v) (sym same)
+        (occurs (Leave o) (on_shelf o (left v.seat.path) h.shelves) (subst (λ i. First (upcoming v.seat.walker) (λ z. z ≡ Leave i)) same next) (refl, refl) y
+        is)
+    event_is (Enroll t m) next made y is = absurd made
+    event_is (Resign c m) next made y is = absurd made
+    event_is (TouchRead q c z) next made y is = absurd made
+    event_is (TouchWrite q c z) next made y is = absurd made
+    event_is (Wants q c) next made y is = absurd made
 
     -- the event that was made of the slot is done
     pub event_on : (e : Event) → First (upcoming v.seat.walker) (λ y. y ≡ e) → Made o e v new → Ruled key (stepped s (word_of o) 0 id carried (did e v) gives)
@@ -286,7 +286,7 @@ finishing key tells entries once slots id o me new alive turn place lt has k e a
     let here : v.place ≡ o = same.place ∙ place in
     let one : (x : ShelfView) → me.0.note ≡ slot.Object x → OneEvent e me.0.place x v = λ x note.
     subst (λ i. OneEvent e i x v) (sym place)
-    (event_is key tells entries once s' h' id v there live in_turn o here object me.1 new has e made x (same.note ∙ note)) in (
+    (event_is key tells entries once s' h' id v there live in_turn o here object me.1 new has e ahead.next made x (same.note ∙ note)) in (
       did e v,
       gives,
       tt,

@@ -19,7 +19,7 @@ use Rattle.jade_meaning.specs.Plan.{RunPlan}
 use Rattle.object_table.specs.Tallies.{TallyView}
 use Rattle.object_table.specs.Views.{count_of, word_of, View, shelf_of, part_of, core_notes, worth, gathered}
 use Rattle.object_table.specs.Rule.{pass_of, Owned, Sits, Accounts, TurnOk, PlaceOk, free, taken, SeatOk, Shown, Ruled}
-use Rattle.object_table.specs.Plays.{Told, ToldRoll, tried_at, in_turn, tried_there, tried, turned_off, left_as_it_was}
+use Rattle.object_table.specs.Plays.{Told, ToldRoll, tried_at, in_turn, tried_there, tried, turned_off}
 use Rattle.object_table.specs.declared.slot.Slot.{Slot}
 use Rattle.object_table.specs.declared.slot.Slot.TheVariants as slot
 use Rattle.object_table.proofs.Purses.{hand_kept, worths_kept, worth_within}
@@ -466,9 +466,3 @@ trying key slots id o me fits idle ready s h long at _ = go (h.places o room)
           (missed (count_of key) key s h id me.0 at o idle room x refl me.1),
       at_place (tried_at o 1 me.0, me.1) ((λ e0. absurd (omega arith)), λ ne. (w1, refl)),
     )
-
--- a turn left with nothing changed
-pub desisting : (key : RunPlan) (slots id o : ℕ) (me : Me Slot View) (new : Slot) → me.0.turn ≡ true → me.0.place ≡ o → me.1 ≡ (o, new) ∷ rest me.1 → new
-    ≡ me.0.note → Allows (Ruled key) slots id me (word_of o) (λ x. 0) (λ x. left_as_it_was (step slots (word_of o) 0 0 none) me 0)
-desisting key slots id o me new turn place has same s h _ at _ =
-    (turned_off me.0, gives, tt, desisted (count_of key) key s h id me.0 at o turn place me.1 new has same, refl)

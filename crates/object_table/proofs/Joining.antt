@@ -14,6 +14,7 @@ use Rattle.object_table.specs.Views.{count_of, View, part_of, core_notes, worth,
 use Rattle.object_table.specs.Rule.{Owned, by_pass, by_maker, Accounts, PlaceOk, free, taken, SeatOk, Ruled}
 use Rattle.object_table.specs.Plays.{joined, spent_view}
 use Rattle.object_table.specs.Calls.{IsGone}
+use Rattle.object_table.specs.Tries.{SameCore}
 use Rattle.object_table.specs.steps.Kept.{Laws}
 use Rattle.object_table.specs.declared.slot.Slot.{Slot}
 use Rattle.object_table.proofs.Bags.{mixed_same, mixed_front}
@@ -146,7 +147,7 @@ module _ (key : RunPlan) (s : table.State Slot View) (h : Ruled key s) (id other
       outer (inl x) = absurd (let no : false ≡ true = ap (λ (y : View). y.over) x.1 ∙ over in cc)
       outer (inr x) = inner (at_set s.views id j both z x.1)
 
-  pub join_rule : Ruled key (record { words = s.words; homes = s.homes; views = views2 })
+  abbrev join_rule : Ruled key (record { words = s.words; homes = s.homes; views = views2 })
   join_rule = record {
     count = h.count;
     owners = h.owners;
@@ -163,6 +164,10 @@ module _ (key : RunPlan) (s : table.State Slot View) (h : Ruled key s) (id other
     only = every_with (Owned s.views) (Owned views2) owned h.owners h.only;
     places = λ p lt. place p (h.places p lt);
   }
+
+  -- the core is the same
+  pub join_keeps : SameCore key s (record { words = s.words; homes = s.homes; views = views2 }) h
+  join_keeps = record { after = join_rule; count = refl; roll = refl; shelves = refl; notes = sym same_notes }
 
 pub joins : (key : RunPlan) → Laws key → (id other : ℕ) (v w : View) → IsGone v → IsGone w → v.turn ≡ false → w.turn ≡ false
     → Joins (Ruled key) id v other w (joined v w) spent_view

@@ -27,7 +27,7 @@ use Rattle.object_table.specs.declared.task.Task.{Task}
 use Rattle.object_table.specs.declared.slot.Slot.{Slot}
 use Rattle.object_table.specs.declared.slot.Slot.TheVariants as slot
 use Rattle.object_table.proofs.Calls.{on_try, object_there, path_is, children_is, tries_same, told_sized, tried_rests, busy_is, busy_shown}
-use Rattle.object_table.proofs.Calls.{off_is, off_shown, off_before, alive_is}
+use Rattle.object_table.proofs.Calls.{off_is, off_shown, off_before, off_seen, alive_is}
 use Rattle.object_table.proofs.Calls.{may_finish, may_desist, finished, happened, done_rests, done_shown, did_shown}
 use Rattle.object_table.proofs.Touching.{passed_same}
 
@@ -136,8 +136,8 @@ module _ (slots o : ℕ) (y : Slot) (t now : Task) (b : Begun slots o y y t now)
       → (z : ShelfView) × Begun slots o (slot.Object z) (slot.Object z) t now × (w ≡ slot.Object z)
   object_lent key deep lt w e = let g = object_begun key deep lt in (g.0, g.1, lent_is g.1 w e)
 
-  pub may_leave : (key : RunPlan) → Leaves left_as_it_was key slots now.seat.id now.seat.me o
-  may_leave key = may_desist t b.rests slots now.seat o y y b.turn key refl
+  pub may_leave : (key : RunPlan) → Laws key → Leaves left_as_it_was key slots now.seat.id now.seat.me o
+  may_leave key laws = may_desist t b.rests slots now.seat o y y b.turn key laws refl
 
   module _ (seat : Seat Slot View) (left : left_as_it_was (step slots o 0 0 none) now.seat.me 0 seat.me) where
     after_is : (P : Task → Type 0) → P (record t { seat = seat }) → P (record now { seat = seat })
@@ -151,6 +151,7 @@ module _ (slots o : ℕ) (y : Slot) (t now : Task) (b : Begun slots o y y t now)
     desisted = after_is (Desisted o y t) (record {
       unchanged = off_before t b.rests now.seat seat slots o y y b.turn left;
       seen = off_shown t b.rests now.seat seat slots o y y b.turn left;
+      told = off_seen t b.rests now.seat seat slots o y y b.turn left;
     })
 
 -- what each event on an object makes of it
@@ -258,10 +259,11 @@ module _ {slots o : ℕ} {t now : Task} {z : ShelfView} (b : Begun slots o (slot
   pub as_found : {w : Slot} → w ≡ slot.Object z → Begun slots o (slot.Object z) (slot.Object z) t (record now { seat = seat_with now.seat o w })
   as_found {w} same = subst (λ q. Begun slots o (slot.Object z) q t (record now { seat = seat_with now.seat o w })) same (placed b w)
 
-  pub kept_by : {m : Mode} {q : List ℕ} {after : Task} → (e : Entry) → keeper_in now.path m z.queue ≡ Some e → q ≡ e.path
+  pub kept_by : {m : Mode} {q : List ℕ} {after : Task} → (shown t).live ≡ true → (e : Entry) → keeper_in now.path m z.queue ≡ Some e → q ≡ e.path
       → Desisted o (slot.Object z) t after → KeptBy q o m (shown t) (shown after)
-  kept_by {m} e keeps path d = record {
+  kept_by {m} live e keeps path d = record {
     object = z;
+    seen = d.told live z refl;
     entry = e;
     keeps = subst (λ p. keeper_in p m z.queue ≡ Some e) (path_now b) keeps;
     path = path;

@@ -7,6 +7,7 @@ pub mod Entries
 pub mod Goes
 pub mod Quiet
 pub mod Touching
+pub mod Desisting
 pub mod Effects
 pub mod Finishing
 pub mod Calls

@@ -19,6 +19,7 @@ use Rattle.schedule_core.specs.Tells.{CoreTells}
 use Rattle.jade_meaning.specs.Plan.{RunPlan}
 use Rattle.object_table.specs.Views.{View, shelf_of, core_notes, gathered}
 use Rattle.object_table.specs.Rule.{pass_of, kid_of, OnRoll, Agrees, Owned, Sits, Shown}
+use Rattle.object_table.specs.Plays.{Lives}
 use Rattle.object_table.specs.declared.slot.Slot.{Slot}
 use Rattle.object_table.specs.declared.slot.Slot.TheVariants as slot
 use Rattle.object_table.proofs.Lists.{put_seat, seat_here, seat_else, roll_split, roll_put, get_owner, apart_owners, place_get, place_take}
@@ -64,6 +65,19 @@ module _ (n : ℕ) (key : RunPlan) (s : table.State Slot View) (h : Shown n key 
 
   pub stands : Reached key.program key.numbers key.limit h.count (f ++ (v.seat ∷ b)) h.shelves (core_notes (gathered h.tally s.views))
   stands = subst (λ r. Reached key.program key.numbers key.limit h.count r h.shelves (core_notes (gathered h.tally s.views))) roll_is h.reached
+
+  -- the core that words, slots and passes show is one in which the task lives
+  abbrev pub lives : Lives v
+  lives = record {
+    count = h.count;
+    front = f;
+    back = b;
+    shelves = h.shelves;
+    notes = core_notes (gathered h.tally s.views);
+    reached = subst (λ (k : RunPlan). Reached k.program k.numbers k.limit h.count (f ++ (v.seat ∷ b)) h.shelves (core_notes (gathered h.tally s.views)))
+        (sym ((h.passes id v at_v).plan alive)) stands;
+    held = (h.passes id v at_v).sits.held alive;
+  }
 
   pub seat_on : (x : ℕ) (t : Seat) (q : OnRoll h.owners h.seats x t) → slice_get (map h.seats h.owners) (length q.spot.front) ≡ Some t
   seat_on x t q = ap (λ l. slice_get (map h.seats l) (length q.spot.front)) q.spot.is ∙ get_owner h.seats q.spot.front x q.spot.back ∙ ap (λ a. Some a) q.is

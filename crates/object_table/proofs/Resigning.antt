@@ -20,13 +20,13 @@ use Rattle.object_table.specs.Tallies.{most}
 use Rattle.object_table.specs.Views.{count_of, View, core_notes, worth, gathered}
 use Rattle.object_table.specs.Touches.{passed}
 use Rattle.object_table.specs.Rule.{pass_of, kid_of, Spot, OnRoll, Owned, Sits, Ruled}
-use Rattle.object_table.specs.Plays.{note_after, gone, Ahead, did_resign}
+use Rattle.object_table.specs.Plays.{note_after, gone, Ahead, OwnEvent, did_resign}
 use Rattle.object_table.specs.steps.Kept.{Laws}
 use Rattle.object_table.specs.declared.slot.Slot.{Slot}
 use Rattle.object_table.proofs.Lists.{at_inside, every_with}
 use Rattle.object_table.proofs.Owners.{spot_less, map_both, none_some, owned_gone}
 use Rattle.object_table.proofs.Goes.{Goes, loaded}
-use Rattle.object_table.proofs.Quiet.{on, f, b, stands, reach_on}
+use Rattle.object_table.proofs.Quiet.{on, f, b, stands, lives, reach_on}
 use Rattle.object_table.proofs.Noting.{noted_on, noted_accounts, noted_room}
 use Rattle.object_table.proofs.Touching.{set_set, passing, passed_same}
 use Rattle.object_table.proofs.Finishing.{ahead_once}
@@ -36,6 +36,10 @@ module _ (key : RunPlan) (laws : Laws key) (s : table.State Slot View) (h : Rule
     (next : First (upcoming v.seat.walker) (λ x. x ≡ Resign blame steps)) where
   abbrev n : ℕ
   n = count_of key
+
+  -- it is one event of a core
+  pub own_event : OwnEvent (Resign blame steps) v []
+  own_event = record { core = lives n key s h id v at_v alive; next = next; does = (refl, refl) }
 
   abbrev me : ℕ
   me = pass_of id
@@ -154,6 +158,7 @@ resigning key laws slots id me alive born k blame steps ahead s h _ at _ =
     let h' : Ruled key s' = passing (count_of key) key s h id me.0 at alive laws.tells k ahead.touches in
     let at_v = set_here s.views id v (at_inside s.views id me.0 at) in
     let room = resign_room key laws s' h' id v at_v (same.live ∙ alive) (same.unborn ∙ born) blame steps ahead.next in
+    let event = own_event key laws s' h' id v at_v (same.live ∙ alive) (same.unborn ∙ born) blame steps ahead.next in
     let w = gone blame steps v in (
       w,
       keeps,
@@ -164,7 +169,11 @@ resigning key laws slots id me alive born k blame steps ahead s h _ at _ =
         (λ j d m other.
             let q = ahead_once k j (Resign blame steps) (Resign d m) me.0 ahead other in
             let r = same_blame blame d steps m q.1 in
-            subst (λ i. (w ≡ gone d m (passed i me.0)) × (worth w ≤ most)) q.0 ((λ i. gone (r.0 i) (r.1 i) v), room)),
+            subst (λ i. (w ≡ gone d m (passed i me.0)) × (worth w ≤ most) × OwnEvent (Resign d m) (passed i me.0) []) q.0 (
+              (λ i. gone (r.0 i) (r.1 i) v),
+              room,
+              subst (λ (c : Option Blame × ℕ). OwnEvent (Resign c.0 c.1) v []) (λ i. (r.0 i, r.1 i)) event,
+            )),
         refl,
       ),
     )

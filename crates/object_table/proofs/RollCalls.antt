@@ -9,6 +9,7 @@ use Rattle.atomic_table.specs.declared.shared.Seat.{Seat}
 use Rattle.jade_base.specs.declared.report.Blame.{Blame}
 use Rattle.jade_meaning.specs.Talk.{Task as TaskOf, Event, Enter, Enroll, Take, TouchRead, TouchWrite, Wants, Give, Leave, Shift, Resign}
 use Rattle.jade_meaning.specs.Walk.{upcoming, First, Bears, IsChildOf}
+use Rattle.object_shelf.specs.Views.{ShelfView}
 use Rattle.task_roll.specs.declared.note.PartNote.{PartNote}
 use Rattle.schedule_core.specs.declared.steps.Seat.{Seat as Place}
 use Rattle.schedule_core.specs.Plain.{seat_after, Born}
@@ -18,7 +19,7 @@ use Rattle.object_table.specs.Views.{count_of, View, worth}
 use Rattle.object_table.specs.Touches.{is_touch, touched_first, touched, touch_next, passed, all_touches}
 use Rattle.object_table.specs.Rule.{Ruled}
 use Rattle.object_table.specs.Plays.{note_after, bore, did_enroll, gone, did_resign, supplied, left_restocked, is_all_in, all_in, relieved, left_relieved, looked, Ahead}
-use Rattle.object_table.specs.Plays.{in_turn, turned_off, left_as_it_was, without_kid, kid_view, joined, spent_view}
+use Rattle.object_table.specs.Plays.{OwnEvent, in_turn, turned_off, left_as_it_was, without_kid, kid_view, joined, spent_view}
 use Rattle.object_table.specs.Calls.{Next, AsBefore, saw_roll, Bore, Ended, HandedIn, HandedInAs, Restocked, IsGone, SpentOne}
 use Rattle.object_table.specs.steps.Kept.{Rests, GotTurn, Leaves, Loads, Laws, Youngest, shown}
 use Rattle.object_table.specs.steps.Leaving.{BegunRoll, Stocked}
@@ -29,7 +30,7 @@ use Rattle.object_table.specs.declared.slot.Slot.{Slot}
 use Rattle.object_table.specs.declared.slot.Slot.TheVariants as slot
 use Rattle.object_table.proofs.Touching.{passed_same}
 use Rattle.object_table.proofs.Owners.{some_seat, none_some}
-use Rattle.object_table.proofs.Goes.{desisting}
+use Rattle.object_table.proofs.Desisting.{desisting}
 use Rattle.object_table.proofs.Enrolling.{enrolling}
 use Rattle.object_table.proofs.Resigning.{resigning}
 use Rattle.object_table.proofs.AtRoll.{restocking, relieving}
@@ -76,9 +77,10 @@ module _ (t : Task) (r : Rests t) where
     -- it was done
     pub enrolled_is : (x : ℕ) (after : Me Slot View) → did_enroll (step slots 0 0 0 none) t.seat.me x after
         → (kid : Place) × Born v.seat kid after.0.seat × (after ≡ (bore steps kid v, [])) × (worth after.0 ≤ most)
+        × OwnEvent (Enroll task steps) v (kid ∷ (after.0.seat ∷ []))
     enrolled_is x after d =
         let g = d.0 t.touched task steps (ahead_here (Enroll task steps) refl next) in
-        (g.0, g.1, (λ i. (g.2 i, (d.1 ∙ r.holds) i)), g.3)
+        (g.0, g.1, (λ i. (g.2 i, (d.1 ∙ r.holds) i)), g.3, g.4)
 
     module _ (t3 : Task) (kid : Place) (born : Born v.seat kid t3.seat.me.0.seat) (me : t3.seat.me ≡ (bore steps kid v, []))
         (counts : (t3.touched ≡ 0) × (t3.events ≡ (t.events + 1) % 2 ^ 64)) where
@@ -122,12 +124,15 @@ module _ (t : Task) (r : Rests t) where
               let c : IsChildOf v.seat.walker task born.child = subst (Bears v.seat.walker (Some born.child)) f.1 f.2 in
               c.done
 
-      pub enrolled_shown : Bore steps v (shown t3)
-      enrolled_shown =
+      pub enrolled_shown : OwnEvent (Enroll task steps) v (kid ∷ (t3.seat.me.0.seat ∷ [])) → Bore steps v (shown t3)
+      enrolled_shown event =
           let e = done_shown t r t3 (bore steps kid v) me counts.0 in
           record {
             kid = kid;
             born = subst (λ (z : View). Born v.seat kid z.seat) (sym e) (subst (λ (m : Me Slot View). Born v.seat kid m.0.seat) me born);
+            task = task;
+            event = subst (λ (z : View). OwnEvent (Enroll task steps) v (kid ∷ (z.seat ∷ []))) (sym e)
+                (subst (λ (m : Me Slot View). OwnEvent (Enroll task steps) v (kid ∷ (m.0.seat ∷ []))) me event);
             after = e ∙ ap (λ (z : View). record v {
               seat = z.seat;
               unborn = Some kid;
@@ -158,10 +163,10 @@ module _ (t : Task) (r : Rests t) where
         (ahead_here (Resign blame steps) refl next)
 
     pub resigned_is : (x : ℕ) (after : Me Slot View) → did_resign (step slots 0 0 0 none) t.seat.me x after
-        → (after ≡ (gone blame steps v, [])) × (worth after.0 ≤ most)
+        → (after ≡ (gone blame steps v, [])) × (worth after.0 ≤ most) × OwnEvent (Resign blame steps) v []
     resigned_is x after d =
         let g = d.0 t.touched blame steps (ahead_here (Resign blame steps) refl next) in
-        ((λ i. (g.0 i, (d.1 ∙ r.holds) i)), g.1)
+        ((λ i. (g.0 i, (d.1 ∙ r.holds) i)), g.1, g.2)
 
     -- a live task has a ticket
     pub has_ticket : 0 < t.tickets
@@ -181,13 +186,14 @@ module _ (t : Task) (r : Rests t) where
           counts (sym (idle_same t r)) refl
           (λ k e. absurd (none_some k (sym next.born ∙ e)))
 
-      pub resigned_shown : Ended blame steps v (shown t3)
-      resigned_shown =
+      pub resigned_shown : OwnEvent (Resign blame steps) v [] → Ended blame steps v (shown t3)
+      resigned_shown event =
           let e = done_shown t r t3 (gone blame steps v) me counts.0 in
           let some = has_ticket in
           let same = tickets_is t r in
           let left : (shown t3).tickets ≡ v.tickets - 1 = ap (λ (z : View). z.tickets) e in
           record {
+            event = event;
             spent = omega (arith, some, same, left);
             after = e ∙ ap (λ (z : View). record v {
               live = false;
@@ -212,7 +218,18 @@ pub bore_after : (o steps : ℕ) (v w x : View) → (w ≡ v) ⊎ Restocked o v 
 bore_after o steps v w x (inl same) b = subst (λ (y : View). Bore steps y x) same b
 bore_after o steps v w x (inr got) b =
     let d = subst (λ (y : View). Bore steps y x) got.after b in
-    record { kid = d.kid; born = d.born; after = d.after }
+    let c = d.event.core in
+    record {
+      kid = d.kid;
+      born = d.born;
+      task = d.task;
+      event = record {
+        core = record { count = c.count; front = c.front; back = c.back; shelves = c.shelves; notes = c.notes; reached = c.reached; held = c.held };
+        next = d.event.next;
+        does = d.event.does;
+      };
+      after = d.after;
+    }
 
 pub seat_after_all : (o : ℕ) (v w : View) → (w ≡ v) ⊎ Restocked o v w → w.seat ≡ v.seat
 seat_after_all o v w (inl same) = ap (λ (z : View). z.seat) same
@@ -314,13 +331,17 @@ all_like (suc k) v w =
 
 -- a turn at the roll is left with nothing done
 module _ (key : RunPlan) (slots o : ℕ) (q : TallyView) (t now : Task) (b : BegunRoll o q (slot.Roll q) t now) where
+  no_object : (x : ShelfView) → slot.Roll q ≡ slot.Object x → ⊥
+  no_object x e = cc
+
   pub may_desist_roll : Leaves left_as_it_was key slots now.seat.id now.seat.me o
   may_desist_roll = subst (λ (m : Me Slot View). Leaves left_as_it_was key slots now.seat.id m o) (sym b.turn.me)
-      (desisting key slots now.seat.id o (in_turn o (slot.Roll q) t.seat.me.0, (o, slot.Roll q) ∷ []) (slot.Roll q) refl refl refl refl)
+      (desisting key slots now.seat.id o (in_turn o (slot.Roll q) t.seat.me.0, (o, slot.Roll q) ∷ []) (slot.Roll q) (λ x e. absurd (no_object x e)) refl refl
+      refl refl)
 
   module _ (seat : Seat Slot View) (left : left_as_it_was (step slots o 0 0 none) now.seat.me 0 seat.me) where
     desisted_is : seat.me ≡ (on_try false (suc t.seat.me.0.tries) o 0 (slot.Roll q) t.seat.me.0, [])
-    desisted_is = left ∙ ap (λ (m : Me Slot View). (turned_off m.0, rest m.1)) b.turn.me
+    desisted_is = left.0 ∙ ap (λ (m : Me Slot View). (turned_off m.0, rest m.1)) b.turn.me
 
     pub desisted_roll_rests : Rests (record now { seat = seat })
     desisted_roll_rests = subst (λ (z : Task). Rests (record z { seat = seat })) (sym b.same)

@@ -17,6 +17,7 @@ use Rattle.jade_meaning.specs.Plan.{RunPlan}
 use Rattle.object_table.specs.Views.{count_of, View, part_of, core_notes, gathered, in_hand}
 use Rattle.object_table.specs.Rule.{pass_of, kid_of, Absent, Spot, OnRoll, Owned, by_pass, by_maker, Accounts, PlaceOk, free, taken, SeatOk, Ruled}
 use Rattle.object_table.specs.Plays.{without_kid, kid_view}
+use Rattle.object_table.specs.Tries.{SameCore}
 use Rattle.object_table.specs.declared.slot.Slot.{Slot}
 use Rattle.object_table.proofs.Lists.{put_seat, seat_here, seat_else, roll_split, roll_put, at_inside, same_view, every_with}
 use Rattle.object_table.proofs.Owners.{spot_more, spot_less, none_some}
@@ -205,7 +206,7 @@ module _ (key : RunPlan) (s : table.State Slot View) (h : Ruled key s) (id : ℕ
       by_end (inl x) = by_set (at_set s.views id j left z x)
       by_end (inr x) = absurd (let no : false ≡ true = ap (λ (y : View). y.over) x.1 ∙ over in cc)
 
-  pub split_rule : Ruled key new
+  abbrev split_rule : Ruled key new
   split_rule =
       let P = Owned s.views in
       let Q = Owned new.views in
@@ -231,6 +232,17 @@ module _ (key : RunPlan) (s : table.State Slot View) (h : Ruled key s) (id : ℕ
         only = every_append Q front (fresh ∷ back) early (mine, late);
         places = λ p lt. place p (h.places p lt);
       }
+
+  -- the core is the same
+  pub split_core : SameCore key s new h
+  split_core = record { after = split_rule; count = refl; roll = sym roll_is; shelves = refl; notes = ap core_notes (sym same_notes) }
+
+pub split_keeps : (key : RunPlan) (s : table.State Slot View) (h : Ruled key s) (id : ℕ) (v : View) (kid : Seat) → get_elem? s.views id ≡ some v
+    → v.live ≡ true → v.unborn ≡ Some kid
+    → SameCore key s (record { words = s.words; homes = s.homes; views = set s.views id (without_kid v) ++ kid_view v.unborn v ∷ [] }) h
+split_keeps key s h id v kid at alive waits =
+    subst (λ k. SameCore key s (record { words = s.words; homes = s.homes; views = set s.views id (without_kid v) ++ kid_view k v ∷ [] }) h) (sym waits)
+    (split_core key s h id v at alive kid waits)
 
 pub splits : (key : RunPlan) (id : ℕ) (v : View) (baby : Seat) → v.unborn ≡ Some baby → v.live ≡ true
     → Splits (Ruled key) id v (without_kid v) (kid_view v.unborn v)

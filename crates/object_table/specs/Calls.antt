@@ -9,7 +9,7 @@ use Rattle.jade_base.specs.declared.rights.Mode.{Mode}
 use Rattle.jade_syntax.specs.Objects.{sizes}
 use Rattle.jade_meaning.specs.Answer.{Answer, Faulted}
 use Rattle.jade_meaning.specs.Serial.{Path}
-use Rattle.jade_meaning.specs.Talk.{Event, Take}
+use Rattle.jade_meaning.specs.Talk.{Task, Event, Enroll, Take, Resign}
 use Rattle.jade_meaning.specs.Walk.{upcoming, First}
 use Rattle.object_shelf.specs.declared.queue.Entry.{Entry}
 use Rattle.object_shelf.specs.Views.{ShelfView}
@@ -21,7 +21,7 @@ use Rattle.jade_meaning.specs.Plan.{RunPlan}
 use Rattle.object_table.specs.Tallies.{TallyView, stock, received, is_settled}
 use Rattle.object_table.specs.Views.{View, worth}
 use Rattle.object_table.specs.Touches.{put_held, all_touches}
-use Rattle.object_table.specs.Plays.{note_after, OneEvent}
+use Rattle.object_table.specs.Plays.{note_after, Seen, OneEvent, OwnEvent}
 use Rattle.object_table.specs.declared.slot.Slot.TheVariants as slot
 use Rattle.object_table.specs.declared.answers.Taken.{Taken}
 use Rattle.object_table.specs.declared.answers.Taken.TheVariants as taken
@@ -76,9 +76,10 @@ pub record Took (o : ℕ) (m : Mode) (c : Held) (v w : View) : Type 0 where
   pub event : OneEvent (Take o m) o object v
   pub after : w ≡ record (saw o object v) { seat = seat_after None v.seat; held = put_held o (Some c) v.held }
 
--- the entry of this path keeps the task from a Take, as it was read in this turn
+-- the entry of this path keeps the task from a Take, as it was read in this turn; it is one that a core shows in which the task lives
 pub record KeptBy (q : List ℕ) (o : ℕ) (m : Mode) (v w : View) : Type 0 where
   pub object : ShelfView
+  pub seen : Seen o object v
   pub entry : Entry
   pub keeps : keeper_in v.seat.path m object.queue ≡ Some entry
   pub path : q ≡ entry.path
@@ -111,10 +112,13 @@ TriedAs o v (tried.Busy n) w = IsBusy n o v w
 abbrev pub saw_roll : ℕ → TallyView → View → View
 saw_roll o r v = record v { tries = suc v.tries; place = o; word = 0; note = slot.Roll r }
 
--- a creation, with so many steps in the part that ends, of which there is a note: the child has its seat, and no pass yet
+-- a creation, with so many steps in the part that ends, of which there is a note: it is one event of a core, which leaves the child's seat and the
+-- task's own; the child has no pass yet
 pub record Bore (steps : ℕ) (v w : View) : Type 0 where
   pub kid : Seat
   pub born : Born v.seat kid w.seat
+  pub task : Task
+  pub event : OwnEvent (Enroll task steps) v (kid ∷ (w.seat ∷ []))
   pub after : w ≡ record v {
     seat = w.seat;
     unborn = Some kid;
@@ -126,8 +130,10 @@ pub record Bore (steps : ℕ) (v w : View) : Type 0 where
     note = w.note;
   }
 
--- an end, with so many steps in the last part and this fault, if one, of which there is a note: the task is live no longer
+-- an end, with so many steps in the last part and this fault, if one, of which there is a note: it is one event of a core, which leaves no seat of
+-- the task; it is live no longer
 pub record Ended (b : Option Blame) (steps : ℕ) (v w : View) : Type 0 where
+  pub event : OwnEvent (Resign b steps) v []
   pub spent : v.tickets ≡ suc w.tickets
   pub after : w ≡ record v {
     live = false;

@@ -64,9 +64,28 @@ tried st m r m' = (o : ℕ) → st.word ≡ word_of o → tried_there st.slots o
 abbrev pub turned_off : View → View
 turned_off v = record v { turn = false }
 
--- the turn is left and the slot is back, with nothing changed
+-- a core in which a pass's task lives: allowed events have reached it from the start of the run of the pass's plan, and the task is live there, at
+-- the place and with the contents that the pass shows
+pub record Lives (v : View) : Type 0 where
+  pub count : ℕ
+  pub front : List Seat
+  pub back : List Seat
+  pub shelves : List ObjectView
+  pub notes : List PartNote
+  pub reached : Reached v.key.program v.key.numbers v.key.limit count (front ++ (v.seat ∷ back)) shelves notes
+  pub held : Agrees v.seat.path shelves v.held
+
+-- such a core, and this is what it shows of an object
+pub record Seen (o : ℕ) (x : ShelfView) (v : View) : Type 0 where
+  pub core : Lives v
+  pub is : x ≡ shelf_of (shelf_at core.shelves o)
+
+-- the turn is left and the slot is back, with nothing changed; if it is an object's, it showed what a core shows of the object in which the pass's
+-- task lives, with its touches done
 abbrev pub left_as_it_was : Step Slot → Me Slot View → ℕ → Me Slot View → Type 0
-left_as_it_was st m r m' = m' ≡ (turned_off m.0, table.rest m.1)
+left_as_it_was st m r m' =
+    (m' ≡ (turned_off m.0, table.rest m.1))
+    × ((k : ℕ) → all_touches k m.0 ≡ true → m.0.live ≡ true → (x : ShelfView) → m.0.note ≡ slot.Object x → Seen m.0.place x (passed k m.0))
 
 -- a content as it is held
 abbrev pub held_in : Mode → Option (List ℤ) → Option Held
@@ -99,20 +118,20 @@ pub record Ahead (k : ℕ) (e : Event) (v : View) : Type 0 where
   pub next : First (upcoming (passed k v).seat.walker) (λ x. x ≡ e)
   pub public : is_touch e ≡ false
 
--- one event of a core: allowed events have reached it from the start of the run of the pass's plan, the pass's task is live there, at the place
--- and with the contents that the pass shows, and this is what it shows of the object; the event is the task's next one there, and leaves the
+-- one event of a core in which the pass's task lives, of which this was seen of an object: the event is the task's next one there, and leaves the
 -- objects so
 pub record OneEvent (e : Event) (o : ℕ) (x : ShelfView) (v : View) : Type 0 where
-  pub count : ℕ
-  pub front : List Seat
-  pub back : List Seat
-  pub shelves : List ObjectView
-  pub notes : List PartNote
-  pub reached : Reached v.key.program v.key.numbers v.key.limit count (front ++ (v.seat ∷ back)) shelves notes
-  pub held : Agrees v.seat.path shelves v.held
-  pub found : x ≡ shelf_of (shelf_at shelves o)
+  pub seen : Seen o x v
+  pub next : First (upcoming v.seat.walker) (λ y. y ≡ e)
   pub after : List ObjectView
-  pub does : Does e v.seat shelves (seat_after None v.seat ∷ []) after
+  pub does : Does e v.seat seen.core.shelves (seat_after None v.seat ∷ []) after
+
+-- one event of a core in which the pass's task lives, which changes no object: the event is the task's next one there, and leaves these seats in
+-- the place of the task's
+pub record OwnEvent (e : Event) (v : View) (after : List Seat) : Type 0 where
+  pub core : Lives v
+  pub next : First (upcoming v.seat.walker) (λ y. y ≡ e)
+  pub does : Does e v.seat core.shelves after core.shelves
 
 -- the turn is left with the pass's touches and then its next event done, which is one event of a core, of which the slot showed the object
 abbrev pub left_done : Step Slot → Me Slot View → ℕ → Me Slot View → Type 0
@@ -137,21 +156,24 @@ bore n kid v =
       unborn = Some kid;
     }
 
--- the pass's touches and then a creation are done, at no word of its own; for its notes there is room
+-- the pass's touches and then a creation are done, at no word of its own, which is one event of a core; for its notes there is room
 abbrev pub did_enroll : Step Slot → Me Slot View → ℕ → Me Slot View → Type 0
 did_enroll st m r m' =
     ((k : ℕ) (t : Task) (n : ℕ) → Ahead k (Enroll t n) m.0
-    → (kid : Seat) × Born (passed k m.0).seat kid m'.0.seat × (m'.0 ≡ bore n kid (passed k m.0)) × (worth m'.0 ≤ most))
+    → (kid : Seat) × Born (passed k m.0).seat kid m'.0.seat × (m'.0 ≡ bore n kid (passed k m.0)) × (worth m'.0 ≤ most)
+    × OwnEvent (Enroll t n) (passed k m.0) (kid ∷ (m'.0.seat ∷ [])))
     × (m'.1 ≡ m.1)
 
 -- a task has ended
 abbrev pub gone : Option Blame → (steps : ℕ) → View → View
 gone b n v = record (noting (note_after v n b) v) { live = false; seat = seat_after None v.seat }
 
--- the pass's touches and then its end are done, at no word of its own; for its notes there is room
+-- the pass's touches and then its end are done, at no word of its own, which is one event of a core; for its notes there is room
 abbrev pub did_resign : Step Slot → Me Slot View → ℕ → Me Slot View → Type 0
 did_resign st m r m' =
-    ((k : ℕ) (b : Option Blame) (n : ℕ) → Ahead k (Resign b n) m.0 → (m'.0 ≡ gone b n (passed k m.0)) × (worth m'.0 ≤ most)) × (m'.1 ≡ m.1)
+    ((k : ℕ) (b : Option Blame) (n : ℕ) → Ahead k (Resign b n) m.0
+    → (m'.0 ≡ gone b n (passed k m.0)) × (worth m'.0 ≤ most) × OwnEvent (Resign b n) (passed k m.0) [])
+    × (m'.1 ≡ m.1)
 
 -- nothing is done; for what the pass has there is room
 abbrev pub looked : Step Slot → Me Slot View → ℕ → Me Slot View → Type 0

@@ -3,7 +3,7 @@
 
 ghost use Rattle.jade_meaning.specs.Plan.{RunPlan};
 ghost use Rattle.object_table.specs.Apart.{HeldApart};
-ghost use Rattle.object_table.specs.Tries.{TriesChangeNothing};
+ghost use Rattle.object_table.specs.Tries.{EventsMoveSeats, TriesChangeNothing};
 
 /// Of two passes of live tasks that hold an object, one for writing or for commuting, the other holds
 /// it for reading, and its task stands before.
@@ -19,3 +19,12 @@ pub fn held_apart()
 pub fn tries_change_nothing()
     ensures { (key : RunPlan) → TriesChangeNothing key }
 {}
+
+/// No step of a pass takes back an event of its task; and one after which the pass has as many events
+/// done as before changes no object, no task and no note. So a call that leaves the pass's seat as it
+/// was has done no event.
+pub fn events_move_seats()
+    ensures { (key : RunPlan) → EventsMoveSeats key }
+{
+    crate::turns::core_laws();
+}

@@ -135,9 +135,9 @@ impl<'c> ObjectTable<'c> {
     /// out, of which no cell is copied where it can be shared: it is one event of a core that events
     /// have reached, in which the pass's task stands as the pass shows, so what the laws of cores say
     /// of what is handed out holds of it. NotYet names the task whose entry, as it was read in this
-    /// turn, is the first before the pass's own that conflicts, or else of the task that has the
-    /// content out for which this one waits to commute. The error is want of memory. All but Got leave
-    /// the pass and the objects as before.
+    /// turn and as such a core shows it, is the first before the pass's own that conflicts, or else of
+    /// the task that has the content out for which this one waits to commute. The error is want of
+    /// memory. All but Got leave the pass and the objects as before.
     pub fn take(
         &self,
         alloc: Global,
@@ -246,11 +246,11 @@ impl<'c> ObjectTable<'c> {
         self.table.slot_count() - 1
     }
 
-    /// The creation of the next child, which is the pass's next event; the part that ends with it has
-    /// so many steps, and the pass has a note of it, on which it spends a ticket. The child then has its
-    /// seat, and `split` makes its pass. No word is tried for it, but where the pass has fewer than three
-    /// tickets: then it is one try to get some, at the roll's. The error is want of memory, and leaves the pass and the
-    /// objects as before.
+    /// The creation of the next child, which is the pass's next event, and one of such a core; the part
+    /// that ends with it has so many steps, and the pass has a note of it, on which it spends a ticket.
+    /// The child then has its seat, and `split` makes its pass. No word is tried for it, but where the
+    /// pass has fewer than three tickets: then it is one try to get some, at the roll's. The error is
+    /// want of memory, and leaves the pass and the objects as before.
     pub fn enroll(&self, alloc: Global, pass: &mut TaskPass, steps: u64) -> Result<Tried, Memory>
         requires mark { pass.old.mark ≡ self.now.mark }
         requires next { (t : TaskOf) × Next (Enroll t steps) pass.old.shows }
@@ -277,9 +277,9 @@ impl<'c> ObjectTable<'c> {
         Ok(TaskPass { task })
     }
 
-    /// The task's end, which is the pass's last event; its last part has so many steps, and it ended
-    /// with this fault, if with one. The pass has a note of it. No word is tried for it, and it does
-    /// not fail for want of memory.
+    /// The task's end, which is the pass's last event, and one of such a core; its last part has so many
+    /// steps, and it ended with this fault, if with one. The pass has a note of it. No word is tried for
+    /// it, and it does not fail for want of memory.
     pub fn resign(&self, pass: &mut TaskPass, blame: Option<Blame>, steps: u64)
         requires mark { pass.old.mark ≡ self.now.mark }
         requires next { Next (Resign blame steps) pass.old.shows }

@@ -39,8 +39,8 @@ use task_roll::PartNote;
 /// The words and slots of a table.
 pub(crate) type Words<'c> = Shared<Slot, View, Plan<'c>, Sharing>;
 
-// What is true of every core.
-fn core_laws()
+/// What is true of every core.
+pub(crate) fn core_laws()
     ensures { (key : RunPlan) → Laws key }
 {
     schedule_core::laws::core_tells();
@@ -135,6 +135,7 @@ fn desist(words: &Words, task: &mut Task, place: usize)
     ensures rests { Rests task.new }
     ensures after { (before : TaskState) (y : SlotOf) → Begun words.now.table_id.slots place y y before task.old → Desisted place y before task.new }
 {
+    core_laws();
     leave_turn::<Desist>(words, &mut task.seat, place);
 }
 

@@ -2,6 +2,11 @@
 //!
 //! Floor `command`, over `jade_alphabet`, `jade_base`, `jade_list` and `number_words`, with `itoa`
 //! and `smallvec` of the kit.
+<<<<<<< HEAD
+//! and `smallvec` of the kit.
+=======
+//! of the kit.
+>>>>>>> 908983d246c01fc2e6aae834866c042ff1adc62a
 #![tactic(auto)]
 
 mod labels;

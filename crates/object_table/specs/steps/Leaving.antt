@@ -8,7 +8,7 @@ use Rattle.schedule_core.specs.Plain.{seat_after}
 use Rattle.object_table.specs.Tallies.{TallyView, most, restocked}
 use Rattle.object_table.specs.Views.{count_of, View}
 use Rattle.object_table.specs.Touches.{put_held}
-use Rattle.object_table.specs.Plays.{in_turn, held_in, handed_by, OneEvent}
+use Rattle.object_table.specs.Plays.{in_turn, held_in, handed_by, Seen, OneEvent}
 use Rattle.object_table.specs.Calls.{Next, saw, AsBefore}
 use Rattle.object_table.specs.steps.Kept.{Rests, InTurn, InRoll, Made, shown}
 use Rattle.object_table.specs.declared.task.Task.{Task}
@@ -51,10 +51,11 @@ EndsWith o e y v w =
     (z : ShelfView) → y ≡ slot.Object z
     → (w ≡ record (saw o z v) { seat = seat_after None v.seat; held = held_after e y v.seat.path v.held }) × OneEvent e o z v
 
--- nothing was done in the turn, in which the slot showed this
+-- nothing was done in the turn, in which the slot showed this, as a core shows it in which the task lives
 pub record Desisted (o : ℕ) (y : Slot) (before after : Task) : Type 0 where
   pub unchanged : AsBefore (shown before) (shown after)
   pub seen : (z : ShelfView) → y ≡ slot.Object z → shown after ≡ saw o z (shown before)
+  pub told : (shown before).live ≡ true → (z : ShelfView) → y ≡ slot.Object z → Seen o z (shown before)
 
 -- a task that rested before has the turn at the roll's place now, where it found this, and of which the slot has this now; it is else as it was
 pub record BegunRoll (o : ℕ) (r : TallyView) (x : Slot) (before now : Task) : Type 0 where

@@ -1,7 +1,9 @@
 use Rattle.std.proofs.Common.{rules, ◌≡◌, ◌-◌, ◌++◌, ◌∷◌, [], None, sym, ap, ◌∙◌, subst, arith}
 use Rattle.atomic_table.specs.declared.shared.Seat.{Seat as SeatOf}
+use Rattle.jade_meaning.specs.Talk.{Enroll}
 use Rattle.schedule_core.specs.Plain.{Born}
 use Rattle.object_table.specs.Views.{View}
+use Rattle.object_table.specs.Plays.{OwnEvent}
 use Rattle.object_table.specs.steps.Kept.{shown}
 use Rattle.object_table.specs.declared.slot.Slot.{Slot}
 use Rattle.object_table.proofs.RollCalls.{may_enroll, enrolled_is, enrolled_rests, enrolled_shown, enrolled_spent}
@@ -50,6 +52,7 @@ returns-clause-done c =
     enrolled_shown t r words.key (c.core_laws.ensures words.key) words.table_id.slots next.0 c.args.steps next.1 c.requires.rich
     (record c.settle.new.task { tickets = c.settle.new.task.tickets - 1; children = c.args.children }) e.0
     (subst (λ (q : SeatOf Slot View). Born (shown t).seat e.0 q.me.0.seat) (sym s.seat) e.1) (ap (λ (q : SeatOf Slot View). q.me) s.seat ∙ e.2) s.events
+    (subst (λ (q : SeatOf Slot View). OwnEvent (Enroll next.0 c.args.steps) (shown t) (e.0 ∷ (q.me.0.seat ∷ []))) (sym s.seat) e.4)
 
 pub returns-clause-spent : goal.returns-clause-spent
 returns-clause-spent c =

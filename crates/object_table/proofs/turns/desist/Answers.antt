@@ -5,7 +5,7 @@ pub leave_turn-requires-clause-allowed : goal.leave_turn-requires-clause-allowed
 leave_turn-requires-clause-allowed c =
     let words = c.args.words.now in
     let b = c.requires.begun in
-    may_leave words.table_id.slots c.args.place b.1 b.0 c.args.task.now b.2 words.key
+    may_leave words.table_id.slots c.args.place b.1 b.0 c.args.task.now b.2 words.key (c.core_laws.ensures words.key)
 
 pub returns-clause-rests : goal.returns-clause-rests
 returns-clause-rests c =

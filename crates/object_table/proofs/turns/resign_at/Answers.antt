@@ -69,3 +69,4 @@ returns-clause-done c =
     c.load.new.seat.me c.load.ensures.2 in
     resigned_shown t r words.key (c.core_laws.ensures words.key) words.table_id.slots c.args.blame c.args.steps c.requires.next
     (record c.settle.new.task { tickets = c.settle.new.task.tickets - 1; notes = c.push.new.self }) (ap (λ (q : SeatOf Slot View). q.me) s.seat ∙ e.0) s.events
+    e.2

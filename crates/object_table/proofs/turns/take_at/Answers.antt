@@ -49,7 +49,7 @@ returns-in-Ok-Kept-clause-answer c =
     let made : HandedAs g.0 c.begin.new.task.path c.args.mode (Ok (Kept c.in-Ok-Kept.path)) c.hand_out_of.new.slot =
     subst (λ (h : Handed). HandedAs g.0 c.begin.new.task.path c.args.mode (Ok h) c.hand_out_of.new.slot) c.in-Ok-Kept.field-0-is
     (c.in-Ok-Kept.ensures g.0 g.2) in
-    kept_by g.1 made.1 made.2 made.3 (c.desist.ensures.after c.args.task.now (Object g.0) (as_found g.1 made.0))
+    kept_by g.1 c.requires.next.live made.1 made.2 made.3 (c.desist.ensures.after c.args.task.now (Object g.0) (as_found g.1 made.0))
 
 pub returns-in-Err-hand_out_of-clause-answer : goal.returns-in-Err-hand_out_of-clause-answer
 returns-in-Err-hand_out_of-clause-answer c =
