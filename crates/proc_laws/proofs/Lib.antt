@@ -13,3 +13,8 @@ mod Accepted
 mod RunExamples
 mod TreeImages
 mod TokensToSource
+mod SignsOfTokens
+mod PlacesInText
+mod InnerTokens
+mod LevelParts
+mod WrittenParts
