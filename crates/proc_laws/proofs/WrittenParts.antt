@@ -49,6 +49,10 @@ pub spells_both : {a b : List MadeToken} {c d : Parts} → Spells a c → Spells
 spells_both none k = k
 spells_both {b = b} {d = d} (one t us p ps h r) k = one t (us ++ b) p (ps ++ d) h (spells_both r k)
 
+-- tokens in front of what is written
+abbrev pub onto : List MadeToken → Written → Written
+onto made w = record { tokens = made ++ w.tokens; next = w.next }
+
 -- a name is replaced by a name, unless that is too long
 pub record Keeps (to : Name → Name) : Type 0 where
   pub name : (x : Name) → is_name x ≡ true → nat_le (length (to x)) WORD_LIMIT ≡ true → is_name (to x) ≡ true
@@ -92,7 +96,7 @@ pub called_parts : (a b : Parts) → called_names (tokens_of (a ++ b)) ≡ calle
 called_parts a b = ap called_names (map-append (λ (p : Part). p.token) a b) ∙ called_both (tokens_of a) (tokens_of b)
 
 -- a word or symbol is no name, and not `proc`
-fixed_plain : (s : lexicon.Sign) → is_called (sign_of (sign_bytes s)) ≡ false
+pub fixed_plain : (s : lexicon.Sign) → is_called (sign_of (sign_bytes s)) ≡ false
 fixed_plain InputWord = refl
 fixed_plain s = refl
 
@@ -249,10 +253,6 @@ module _ (ts : List TokenAt) (end : Pos) where
         (spelt_at k p.token p.at p.nth r.0 c.0) (quiet_spells (suc k) ps r.1 c.1)
 
     -- ---- parts that are written one after another
-
-    -- tokens in front of what is written
-    abbrev pub onto : List MadeToken → Written → Written
-    onto made w = record { tokens = made ++ w.tokens; next = w.next }
 
     module _ (calls : CallWriter ts end) where
       -- parts that stand at k, with these names, are written as others, and the numbers go from n to m
