@@ -33,7 +33,7 @@ use Rattle.proc_laws.proofs.CallPlaces.{past_after}
 
 -- ---- heads
 
-kind_sign : (kind : ValueKind) → token_sign (kind_word kind) ≡ mark.Kind
+pub kind_sign : (kind : ValueKind) → token_sign (kind_word kind) ≡ mark.Kind
 kind_sign Int = refl
 kind_sign BoolKind = refl
 

@@ -18,3 +18,11 @@ mod PlacesInText
 mod InnerTokens
 mod LevelParts
 mod WrittenParts
+mod RenamedParts
+mod CallPlaces
+mod WrittenStatements
+mod HeadsInText
+mod FreshNames
+mod WrittenCalls
+mod PiecesInText
+mod WrittenTree

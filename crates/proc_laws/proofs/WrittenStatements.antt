@@ -70,7 +70,7 @@ module _ (ts : List TokenAt) (end : Pos) (follows : (k : ℕ) → is_call (signs
   abbrev W : ℕ → Parts → Parts → List Name → ℕ → ℕ → Type 0
   W k a c xs n m = Writes ts end to keeps calls k a c xs n m
 
-  join : {k : ℕ} {a b c d : Parts} {xs ys : List Name} {n m o : ℕ} → Writes ts end to keeps calls k a c xs n m
+  pub join : {k : ℕ} {a b c d : Parts} {xs ys : List Name} {n m o : ℕ} → Writes ts end to keeps calls k a c xs n m
       → Writes ts end to keeps calls (after k a) b d ys m o → Writes ts end to keeps calls k (a ++ b) (c ++ d) (xs ++ ys) n o
   join f g = both ts end to keeps calls f g
 
@@ -80,7 +80,7 @@ module _ (ts : List TokenAt) (end : Pos) (follows : (k : ℕ) → is_call (signs
 
   -- ---- words, names and expressions
 
-  word : (k n : ℕ) (s : lexicon.Sign) → Sound ts end k (fixed s) → W k (fixed s ∷ []) (fixed s ∷ []) [] n n
+  pub word : (k n : ℕ) (s : lexicon.Sign) → Sound ts end k (fixed s) → W k (fixed s ∷ []) (fixed s ∷ []) [] n n
   word k n s h = sign_written ts end to keeps calls k n (fixed s) (fixed_plain s) h
 
   marked_word : (k n : ℕ) (s : lexicon.Sign) (p : Pos) → Sound ts end k (marked (Fixed s) p) → W k (marked (Fixed s) p ∷ []) (marked (Fixed s) p ∷ []) [] n n
@@ -158,7 +158,7 @@ module _ (ts : List TokenAt) (end : Pos) (follows : (k : ℕ) → is_call (signs
       (quiet ts end to keeps calls k n (name_parts ns) r (calm_no_calls ts end follows k (name_parts ns) r (calm_names ns).is h))
 
   -- a block, by its statements
-  block : (k n m : ℕ) (b c : List Parts) (xs : List Name) → Reads ts end k (braced b)
+  pub block : (k n m : ℕ) (b c : List Parts) (xs : List Name) → Reads ts end k (braced b)
       → W (suc k) (flat_map (λ (t : Parts). t) b) (flat_map (λ (t : Parts). t) c) xs n m → W k (braced b) (braced c) xs n m
   block k n m b c xs r w =
       as_seen refl (append-nil xs)
