@@ -261,7 +261,7 @@ pub even_arguments : (es : List Expr) → Even (argument_parts es)
 even_arguments [] = even_none
 even_arguments (e ∷ es) = even_both (outer e) (more_arguments es) (even_outer e) (even_more_arguments es)
 
-even_braced : (b : List Parts) → Even (flat_map (λ (t : Parts). t) b) → Even (braced b)
+pub even_braced : (b : List Parts) → Even (flat_map (λ (t : Parts). t) b) → Even (braced b)
 even_braced b h = even_in Curly (fixed LeftBrace) (fixed RightBrace) (flat_map (λ (t : Parts). t) b) refl refl h
 
 -- the names of a `do` list in their brackets, after a section

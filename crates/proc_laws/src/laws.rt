@@ -1,6 +1,6 @@
 //! What is proved of calls.
 
-ghost use Rattle.std.specs.Prelude.{◌≡◌, ℕ, List, [], ℤ, map, not, true};
+ghost use Rattle.std.specs.Prelude.{◌≡◌, ℕ, List, [], ℤ, map, not, true, None};
 ghost use Rattle.jade_base.specs.declared.place.Pos.{Pos};
 ghost use Rattle.jade_lexer.specs.Lexemes.{TokenList};
 ghost use Rattle.jade_parser.specs.Grammar.{IsReading};
@@ -11,12 +11,14 @@ ghost use Rattle.jade_syntax.specs.Erased.{erased_program};
 ghost use Rattle.jade_syntax.specs.Placed.{PlacedProgram};
 ghost use Rattle.jade_syntax.specs.StaticFaults.{static_faults};
 ghost use Rattle.proc_laws.specs.Moved.{moved_course, moved_program};
-ghost use Rattle.proc_expand.specs.Written.{fresh_name};
+ghost use Rattle.proc_expand.specs.Refusals.{refusal};
+ghost use Rattle.proc_expand.specs.Written.{fresh_name, text_names};
 ghost use Rattle.jade_meaning.specs.Course.{root_course};
 ghost use Rattle.jade_syntax.specs.Abstract.{Name};
 ghost use Rattle.proc_laws.specs.Source.{SourceProgram};
 ghost use Rattle.proc_laws.specs.SourceTree.{SourceText, source_of};
 ghost use Rattle.proc_laws.specs.ExpandedTree.{expanded_tree};
+ghost use Rattle.proc_laws.specs.SourceReading.{IsSourceReading, AreWords, expanded_tokens};
 ghost use Rattle.jade_syntax.specs.Image.{program};
 ghost use Rattle.proc_laws.specs.SourceMeaning.{source_course};
 ghost use Rattle.proc_laws.specs.Expansion.{AreFresh, Each, block_names, expanded_program, sets_all, item_name};
@@ -72,3 +74,11 @@ pub fn tokens_do_as_their_source()
     erased_is_program();
     one_tree();
 }
+
+/// A law of programs with procedures, which does nothing: where tokens read as a source and are not
+/// refused, and no token that is written for them is longer than a word may be, what is written for
+/// them, each token at its origin, reads as the tree of the expanded program.
+pub fn written_is_the_tree()
+    ensures { (l : TokenList) → (q : SourceText) → IsSourceReading l q → refusal l.lexemes ≡ None → AreWords l
+        → IsReading (expanded_tokens l) (expanded_tree (fresh_name (text_names l.lexemes l.end)) q) }
+{}
