@@ -1,15 +1,14 @@
 -- Names that are made are names, unless they are too long.
-use Rattle.std.proofs.Common.{◌≡◌, ℕ, zero, suc, ◌+◌, ◌/◌, ◌%◌, ◌<◌, ◌==◌, Bool, true, false, ◌&&◌, List, [], ◌∷◌, length, refl, sym, ap, ◌∙◌, arith}
+use Rattle.std.proofs.Common.{◌≡◌, ℕ, zero, suc, ◌/◌, ◌%◌, ◌<◌, ◌==◌, Bool, true, false, ◌&&◌, List, [], ◌∷◌, length, refl, ap, ◌∙◌, arith}
 use Rattle.std.proofs.lemmas.Bool.Decides.{nat_tests}
-use Rattle.std.specs.Prelude.{not, nat_le, if◌then◌else◌}
+use Rattle.std.specs.Prelude.{nat_le, if◌then◌else◌}
 use Rattle.std.specs.List.{list_all}
 use Rattle.std.specs.Fmt.{digits_onto, digit_glyph}
 use Rattle.jade_alphabet.specs.declared.TheConstants.{WORD_LIMIT}
 use Rattle.jade_alphabet.specs.Letters.{is_letter_or_digit}
 use Rattle.jade_syntax.specs.Abstract.{Name}
 use Rattle.jade_syntax.specs.Names.{is_name}
-use Rattle.proc_expand.specs.Names.{is_among, place_among}
-use Rattle.proc_expand.specs.Written.{numbered_name, fresh_name, free_number}
+use Rattle.proc_expand.specs.Written.{fresh_name, free_number}
 
 glyph_digit : (d : ℕ) → d < 10 → is_letter_or_digit (digit_glyph false d) ≡ true
 glyph_digit d h = grind (arith, nat_tests, h)

@@ -1,16 +1,16 @@
 -- Where the heads and bodies of procedures stand in a text.
-use Rattle.std.proofs.Common.{◌≡◌, ℕ, zero, suc, ◌+◌, ◌-◌, ◌<◌, ◌≤◌, Bool, true, false, ◌&&◌, ◌||◌, nat_eq, List, [], ◌∷◌, ◌++◌, length, map, drop, codes, refl, sym, ap, ◌∙◌, subst, arith}
-use Rattle.std.specs.Prelude.{not, if◌then◌else◌}
-use Rattle.std.specs.List.{flat_map, list_all}
-use Rattle.std.proofs.lemmas.List.{map-append, append_assoc}
+use Rattle.std.proofs.Common.{◌≡◌, ℕ, zero, suc, ◌+◌, ◌<◌, ◌≤◌, Bool, true, false, nat_eq, List, [], ◌∷◌, ◌++◌, length, map, drop, codes, refl, sym, ap, ◌∙◌, subst, arith}
+use Rattle.std.specs.Prelude.{if◌then◌else◌}
+use Rattle.std.specs.List.{flat_map}
+use Rattle.std.proofs.lemmas.List.{append_assoc}
 use Rattle.std.proofs.lemmas.Bool.{eq-eqb, eqb-true}
 use Rattle.jade_base.specs.declared.place.Pos.{Pos}
 use Rattle.jade_lexer.specs.Lexemes.{TokenAt}
 use Rattle.jade_syntax.specs.declared.tree.ValueKind.{ValueKind}
 use Rattle.jade_syntax.specs.declared.tree.ValueKind.TheVariants.{Int, Bool as BoolKind}
 use Rattle.jade_syntax.specs.Abstract.{Name}
-use Rattle.jade_parser.specs.declared.Sign.TheVariants.{LeftParen, RightParen, LeftBrace, RightBrace}
-use Rattle.jade_parser.specs.Spelled.{Part, Parts, tokens_of, fixed, marked}
+use Rattle.jade_parser.specs.declared.Sign.TheVariants.{RightParen, LeftBrace, RightBrace}
+use Rattle.jade_parser.specs.Spelled.{Parts, fixed}
 use Rattle.jade_parser.specs.Statements.{kind_word, braced}
 use Rattle.jade_parser.specs.Grammar.{bytes_of}
 use Rattle.jade_parser.specs.Kinds.{token_bytes}
@@ -23,11 +23,11 @@ use Rattle.proc_expand.specs.declared.sign.End.TheVariants.{Closed, Wrong, Never
 use Rattle.proc_expand.specs.declared.procedures.Head.{Head}
 use Rattle.proc_expand.specs.declared.procedures.Procedure.{Procedure}
 use Rattle.proc_expand.specs.Words.{sign_of, signs, at, same_bracket, open_after, open_before, closing, closing_from, closed_by, is_after}
-use Rattle.proc_expand.specs.Refusals.{head, head_from, params_of, params_from, body_end, procedure}
+use Rattle.proc_expand.specs.Refusals.{head, head_from, params_of, params_from, procedure}
 use Rattle.proc_laws.specs.SourceTree.{HeadParam, Spokens}
-use Rattle.proc_laws.specs.SourceReading.{param_parts, more_params, params_parts, title_parts, free_part, block_of, ends_there}
+use Rattle.proc_laws.specs.SourceReading.{param_parts, more_params, title_parts, free_part, block_of, ends_there}
 use Rattle.proc_laws.proofs.SignsOfTokens.{token_sign, parts_signs}
-use Rattle.proc_laws.proofs.PlacesInText.{after, places, after_both, after_is, plus_one, Sound, Stand, Lies, Reads, left, right, lies_left, lies_right, sign_at, stand_sign, drop_sign, signs_from}
+use Rattle.proc_laws.proofs.PlacesInText.{after, after_is, plus_one, Stand, Lies, Reads, left, right, stand_sign, drop_sign, signs_from}
 use Rattle.proc_laws.proofs.LevelParts.{past, closes_after, signs_both, even_spokens}
 use Rattle.proc_laws.proofs.CallPlaces.{past_after}
 

@@ -1,5 +1,5 @@
 -- The tokens of an expression: names, numbers and operators, in brackets that are closed, and its names in text order.
-use Rattle.std.proofs.Common.{◌≡◌, ℕ, suc, Bool, true, false, ◌+◌, ◌<◌, List, [], ◌∷◌, ◌++◌, Option, Some, None, length, map, refl, sym, ap, ◌∙◌, subst, arith}
+use Rattle.std.proofs.Common.{◌≡◌, ℕ, suc, true, false, ◌+◌, ◌<◌, List, [], ◌∷◌, ◌++◌, Option, Some, None, length, map, refl, sym, ap, ◌∙◌, subst, arith}
 use Rattle.std.specs.Prelude.{ℤ}
 use Rattle.std.specs.List.{flat_map}
 use Rattle.std.proofs.lemmas.List.{map-append, append-nil, length-append}
@@ -12,24 +12,23 @@ use Rattle.jade_syntax.specs.declared.tree.ProductOp.{ProductOp}
 use Rattle.jade_syntax.specs.declared.tree.ProductOp.TheVariants.{Times, Over, Remainder}
 use Rattle.jade_syntax.specs.declared.tree.UnaryOp.{UnaryOp}
 use Rattle.jade_syntax.specs.declared.tree.UnaryOp.TheVariants.{Negative, Not}
-use Rattle.jade_syntax.specs.declared.tree.Atom.{Atom, roll-Atom, fold-roll-Atom, map-Atom, out-roll-Atom}
+use Rattle.jade_syntax.specs.declared.tree.Atom.{Atom, roll-Atom, fold-roll-Atom, map-Atom}
 use Rattle.jade_syntax.specs.declared.tree.Atom.TheOpen.{Atom-F, CellRef-F, Compare-F}
 use Rattle.jade_syntax.specs.declared.tree.AndExpr.{AndExpr, roll-AndExpr}
-use Rattle.jade_syntax.specs.declared.tree.CellRef.{CellRef, roll-CellRef, fold-roll-CellRef, map-CellRef, out-CellRef}
+use Rattle.jade_syntax.specs.declared.tree.CellRef.{CellRef, roll-CellRef, fold-roll-CellRef, map-CellRef}
 use Rattle.jade_syntax.specs.declared.tree.Compare.{Compare, roll-Compare, map-Compare}
 use Rattle.jade_syntax.specs.declared.tree.Expr.{Expr, roll-Expr, ind-Expr}
 use Rattle.jade_syntax.specs.declared.tree.Product.{Product, roll-Product}
 use Rattle.jade_syntax.specs.declared.tree.Sum.{Sum, roll-Sum}
 use Rattle.jade_syntax.specs.declared.tree.Unary.{Unary}
-use Rattle.jade_syntax.specs.Abstract as plain
-use Rattle.jade_syntax.specs.Abstract.{Name, Expression, Or, And, Relates, Adds, Multiplies}
+use Rattle.jade_syntax.specs.Abstract.{Name, Expression}
 use Rattle.jade_syntax.specs.Forms as general
 use Rattle.jade_syntax.specs.Image as image
 use Rattle.jade_syntax.specs.Image.{forms, Linked, Reference, expression, and_expression, reference, compare_expression, product_expression}
 use Rattle.jade_syntax.specs.Image.{sum_expression, unary_expression, atom_expression}
 use Rattle.jade_syntax.proofs.Opened as opened
 use Rattle.jade_parser.specs.declared.Sign.{Sign}
-use Rattle.jade_parser.specs.declared.Sign.TheVariants.{LeftParen, RightParen, LeftBracket, RightBracket, OrSign, AndSign, EqualSign, PlusSign}
+use Rattle.jade_parser.specs.declared.Sign.TheVariants.{LeftParen, RightParen, LeftBracket, RightBracket, OrSign, AndSign}
 use Rattle.jade_parser.specs.Spelled as spelled
 use Rattle.jade_parser.specs.Spelled.{Token, Tokens, Fixed, Called, Counted, Part, Parts, tokens_of, marked, fixed, bracketed, numbered, outer}
 use Rattle.jade_parser.specs.Spelled.{truth_word, relation_sign, sum_sign, product_sign, unary_sign}

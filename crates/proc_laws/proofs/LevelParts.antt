@@ -1,8 +1,8 @@
 -- The brackets of the parts of a source are closed among them, and no word of items is in a statement.
-use Rattle.std.proofs.Common.{◌≡◌, ℕ, zero, suc, ◌+◌, Bool, true, false, ◌&&◌, List, [], ◌∷◌, ◌++◌, Option, Some, None, length, map, refl, sym, ap, ◌∙◌, subst, arith}
+use Rattle.std.proofs.Common.{◌≡◌, ℕ, ◌+◌, Bool, true, false, ◌&&◌, List, [], ◌∷◌, ◌++◌, Option, Some, None, map, refl, sym, ap, ◌∙◌, subst}
 use Rattle.std.specs.Prelude.{not, if◌then◌else◌}
 use Rattle.std.specs.List.{list_all, flat_map}
-use Rattle.std.proofs.lemmas.List.{map-append, append_assoc, append-nil}
+use Rattle.std.proofs.lemmas.List.{map-append, append_assoc}
 use Rattle.jade_syntax.specs.declared.tree.CellRef.{CellRef, out-CellRef}
 use Rattle.jade_syntax.specs.declared.tree.DeclareWord.{DeclareWord}
 use Rattle.jade_syntax.specs.declared.tree.DeclareWord.TheVariants.{Rd, Wr, RdWr, DfRd, DfWr, DfRdWr, Cm, NoRd, NoWr, NoRdWr}
@@ -12,10 +12,9 @@ use Rattle.jade_syntax.specs.declared.tree.ObjectRef.{ObjectRef}
 use Rattle.jade_syntax.specs.declared.tree.ValueKind.{ValueKind}
 use Rattle.jade_syntax.specs.declared.tree.ValueKind.TheVariants.{Int, Bool as BoolKind}
 use Rattle.jade_syntax.specs.Abstract.{Name}
-use Rattle.jade_syntax.specs.Image.{expression}
 use Rattle.jade_parser.specs.declared.Sign.TheVariants.{LeftBracket, RightBracket, LeftParen, RightParen, LeftBrace, RightBrace, Becomes, Semicolon}
 use Rattle.jade_parser.specs.declared.Sign.TheVariants.{Comma, DotDot, IfWord, ElseWord, ForWord, InWord, WithonlyWord, WithWord, DoWord, ContWord}
-use Rattle.jade_parser.specs.Spelled.{Token, Tokens, Fixed, Called, Part, Parts, tokens_of, fixed, marked, plain, bracketed, outer}
+use Rattle.jade_parser.specs.Spelled.{Tokens, Fixed, Called, Part, Parts, tokens_of, fixed, marked, plain, bracketed, outer}
 use Rattle.jade_parser.specs.Statements.{kind_word, declare_word, outer_index, object_parts, target_parts, braced, more_names, name_parts}
 use Rattle.proc_expand.specs.declared.sign.Bracket.{Bracket}
 use Rattle.proc_expand.specs.declared.sign.Bracket.TheVariants.{Round, Square, Curly}

@@ -1,6 +1,6 @@
 -- Where the items and procedures of a source stand in its text.
-use Rattle.std.proofs.Common.{◌≡◌, ℕ, zero, suc, ◌+◌, ◌-◌, ◌<◌, ◌≤◌, Bool, true, false, ◌&&◌, ◌||◌, nat_eq, List, [], ◌∷◌, ◌++◌, length, map, cond, codes, refl, sym, ap, ◌∙◌, subst, arith}
-use Rattle.std.specs.Prelude.{not, nat_le, if◌then◌else◌}
+use Rattle.std.proofs.Common.{◌≡◌, ℕ, zero, suc, ◌+◌, ◌<◌, ◌≤◌, Bool, true, false, ◌&&◌, ◌||◌, nat_eq, List, [], ◌∷◌, ◌++◌, length, map, cond, codes, refl, sym, ap, ◌∙◌, subst, arith}
+use Rattle.std.specs.Prelude.{not, nat_le}
 use Rattle.std.specs.List.{flat_map, list_all, list_any, filter}
 use Rattle.std.proofs.lemmas.List.{map-append, append_assoc, append-nil}
 use Rattle.std.proofs.lemmas.List.Elements.{filter-append}
@@ -10,27 +10,25 @@ use Rattle.jade_lexer.specs.Lexemes.{TokenAt}
 use Rattle.jade_syntax.specs.declared.tree.Item.{Item}
 use Rattle.jade_syntax.specs.declared.tree.Item.TheVariants.{Input, Single, Family}
 use Rattle.jade_syntax.specs.Abstract.{Name}
-use Rattle.jade_parser.specs.declared.Sign.TheVariants.{MainWord, LeftParen, RightParen, LeftBrace, RightBrace, Semicolon}
+use Rattle.jade_parser.specs.declared.Sign.TheVariants.{RightParen, LeftBrace, RightBrace, Semicolon}
 use Rattle.jade_parser.specs.declared.Sign.TheVariants.{InputWord, ObjectWord, ObjectsWord, Colon, LeftBracket, RightBracket}
 use Rattle.jade_parser.specs.Spelled.{Part, Parts, Called, fixed, marked}
-use Rattle.jade_parser.specs.Statements.{braced}
 use Rattle.jade_parser.specs.Programs.{between_parts, item_parts}
 use Rattle.proc_expand.specs.declared.sign.Sign.{Sign}
-use Rattle.proc_expand.specs.declared.sign.Sign.TheVariants as mark
 use Rattle.proc_expand.specs.declared.sign.End.TheVariants.{Closed}
 use Rattle.proc_expand.specs.declared.procedures.Procedure.{Procedure}
 use Rattle.proc_expand.specs.Words.{signs, at, before, bytes_at, is_main, is_proc, is_item_word, is_called, ends_item, open_after, open_before, closing, those, one_if, some}
 use Rattle.proc_expand.specs.Refusals.{begins, is_outer_main, procedure}
 use Rattle.proc_expand.specs.Written.{from, closed_at, procedures, in_procedure, items, before_item}
 use Rattle.proc_laws.specs.Expansion.{item_name}
-use Rattle.proc_laws.specs.SourceTree.{HeadParam, Spokens, SpokenProcedure, Piece, AnItem, AProcedure, Unread, SourceText, items_of}
-use Rattle.proc_laws.specs.SourceReading.{more_params, params_parts, title_parts, free_part, piece_parts, main_parts, source_parts, block_of, piece_fits, fits_after}
+use Rattle.proc_laws.specs.SourceTree.{HeadParam, Spokens, Piece, AnItem, AProcedure, Unread, SourceText, items_of}
+use Rattle.proc_laws.specs.SourceReading.{more_params, title_parts, free_part, piece_parts, main_parts, source_parts, block_of, piece_fits, fits_after}
 use Rattle.proc_laws.proofs.SignsOfTokens.{token_sign, parts_signs}
-use Rattle.proc_laws.proofs.PlacesInText.{after, places, after_both, places_both, after_is, places_from, plus_one, Sound, Stand, Lies, Reads, left, right, lies_right, sign_at, stand_sign}
+use Rattle.proc_laws.proofs.PlacesInText.{after, places, after_both, places_both, after_is, places_from, Stand, Reads, right, lies_right, sign_at, stand_sign}
 use Rattle.proc_laws.proofs.LevelParts.{bare, even_spokens, even_braced}
 use Rattle.proc_laws.proofs.WrittenParts.{no_proc}
 use Rattle.proc_laws.proofs.HeadsInText.{kind_sign, stop_of, procedure_of, rest_of, procedure_here, closed_body, closed_free, Deep, deep_body}
-use Rattle.proc_laws.proofs.WrittenCalls.{body_of, PieceHere, PiecesHere, procedures_at}
+use Rattle.proc_laws.proofs.WrittenCalls.{body_of, PiecesHere, procedures_at}
 
 -- ---- truth values
 

@@ -1,5 +1,5 @@
 -- Where the parts of a source stand among the tokens of a text.
-use Rattle.std.proofs.Common.{◌≡◌, ℕ, zero, suc, ◌+◌, ◌<◌, Bool, true, false, ◌&&◌, List, [], ◌∷◌, ◌++◌, length, drop, map, refl, sym, ap, ◌∙◌, subst, arith}
+use Rattle.std.proofs.Common.{◌≡◌, ℕ, zero, suc, ◌+◌, ◌<◌, true, List, [], ◌∷◌, ◌++◌, length, drop, map, refl, sym, ap, ◌∙◌, subst, arith}
 use Rattle.std.specs.Prelude.{slice_index_or, nat_le}
 use Rattle.std.specs.List.{list_all}
 use Rattle.std.proofs.Math.Seq.{drop-cons}
@@ -8,7 +8,7 @@ use Rattle.std.proofs.lemmas.Bool.{and_parts}
 use Rattle.jade_alphabet.specs.declared.TheConstants.{EXPRESSION_LIMIT}
 use Rattle.jade_base.specs.declared.place.Pos.{Pos}
 use Rattle.jade_lexer.specs.Lexemes.{TokenAt}
-use Rattle.jade_parser.specs.Spelled.{Part, Parts, tokens_of, is_valid, KeptAt, AllValid, AllShort, Agrees, pos_in}
+use Rattle.jade_parser.specs.Spelled.{Part, Parts, is_valid, KeptAt, Agrees, pos_in}
 use Rattle.jade_parser.specs.Kinds.{token_bytes}
 use Rattle.jade_parser.specs.Grammar.{bytes_of}
 use Rattle.proc_expand.specs.declared.sign.Sign.{Sign}

@@ -1,6 +1,5 @@
 -- The parts of a statement whose names are replaced, each where it stands, and the names of its parts.
-use Rattle.std.proofs.Common.{◌≡◌, ℕ, List, [], ◌∷◌, ◌++◌, Option, Some, None, map, refl, sym, ap, ◌∙◌}
-use Rattle.std.specs.List.{flat_map}
+use Rattle.std.proofs.Common.{◌≡◌, List, [], ◌∷◌, ◌++◌, Option, Some, None, map, refl, sym, ap, ◌∙◌}
 use Rattle.std.proofs.lemmas.List.{map-append, append-nil}
 use Rattle.jade_base.specs.declared.place.Pos.{Pos}
 use Rattle.jade_syntax.specs.declared.tree.Atom.{Atom}
@@ -16,17 +15,16 @@ use Rattle.jade_syntax.specs.declared.tree.Statement.{Statement, out-Statement, 
 use Rattle.jade_syntax.specs.declared.tree.Statement.TheOpen.{Statement-F}
 use Rattle.jade_syntax.specs.declared.tree.Sum.{Sum}
 use Rattle.jade_syntax.specs.declared.tree.Unary.{Unary}
-use Rattle.jade_syntax.specs.Abstract.{Name, Expression, Place}
+use Rattle.jade_syntax.specs.Abstract.{Name, Expression}
 use Rattle.jade_syntax.specs.Forms as general
 use Rattle.jade_syntax.specs.Image as image
 use Rattle.jade_syntax.specs.Image.{forms, expression, reference, object, member, Reference}
 use Rattle.jade_syntax.specs.Image.{and_expression, compare_expression, product_expression, sum_expression, unary_expression, atom_expression}
 use Rattle.jade_parser.specs.declared.Sign.TheVariants.{LeftBracket, RightBracket, Comma}
-use Rattle.jade_parser.specs.Spelled.{Fixed, Called, Part, Parts, tokens_of, fixed, marked, bracketed, outer}
+use Rattle.jade_parser.specs.Spelled.{Called, Part, Parts, tokens_of, fixed, marked, bracketed, outer}
 use Rattle.jade_parser.specs.Statements.{outer_index, object_parts, target_parts, more_names, name_parts, at_statement, statement_parts}
 use Rattle.replaced_trees.specs.Replaced.{at_atom, at_and, at_cell, at_compare, at_expr, at_product, at_sum, at_unary, expr_replaced, and_replaced}
 use Rattle.replaced_trees.specs.Replaced.{cell_replaced, compare_replaced, sum_replaced, product_replaced, unary_replaced, atom_replaced, index_replaced}
-use Rattle.replaced_trees.specs.Parts.{part_replaced, parts_replaced}
 use Rattle.replaced_trees.proofs.SpelledTerms.{outer_spelled}
 use Rattle.proc_laws.specs.Expansion.{names_in, place_names}
 use Rattle.proc_laws.specs.ExpandedTree.{expr_renamed, cell_renamed, object_renamed, named_renamed}

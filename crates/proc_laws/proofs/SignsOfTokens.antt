@@ -1,15 +1,10 @@
 -- What the tokens of a tree are to procedures and calls.
-use Rattle.std.proofs.Common.{◌≡◌, ℕ, zero, suc, ◌+◌, ◌<◌, Bool, true, false, List, [], ◌∷◌, ◌++◌, length, drop, map, codes, refl, sym, ap, ◌∙◌, arith}
-use Rattle.std.specs.Prelude.{slice_index_or, if◌then◌else◌}
-use Rattle.std.proofs.Math.Seq.{drop-cons}
-use Rattle.std.proofs.lemmas.List.{length-map}
-use Rattle.jade_alphabet.specs.declared.TheConstants.{EXPRESSION_LIMIT}
-use Rattle.jade_base.specs.declared.place.Pos.{Pos}
-use Rattle.jade_lexer.specs.Lexemes.{TokenAt}
+use Rattle.std.proofs.Common.{◌≡◌, ℕ, Bool, true, false, List, map, codes, refl, sym, ap, ◌∙◌}
+use Rattle.std.specs.Prelude.{if◌then◌else◌}
 use Rattle.jade_syntax.specs.Abstract.{Name}
 use Rattle.jade_syntax.specs.Names.{is_name}
 use Rattle.jade_syntax.specs.Numbering.{same_name}
-use Rattle.jade_parser.specs.Spelled.{Token, Fixed, Called, Counted, Unknown, Part, Parts, tokens_of, is_valid, KeptAt}
+use Rattle.jade_parser.specs.Spelled.{Token, Fixed, Called, Counted, Unknown, Parts, tokens_of, is_valid}
 use Rattle.jade_parser.specs.Kinds.{token_bytes, token_of_bytes, sign_bytes}
 use Rattle.jade_parser.proofs.Known.{back}
 use Rattle.proc_expand.specs.declared.sign.Sign.{Sign}

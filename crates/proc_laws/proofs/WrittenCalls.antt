@@ -1,8 +1,8 @@
 -- What is written for a call of a procedure of a source is the tree of the call.
-use Rattle.std.proofs.Common.{◌≡◌, ℕ, zero, suc, ◌+◌, ◌-◌, ◌*◌, ◌<◌, Bool, true, false, ◌&&◌, nat_eq, List, [], ◌∷◌, ◌++◌, Option, Some, None, length, map, codes, refl, sym, ap, ◌∙◌, subst, arith}
-use Rattle.std.specs.Prelude.{not, nat_le, if◌then◌else◌}
-use Rattle.std.specs.List.{flat_map, list_all}
-use Rattle.std.proofs.lemmas.List.{map-append, append_assoc, append-nil}
+use Rattle.std.proofs.Common.{◌≡◌, ℕ, suc, ◌+◌, ◌-◌, ◌*◌, Bool, true, false, nat_eq, List, [], ◌∷◌, ◌++◌, Option, Some, None, length, map, codes, refl, sym, ap, ◌∙◌, subst, arith}
+use Rattle.std.specs.Prelude.{nat_le, if◌then◌else◌}
+use Rattle.std.specs.List.{flat_map}
+use Rattle.std.proofs.lemmas.List.{append_assoc, append-nil}
 use Rattle.std.proofs.lemmas.Bool.{and_parts, eqb-true}
 use Rattle.jade_alphabet.specs.declared.TheConstants.{WORD_LIMIT, EXPRESSION_LIMIT}
 use Rattle.jade_base.specs.declared.place.Pos.{Pos}
@@ -12,7 +12,6 @@ use Rattle.jade_syntax.specs.declared.tree.Atom.TheOpen.{Atom-F}
 use Rattle.jade_syntax.specs.declared.tree.AndExpr.{roll-AndExpr}
 use Rattle.jade_syntax.specs.declared.tree.Compare.{Compare, roll-Compare}
 use Rattle.jade_syntax.specs.declared.tree.Expr.{Expr}
-use Rattle.jade_syntax.specs.declared.tree.Item.{Item}
 use Rattle.jade_syntax.specs.declared.tree.Product.{Product, roll-Product}
 use Rattle.jade_syntax.specs.declared.tree.Statement.{Statement}
 use Rattle.jade_syntax.specs.declared.tree.Statement.TheOpen.{Statement-F}
@@ -24,7 +23,7 @@ use Rattle.jade_syntax.specs.declared.tree.ValueKind.TheVariants.{Int, Bool as B
 use Rattle.jade_syntax.specs.Abstract.{Name}
 use Rattle.jade_syntax.specs.Names.{is_name}
 use Rattle.jade_syntax.specs.Numbering.{same_name}
-use Rattle.jade_parser.specs.declared.Sign.TheVariants.{LeftBrace, RightBrace, RightParen, Becomes, Semicolon, Comma, IfWord, TrueWord}
+use Rattle.jade_parser.specs.declared.Sign.TheVariants.{LeftBrace, RightBrace, RightParen, Becomes, Semicolon, IfWord, TrueWord}
 use Rattle.jade_parser.specs.Spelled as spelled
 use Rattle.jade_parser.specs.Spelled.{Fixed, Called, Part, Parts, fixed, marked, plain, outer, numbered, is_valid, KeptAt, expr_parts, atom_parts}
 use Rattle.jade_parser.specs.Kinds.{token_bytes}
@@ -35,16 +34,16 @@ use Rattle.proc_expand.specs.declared.procedures.Procedure.{Procedure}
 use Rattle.proc_expand.specs.Words.{signs, at, before, bytes_at, is_proc, ends_statement}
 use Rattle.proc_expand.specs.Names.{is_among, place_among, first_places}
 use Rattle.proc_expand.specs.Refusals.{is_call, param_place}
-use Rattle.proc_expand.specs.Written.{MadeToken, Written, CallWriter, pos_at, from, made_at, given_at, write_places, write_call, and_writer, all_writers, no_writer}
+use Rattle.proc_expand.specs.Written.{MadeToken, Written, CallWriter, pos_at, from, made_at, given_at, write_places, write_call, and_writer, all_writers}
 use Rattle.proc_expand.specs.Written.{items, text_names, fresh_name, replaced_at, replaced_by, param_places, body_places, names_at}
-use Rattle.proc_laws.specs.Expansion.{Made, item_name, block_names, replaced, replacement}
+use Rattle.proc_laws.specs.Expansion.{Made, block_names, replaced}
 use Rattle.proc_laws.specs.Source as abstract
 use Rattle.proc_laws.specs.SourceTree.{HeadParam, Spokens, SpokenProcedure, Piece, AnItem, AProcedure, Unread, procedure, param, spoken_actions, spoken_procedures}
-use Rattle.proc_laws.specs.SourceReading.{param_parts, more_params, params_parts, title_parts, free_part, piece_parts, block_of, takes, all_fit, fits_after, piece_fits}
-use Rattle.proc_laws.specs.ExpandedTree.{truth_at, CallTrees, tree, trees, declared_at, call_tree, and_tree, all_trees}
+use Rattle.proc_laws.specs.SourceReading.{param_parts, more_params, title_parts, free_part, piece_parts, block_of, takes, all_fit, fits_after, piece_fits}
+use Rattle.proc_laws.specs.ExpandedTree.{truth_at, CallTrees, trees, declared_at, call_tree, and_tree, all_trees}
 use Rattle.jade_parser.specs.Programs.{item_parts}
-use Rattle.proc_laws.proofs.PlacesInText.{after, places, after_both, plus_one, Sound, Stand, Lies, Reads, left, right, sign_at}
-use Rattle.proc_laws.proofs.WrittenParts.{Spelt, Spells, spells_both, none, one, onto, Keeps, Writes, no_proc}
+use Rattle.proc_laws.proofs.PlacesInText.{after, places, plus_one, Sound, Stand, Lies, Reads, left, sign_at}
+use Rattle.proc_laws.proofs.WrittenParts.{Spelt, Spells, spells_both, none, one, Keeps, Writes}
 use Rattle.proc_laws.proofs.RenamedParts.{made_is}
 use Rattle.proc_laws.proofs.CallPlaces as call
 use Rattle.proc_laws.proofs.CallPlaces.{AllSpell, IsWritten, CallsWritten, span_is}

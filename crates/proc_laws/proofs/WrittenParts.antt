@@ -1,5 +1,5 @@
 -- What is written for parts that stand in a text.
-use Rattle.std.proofs.Common.{◌≡◌, ℕ, zero, suc, ◌+◌, ◌-◌, ◌<◌, ◌≤◌, Bool, true, false, ◌&&◌, List, [], ◌∷◌, ◌++◌, Option, Some, None, length, map, cond, refl, sym, ap, ◌∙◌, subst, arith}
+use Rattle.std.proofs.Common.{◌≡◌, ℕ, zero, suc, ◌+◌, ◌-◌, Bool, true, false, ◌&&◌, List, [], ◌∷◌, ◌++◌, Option, Some, None, length, map, cond, refl, sym, ap, ◌∙◌, subst}
 use Rattle.std.specs.Prelude.{not, nat_le, if◌then◌else◌}
 use Rattle.std.specs.List.{list_all, filter}
 use Rattle.std.proofs.lemmas.List.{map-append, append_assoc, append-nil}
@@ -14,20 +14,19 @@ use Rattle.jade_syntax.specs.Names.{is_name}
 use Rattle.jade_syntax.specs.Image.{expression}
 use Rattle.jade_parser.specs.declared.Sign as lexicon
 use Rattle.jade_parser.specs.declared.Sign.TheVariants.{InputWord}
-use Rattle.jade_parser.specs.Spelled.{Token, Tokens, Fixed, Called, Counted, Unknown, Part, Parts, tokens_of, is_valid, KeptAt, marked, outer}
+use Rattle.jade_parser.specs.Spelled.{Token, Tokens, Fixed, Called, Counted, Unknown, Part, Parts, tokens_of, is_valid, KeptAt, outer}
 use Rattle.jade_parser.specs.Kinds.{token_bytes, sign_bytes}
-use Rattle.proc_expand.specs.declared.sign.Sign.{Sign}
 use Rattle.proc_expand.specs.declared.sign.Sign.TheVariants as mark
 use Rattle.proc_expand.specs.Words.{sign_of, signs, at, before, bytes_at, is_called, is_proc, opens_round, ends_statement}
 use Rattle.proc_expand.specs.Refusals.{is_call, call_end}
-use Rattle.proc_expand.specs.Written.{MadeToken, Written, CallWriter, pos_at, closed_at, write_places, write_one, token_at, is_variable, names_at, arguments}
-use Rattle.replaced_trees.specs.Parts.{token_replaced, part_replaced, parts_replaced}
+use Rattle.proc_expand.specs.Written.{MadeToken, Written, CallWriter, pos_at, closed_at, write_places, write_one, token_at, is_variable, names_at}
+use Rattle.replaced_trees.specs.Parts.{part_replaced, parts_replaced}
 use Rattle.replaced_trees.proofs.SpelledTerms.{outer_spelled}
 use Rattle.proc_laws.specs.Expansion.{names_in}
 use Rattle.proc_laws.specs.ExpandedTree.{expr_renamed}
 use Rattle.proc_laws.proofs.Basics.{by_case, no_both}
 use Rattle.proc_laws.proofs.SignsOfTokens.{token_sign, parts_signs}
-use Rattle.proc_laws.proofs.PlacesInText.{after, places, after_both, places_both, plus_one, Sound, Stand, Reads, left, right, sign_at}
+use Rattle.proc_laws.proofs.PlacesInText.{after, places, places_both, plus_one, Sound, Reads, sign_at}
 use Rattle.proc_laws.proofs.InnerTokens as inner
 use Rattle.proc_laws.proofs.InnerTokens.{Inner, outer_within}
 use Rattle.proc_laws.proofs.LevelParts.{calm, outer_quiet}

@@ -1,10 +1,10 @@
 -- What is written for a statement of a source is its tree with the names replaced, whatever is written for calls.
-use Rattle.std.proofs.Common.{◌≡◌, ℕ, zero, suc, ◌+◌, ◌-◌, ◌<◌, Bool, true, false, ◌&&◌, nat_eq, List, [], ◌∷◌, ◌++◌, Option, Some, None, length, map, drop, refl, sym, ap, ◌∙◌, subst, arith}
-use Rattle.std.specs.Prelude.{not, if◌then◌else◌}
-use Rattle.std.specs.List.{flat_map, list_all}
-use Rattle.std.proofs.lemmas.List.{map-append, append_assoc, append-nil, length-append}
+use Rattle.std.proofs.Common.{◌≡◌, ℕ, zero, suc, ◌+◌, ◌-◌, true, false, ◌&&◌, List, [], ◌∷◌, ◌++◌, Option, Some, None, length, map, refl, sym, ap, ◌∙◌, subst, arith}
+use Rattle.std.specs.Prelude.{not}
+use Rattle.std.specs.List.{flat_map}
+use Rattle.std.proofs.lemmas.List.{append_assoc, append-nil, length-append}
 use Rattle.std.proofs.lemmas.List.{length-map}
-use Rattle.std.proofs.lemmas.Bool.{and_parts, eq-eqb, eqb-true}
+use Rattle.std.proofs.lemmas.Bool.{and_parts}
 use Rattle.jade_base.specs.declared.place.Pos.{Pos}
 use Rattle.jade_lexer.specs.Lexemes.{TokenAt}
 use Rattle.jade_syntax.specs.declared.tree.CellRef.{CellRef, out-CellRef}
@@ -13,7 +13,6 @@ use Rattle.jade_syntax.specs.declared.tree.DeclareWord.TheVariants.{Rd, Wr, RdWr
 use Rattle.jade_syntax.specs.declared.tree.Expr.{Expr}
 use Rattle.jade_syntax.specs.declared.tree.Named.{Named}
 use Rattle.jade_syntax.specs.declared.tree.ObjectRef.{ObjectRef}
-use Rattle.jade_syntax.specs.declared.tree.Statement.{Statement}
 use Rattle.jade_syntax.specs.declared.tree.Statement.TheOpen.{Statement-F}
 use Rattle.jade_syntax.specs.declared.tree.Statement.TheVariants as statement
 use Rattle.jade_syntax.specs.declared.tree.Statement.TheVariants.{outs-Local, outs-Assign, outs-Store, outs-If, outs-For, outs-Withonly, outs-With, outs-Declare}
@@ -25,32 +24,29 @@ use Rattle.jade_parser.specs.declared.Sign.TheVariants.{LeftBracket, LeftParen, 
 use Rattle.jade_parser.specs.declared.Sign.TheVariants.{IfWord, ElseWord, ForWord, InWord, WithonlyWord, WithWord, DoWord, ContWord}
 use Rattle.jade_parser.specs.Spelled.{Fixed, Called, Part, Parts, tokens_of, fixed, marked, plain, bracketed, outer}
 use Rattle.jade_parser.specs.Statements.{kind_word, declare_word, outer_index, object_parts, target_parts, braced, name_parts, statement_parts}
-use Rattle.proc_expand.specs.declared.sign.Bracket.TheVariants.{Round, Square}
-use Rattle.proc_expand.specs.declared.sign.Sign.{Sign}
+use Rattle.proc_expand.specs.declared.sign.Bracket.TheVariants.{Round}
 use Rattle.proc_expand.specs.declared.sign.Sign.TheVariants as mark
-use Rattle.proc_expand.specs.declared.sign.End.TheVariants.{Closed}
-use Rattle.proc_expand.specs.Words.{signs, at, before, bytes_at, is_called, is_proc, opens_round, ends_statement, closing_from, is_after}
-use Rattle.proc_expand.specs.Refusals.{is_call, call_end, commas_from, commas, count}
-use Rattle.proc_expand.specs.Written.{MadeToken, Written, CallWriter, pos_at, closed_at, from, write_places, write_one, token_at, names_at, spans, arguments}
-use Rattle.proc_laws.specs.Expansion.{Made, names_in, place_names, argument_names, action_names, block_names}
+use Rattle.proc_expand.specs.Words.{signs, at, before, is_called, is_proc, opens_round, ends_statement}
+use Rattle.proc_expand.specs.Refusals.{is_call, call_end}
+use Rattle.proc_expand.specs.Written.{Written, CallWriter, closed_at, write_places, write_one, token_at, arguments}
+use Rattle.proc_laws.specs.Expansion.{names_in, place_names, argument_names, action_names, block_names}
 use Rattle.proc_laws.specs.SourceTree as source
 use Rattle.proc_laws.specs.SourceTree.{Spoken, Spokens, Piece, spoken_action, spoken_actions}
 use Rattle.proc_laws.specs.SourceReading.{more_arguments, argument_parts, spoken_parts, block_of, takes, calls_fit, all_fit}
 use Rattle.proc_laws.specs.ExpandedTree.{expr_renamed, cell_renamed, object_renamed, named_renamed, CallTrees, tree, trees}
-use Rattle.proc_laws.proofs.SignsOfTokens.{token_sign, parts_signs}
-use Rattle.proc_laws.proofs.PlacesInText.{after, places, after_both, places_both, after_is, places_from, plus_one, Sound, Stand, Reads, left, right, sign_at, signs_from}
-use Rattle.proc_laws.proofs.InnerTokens.{outer_some}
-use Rattle.proc_laws.proofs.LevelParts.{past, closes_after, outer_quiet, signs_both, even_arguments, calm, Calm, calm_both, calm_next, calm_none}
+use Rattle.proc_laws.proofs.SignsOfTokens.{token_sign}
+use Rattle.proc_laws.proofs.PlacesInText.{after, places, after_is, plus_one, Sound, Reads, left, right, sign_at}
+use Rattle.proc_laws.proofs.LevelParts.{calm_both, calm_next}
 use Rattle.proc_laws.proofs.LevelParts.{calm_outer, calm_square, calm_index, calm_names, calm_arguments}
-use Rattle.proc_laws.proofs.WrittenParts.{Spelt, Spells, Keeps, renamed_part, renamed_parts, called_name, called_names, called_parts, outer_names, no_proc}
-use Rattle.proc_laws.proofs.WrittenParts.{no_call_sign, no_call_next, no_call_after, NoCalls, no_calls_left, proc_before, quiet_names, calm_no_calls}
+use Rattle.proc_laws.proofs.WrittenParts.{Spells, Keeps, called_names, called_parts, no_proc}
+use Rattle.proc_laws.proofs.WrittenParts.{no_call_sign, no_call_next, no_call_after, NoCalls, proc_before, quiet_names, calm_no_calls}
 use Rattle.proc_laws.proofs.WrittenParts.{quiet_spells, onto, Writes, nothing_written, both, seen_as, quiet, sign_written, token_written, outer_written, call_names}
 use Rattle.proc_laws.proofs.RenamedParts.{made_is, object_is, target_is, names_are, object_names, target_names, list_names}
 use Rattle.jade_parser.specs.declared.Sign as lexicon
 use Rattle.replaced_trees.proofs.SpelledTerms.{outer_spelled}
 use Rattle.proc_laws.proofs.InnerTokens.{cell_names}
 use Rattle.proc_laws.proofs.WrittenParts.{fixed_plain, no_calls_both}
-use Rattle.proc_laws.proofs.CallPlaces.{AllSpell, none, one, IsWritten, CallsWritten, more_places, argument_places, all_called, past_after, call_tail, closed_call, call_arguments, before_last}
+use Rattle.proc_laws.proofs.CallPlaces.{AllSpell, none, one, IsWritten, CallsWritten, more_places, argument_places, all_called, call_tail, closed_call, call_arguments, before_last}
 
 -- the names of statements, otherwise bracketed
 grouped : (x y z : List Name) → (((x ++ y) ++ []) ++ z) ++ [] ≡ x ++ (y ++ z)

@@ -1,8 +1,8 @@
 -- The tokens that are written for a source, each at its origin, read as the tree that stands for the source.
 use Rattle.std.proofs.Common.{◌≡◌, ℕ, zero, suc, ◌+◌, ◌<◌, ◌≤◌, Bool, true, false, ◌&&◌, ◌||◌, List, [], ◌∷◌, ◌++◌, Option, Some, None, length, map, refl, sym, ap, ◌∙◌, subst, arith}
-use Rattle.std.specs.Prelude.{not, nat_le, nat_lt, slice_index_or, if◌then◌else◌}
+use Rattle.std.specs.Prelude.{not, nat_le, if◌then◌else◌}
 use Rattle.std.specs.List.{flat_map, list_all}
-use Rattle.std.proofs.lemmas.List.{map-append, append_assoc, append-nil, length-map}
+use Rattle.std.proofs.lemmas.List.{append_assoc, append-nil, length-map}
 use Rattle.std.proofs.lemmas.Bool.{and_parts, leb-true, le-leb}
 use Rattle.jade_alphabet.specs.declared.TheConstants.{WORD_LIMIT, EXPRESSION_LIMIT}
 use Rattle.jade_base.specs.declared.place.Pos.{Pos}
@@ -13,31 +13,28 @@ use Rattle.jade_syntax.specs.declared.tree.Program.{Program}
 use Rattle.jade_syntax.specs.declared.tree.Statement.{Statement}
 use Rattle.jade_syntax.specs.Abstract.{Name}
 use Rattle.jade_parser.specs.declared.Sign.TheVariants.{MainWord, LeftBrace, RightBrace, LeftBracket, RightBracket, Colon, Semicolon, InputWord, ObjectWord, ObjectsWord}
-use Rattle.jade_parser.specs.Spelled.{Part, Parts, Called, fixed, marked, number_part, is_valid, tokens_of, Agrees, KeptAt, pos_in}
+use Rattle.jade_parser.specs.Spelled.{Part, Parts, fixed, number_part, is_valid, tokens_of, Agrees}
 use Rattle.jade_parser.specs.Statements.{braced, statement_parts, block_parts}
-use Rattle.jade_parser.specs.Programs.{item_parts, head_parts, program_parts}
-use Rattle.jade_parser.specs.Grammar.{IsReading, bytes_of, texts, positions}
+use Rattle.jade_parser.specs.Programs.{item_parts, program_parts}
+use Rattle.jade_parser.specs.Grammar.{IsReading, bytes_of, texts}
 use Rattle.jade_parser.specs.Kinds.{token_bytes}
 use Rattle.proc_expand.specs.declared.sign.Sign.{Sign}
 use Rattle.proc_expand.specs.declared.sign.Sign.TheVariants.{Other}
-use Rattle.proc_expand.specs.declared.procedures.Procedure.{Procedure}
 use Rattle.proc_expand.specs.declared.refusal.Reason.{Reason}
 use Rattle.proc_expand.specs.declared.refusal.Reason.TheVariants.{Shape}
 use Rattle.proc_expand.specs.declared.refusal.Refusal.{Refusal}
-use Rattle.proc_expand.specs.Words.{sign_of, signs, at, before, is_called, is_proc, opens_round, ends_statement, those, some}
-use Rattle.proc_expand.specs.Refusals.{is_call, begins, proc_fails, call_fails, misplaced, within, is_shape, is_unknown, is_count, is_twice, reason, or_reason, first_reason, refusal}
-use Rattle.proc_expand.specs.Written.{MadeToken, Written, CallWriter, write_places, all_writers, no_writer, procedures, in_procedure, items, text_names, fresh_name, expansion}
-use Rattle.proc_laws.specs.Expansion.{Made, item_name, block_names}
-use Rattle.proc_laws.specs.SourceTree.{Spokens, Piece, AnItem, AProcedure, Unread, SourceText, items_of, spoken_procedures, spoken_actions}
-use Rattle.proc_laws.specs.SourceReading.{title_parts, free_part, piece_parts, read_parts, main_parts, source_parts, block_of, fits_after, IsSourceReading, AreWords, made_token, expanded_tokens}
+use Rattle.proc_expand.specs.Words.{sign_of, signs, at, before, is_called, is_proc, opens_round, ends_statement, some}
+use Rattle.proc_expand.specs.Refusals.{is_call, begins, proc_fails, call_fails, misplaced, within, is_shape, reason, or_reason, first_reason, refusal}
+use Rattle.proc_expand.specs.Written.{MadeToken, Written, CallWriter, write_places, all_writers, no_writer, items, text_names, fresh_name, expansion}
+use Rattle.proc_laws.specs.Expansion.{item_name, block_names}
+use Rattle.proc_laws.specs.SourceTree.{Piece, AnItem, AProcedure, Unread, SourceText, items_of, spoken_procedures, spoken_actions}
+use Rattle.proc_laws.specs.SourceReading.{title_parts, free_part, piece_parts, read_parts, main_parts, source_parts, block_of, IsSourceReading, AreWords, made_token, expanded_tokens}
 use Rattle.proc_laws.specs.ExpandedTree.{CallTrees, trees, all_trees, no_trees, expanded_tree}
 use Rattle.proc_laws.proofs.SignsOfTokens.{token_sign}
-use Rattle.proc_laws.proofs.PlacesInText.{after, places, Sound, Stand, Lies, Reads, lies, lies_left, lies_right, left, right, reads, sign_at}
-use Rattle.proc_laws.proofs.WrittenParts.{Spelt, Spells, spells_both, none, one, onto, Keeps, Writes, NoCalls, no_call_sign, no_call_after, quiet, renamed_parts}
-use Rattle.proc_laws.proofs.CallPlaces.{CallsWritten}
+use Rattle.proc_laws.proofs.PlacesInText.{after, places, Sound, Lies, Reads, lies, lies_left, lies_right, left, right, reads, sign_at}
+use Rattle.proc_laws.proofs.WrittenParts.{Spells, spells_both, none, one, onto, Keeps, Writes, NoCalls, no_call_sign, no_call_after, quiet, renamed_parts}
 use Rattle.proc_laws.proofs.WrittenStatements.{join, word, block, spokens}
-use Rattle.proc_laws.proofs.HeadsInText.{stop_of}
-use Rattle.proc_laws.proofs.WrittenCalls.{PieceHere, PiecesHere, procedures_at, AllWritten, all_written}
+use Rattle.proc_laws.proofs.WrittenCalls.{PiecesHere, procedures_at, AllWritten, all_written}
 use Rattle.proc_laws.proofs.PiecesInText.{item_places, procedures_are, outer_are, items_are}
 
 -- ---- what no refusal says of calls

@@ -1,5 +1,5 @@
 -- What it is for tokens to read as a source: they are spelled by its tree, and each call is of a procedure before it that takes its arguments.
-use Rattle.std.specs.Prelude.{◌≡◌, ℕ, zero, suc, ◌+◌, Bool, true, false, ◌&&◌, nat_eq, nat_le, List, [], ◌∷◌, ◌++◌, map, length, codes, Some, None, if◌then◌else◌}
+use Rattle.std.specs.Prelude.{◌≡◌, ℕ, ◌+◌, Bool, true, false, ◌&&◌, nat_eq, nat_le, List, [], ◌∷◌, ◌++◌, map, length, codes, Some, None, if◌then◌else◌}
 use Rattle.std.specs.List.{flat_map, list_all}
 use Rattle.jade_alphabet.specs.declared.TheConstants.{WORD_LIMIT}
 use Rattle.jade_base.specs.declared.place.Pos.{Pos}
@@ -16,29 +16,7 @@ use Rattle.jade_parser.specs.Grammar.{bytes_of, texts, positions}
 use Rattle.proc_expand.specs.Words.{sign_of, closing, is_after}
 use Rattle.proc_expand.specs.Written.{MadeToken, text_names, fresh_name, expansion}
 use Rattle.proc_laws.specs.ExpandedTree.{expanded_tree}
-use Rattle.proc_laws.specs.SourceTree.{
-  HeadParam,
-  Spoken,
-  Local,
-  Assign,
-  Store,
-  If,
-  IfElse,
-  For,
-  Withonly,
-  With,
-  Declare,
-  Call,
-  Spokens,
-  Done,
-  Then,
-  SpokenProcedure,
-  Piece,
-  AnItem,
-  AProcedure,
-  Unread,
-  SourceText,
-}
+use Rattle.proc_laws.specs.SourceTree.{HeadParam, Spoken, Local, Assign, Store, If, IfElse, For, Withonly, With, Declare, Call, Spokens, Done, Then, Piece, AnItem, AProcedure, Unread, SourceText}
 
 -- ---- the parts of a source, in text order
 
