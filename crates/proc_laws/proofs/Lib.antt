@@ -26,3 +26,6 @@ mod FreshNames
 mod WrittenCalls
 mod PiecesInText
 mod WrittenTree
+mod WrittenNames
+mod WrittenMeaning
+mod ProperTree

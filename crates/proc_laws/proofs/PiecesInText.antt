@@ -448,8 +448,7 @@ module _ (ts : List TokenAt) (end : Pos) where
       let c : List Procedure = pre ++ one ∷ rest in
       let e : c ≡ (pre ++ one ∷ []) ++ rest = sym (append_assoc pre (one ∷ []) rest) in
       let r = go (gone pre k x p params body h) in
-      let inside : (j : ℕ) → k ≤ j → j < after k a → cover c j ≡ true = λ j l m. covered pre rest k x p params body j l m in
-      (
+      let inside : (j : ℕ) → k ≤ j → j < after k a → cover c j ≡ true = λ j l m. covered pre rest k x p params body j l m in (
         split_outer c k a (all_parts ps)
             ∙ (λ i. filter_none (λ j. not (cover c j)) k a (λ j l m. ap not (inside j l m)) i
             ++ (ap (λ (d : List Procedure). filter (λ j. not (cover d j)) (places (after k a) (all_parts ps))) e ∙ r.outer) i),

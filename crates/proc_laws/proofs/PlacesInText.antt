@@ -140,8 +140,7 @@ module _ (ts : List TokenAt) (end : Pos) where
   lies k [] e g s = tt
   lies k (p ∷ ps) e g s =
       let d = drop_token ts k (token_bytes p.token) (bytes_of ps) e in
-      let b = and_parts (nat_le p.nth EXPRESSION_LIMIT) (list_all (λ (q : Part). nat_le q.nth EXPRESSION_LIMIT) ps) s in
-      (
+      let b = and_parts (nat_le p.nth EXPRESSION_LIMIT) (list_all (λ (q : Part). nat_le q.nth EXPRESSION_LIMIT) ps) s in (
         record { below = d.0; bytes = d.1; kept = subst (KeptAt p.at) (pos_is ts k d.0) g.0; short = b.0 },
         lies (suc k) ps d.2 (subst (λ (i : ℕ). Agrees (map (λ (t : TokenAt). t.pos) ts) i ps) (plus_one k) g.1) b.1,
       )

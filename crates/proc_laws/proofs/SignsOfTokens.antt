@@ -31,10 +31,24 @@ word_sign : (is : List ℕ → Bool) (x : List ℕ) → is x ≡ true
     → is (codes "else") ≡ false → is (codes "int") ≡ false → is (codes "bool") ≡ false → is (codes "input") ≡ false → is (codes "object") ≡ false
     → is (codes "objects") ≡ false → sign_of x ≡ (if is_name x then mark.Called else mark.Other)
 word_sign is x h a b c d e f g i j k l m n o p q =
-    rw (differs is x (codes ";") h a, differs is x (codes ",") h b, differs is x (codes "(") h c, differs is x (codes ")") h d,
-    differs is x (codes "[") h e, differs is x (codes "]") h f, differs is x (codes "{") h g, differs is x (codes "}") h i,
-    differs is x (codes "proc") h j, differs is x (codes "main") h k, differs is x (codes "else") h l, differs is x (codes "int") h m,
-    differs is x (codes "bool") h n, differs is x (codes "input") h o, differs is x (codes "object") h p, differs is x (codes "objects") h q) refl
+    rw (
+      differs is x (codes ";") h a,
+      differs is x (codes ",") h b,
+      differs is x (codes "(") h c,
+      differs is x (codes ")") h d,
+      differs is x (codes "[") h e,
+      differs is x (codes "]") h f,
+      differs is x (codes "{") h g,
+      differs is x (codes "}") h i,
+      differs is x (codes "proc") h j,
+      differs is x (codes "main") h k,
+      differs is x (codes "else") h l,
+      differs is x (codes "int") h m,
+      differs is x (codes "bool") h n,
+      differs is x (codes "input") h o,
+      differs is x (codes "object") h p,
+      differs is x (codes "objects") h q,
+    ) refl
 
 name_sign : (x : Name) → is_name x ≡ true → sign_of x ≡ mark.Called
 name_sign x h =

@@ -258,9 +258,10 @@ module _ (ts : List TokenAt) (end : Pos) (follows : (k : ℕ) → is_call (signs
       quiet_tail = (
         no_call_sign ts end (suc k) (ap is_called (sign_at ts end (suc k) (fixed LeftParen) r.1.0)),
         no_calls_both ts end (suc (suc k)) (argument_parts args) (fixed RightParen ∷ fixed Semicolon ∷ [])
-            (calm_no_calls ts end follows (suc (suc k)) (argument_parts args) inside (calm_arguments args).is begun)
-            (no_call_sign ts end j (ap is_called (sign_at ts end j (fixed RightParen) ends.0)),
-            (no_call_sign ts end (suc j) (ap is_called (sign_at ts end (suc j) (fixed Semicolon) ends.1.0)), tt)),
+            (calm_no_calls ts end follows (suc (suc k)) (argument_parts args) inside (calm_arguments args).is begun) (
+              no_call_sign ts end j (ap is_called (sign_at ts end j (fixed RightParen) ends.0)),
+              (no_call_sign ts end (suc j) (ap is_called (sign_at ts end (suc j) (fixed Semicolon) ends.1.0)), tt),
+            ),
       )
 
   -- ---- statements

@@ -11,7 +11,6 @@ use Rattle.jade_syntax.specs.declared.tree.Item.{Item}
 use Rattle.jade_syntax.specs.declared.tree.Item.TheVariants.{Input, Single, Family}
 use Rattle.jade_syntax.specs.declared.tree.Program.{Program}
 use Rattle.jade_syntax.specs.declared.tree.Statement.{Statement}
-use Rattle.jade_syntax.specs.Abstract.{Name}
 use Rattle.jade_parser.specs.declared.Sign.TheVariants.{MainWord, LeftBrace, RightBrace, LeftBracket, RightBracket, Colon, Semicolon, InputWord, ObjectWord, ObjectsWord}
 use Rattle.jade_parser.specs.Spelled.{Part, Parts, fixed, number_part, is_valid, tokens_of, Agrees}
 use Rattle.jade_parser.specs.Statements.{braced, statement_parts, block_parts}
@@ -25,7 +24,7 @@ use Rattle.proc_expand.specs.declared.refusal.Reason.TheVariants.{Shape}
 use Rattle.proc_expand.specs.declared.refusal.Refusal.{Refusal}
 use Rattle.proc_expand.specs.Words.{sign_of, signs, at, before, is_called, is_proc, opens_round, ends_statement, some}
 use Rattle.proc_expand.specs.Refusals.{is_call, begins, proc_fails, call_fails, misplaced, within, is_shape, reason, or_reason, first_reason, refusal}
-use Rattle.proc_expand.specs.Written.{MadeToken, Written, CallWriter, write_places, all_writers, no_writer, items, text_names, fresh_name, expansion}
+use Rattle.proc_expand.specs.Written.{MadeToken, Written, CallWriter, write_places, all_writers, no_writer, items, text_names, fresh_name, expansion, names_at}
 use Rattle.proc_laws.specs.Expansion.{item_name, block_names}
 use Rattle.proc_laws.specs.SourceTree.{Piece, AnItem, AProcedure, Unread, SourceText, items_of, spoken_procedures, spoken_actions}
 use Rattle.proc_laws.specs.SourceReading.{title_parts, free_part, piece_parts, read_parts, main_parts, source_parts, block_of, IsSourceReading, AreWords, made_token, expanded_tokens}
@@ -35,6 +34,7 @@ use Rattle.proc_laws.proofs.PlacesInText.{after, places, Sound, Lies, Reads, lie
 use Rattle.proc_laws.proofs.WrittenParts.{Spells, spells_both, none, one, onto, Keeps, Writes, NoCalls, no_call_sign, no_call_after, quiet, renamed_parts}
 use Rattle.proc_laws.proofs.WrittenStatements.{join, word, block, spokens}
 use Rattle.proc_laws.proofs.WrittenCalls.{PiecesHere, procedures_at, AllWritten, all_written}
+use Rattle.proc_laws.proofs.ProperTree.{proper_tree}
 use Rattle.proc_laws.proofs.PiecesInText.{item_places, procedures_are, outer_are, items_are}
 
 -- ---- what no refusal says of calls
@@ -53,7 +53,7 @@ and_no_reason (suc n) why h k l = by (first_reason n why) (why n) refl refl h (a
         last true q go = let m = leb-true n k q in let s : n ≡ k = omega (arith, m, l) in subst (λ (i : ℕ). why i ≡ None) s f
         last false q go = go k (let m : n ≤ k → ⊥ = λ u. absurd (let v = le-leb n k u in cc) in omega (arith, m))
 
-past_end : (ss : List Sign) (k : ℕ) → length ss ≤ k → at ss k ≡ Other
+pub past_end : (ss : List Sign) (k : ℕ) → length ss ≤ k → at ss k ≡ Other
 past_end [] zero h = refl
 past_end [] (suc k) h = refl
 past_end (s ∷ ss) zero h = absurd (omega (arith, h))
@@ -111,8 +111,7 @@ module _ (ts : List TokenAt) (end : Pos) where
       → PiecesHere ts end k ps
   pieces_here k [] h v = tt
   pieces_here k (AnItem i ∷ ps) h v =
-      let g = all_split good (item_parts i) (flat_map read_parts ps) v in
-      (
+      let g = all_split good (item_parts i) (flat_map read_parts ps) v in (
         reads ts end k (item_parts i) (lies_left ts end k (item_parts i) (flat_map piece_parts ps) h) g.0,
         pieces_here (after k (item_parts i)) ps (lies_right ts end k (item_parts i) (flat_map piece_parts ps) h) g.1,
       )
@@ -121,8 +120,7 @@ module _ (ts : List TokenAt) (end : Pos) where
       let t : Parts = title_parts p.name p.at p.params in
       let g = all_split good (read_parts (AProcedure p)) (flat_map read_parts ps) v in
       let l = lies_left ts end k a (flat_map piece_parts ps) h in
-      let r = reads ts end (suc k) (t ++ braced (block_of p.body)) l.1 g.0 in
-      (
+      let r = reads ts end (suc k) (t ++ braced (block_of p.body)) l.1 g.0 in (
         (l.0, left ts end (suc k) t (braced (block_of p.body)) r, right ts end (suc k) t (braced (block_of p.body)) r),
         pieces_here (after k a) ps (lies_right ts end k a (flat_map piece_parts ps) h) g.1,
       )
@@ -131,8 +129,7 @@ module _ (ts : List TokenAt) (end : Pos) where
       let t : Parts = title_parts x p params in
       let b : Parts = fixed LeftBrace ∷ (map free_part body ++ fixed RightBrace ∷ []) in
       let g = all_split good (read_parts (Unread x p params body)) (flat_map read_parts ps) v in
-      let l = lies_left ts end k a (flat_map piece_parts ps) h in
-      (
+      let l = lies_left ts end k a (flat_map piece_parts ps) h in (
         (l.0, reads ts end (suc k) t (lies_left ts end (suc k) t b l.1) g.0, lies_right ts end (suc k) t b l.1),
         pieces_here (after k a) ps (lies_right ts end k a (flat_map piece_parts ps) h) g.1,
       )
@@ -144,18 +141,45 @@ module _ (ts : List TokenAt) (end : Pos) where
     silent k p s h = no_call_sign ts end k (ap is_called (sign_at ts end k p s) ∙ h)
 
     item_no_calls : (i : Item) (k : ℕ) → Reads ts end k (item_parts i) → NoCalls ts end k (item_parts i)
-    item_no_calls (Input x p) k r =
-        (silent k (fixed InputWord) r.0 refl, (no_call_after ts end follows (suc k) (ap ends_statement (sign_at ts end k (fixed InputWord) r.0)),
-        (silent (suc (suc k)) (fixed Semicolon) r.1.1.0 refl, tt)))
-    item_no_calls (Single x p size) k r =
-        (silent k (fixed ObjectWord) r.0 refl, (no_call_after ts end follows (suc k) (ap ends_statement (sign_at ts end k (fixed ObjectWord) r.0)),
-        (silent (suc (suc k)) (fixed Colon) r.1.1.0 refl, (silent (suc (suc (suc k))) (number_part size) r.1.1.1.0 refl,
-        (silent (suc (suc (suc (suc k)))) (fixed Semicolon) r.1.1.1.1.0 refl, tt)))))
-    item_no_calls (Family x p count size) k r =
-        (silent k (fixed ObjectsWord) r.0 refl, (no_call_after ts end follows (suc k) (ap ends_statement (sign_at ts end k (fixed ObjectsWord) r.0)),
-        (silent (suc (suc k)) (fixed LeftBracket) r.1.1.0 refl, (silent (suc (suc (suc k))) (number_part count) r.1.1.1.0 refl,
-        (silent (suc (suc (suc (suc k)))) (fixed RightBracket) r.1.1.1.1.0 refl, (silent (suc (suc (suc (suc (suc k))))) (fixed Colon) r.1.1.1.1.1.0 refl,
-        (silent (suc (suc (suc (suc (suc (suc k)))))) (number_part size) r.1.1.1.1.1.1.0 refl, (silent (suc (suc (suc (suc (suc (suc (suc k))))))) (fixed Semicolon) r.1.1.1.1.1.1.1.0 refl, tt))))))))
+    item_no_calls (Input x p) k r = (
+      silent k (fixed InputWord) r.0 refl,
+      (
+        no_call_after ts end follows (suc k) (ap ends_statement (sign_at ts end k (fixed InputWord) r.0)),
+        (silent (suc (suc k)) (fixed Semicolon) r.1.1.0 refl, tt),
+      ),
+    )
+    item_no_calls (Single x p size) k r = (
+      silent k (fixed ObjectWord) r.0 refl,
+      (
+        no_call_after ts end follows (suc k) (ap ends_statement (sign_at ts end k (fixed ObjectWord) r.0)),
+        (
+          silent (suc (suc k)) (fixed Colon) r.1.1.0 refl,
+          (
+            silent (suc (suc (suc k))) (number_part size) r.1.1.1.0 refl,
+            (silent (suc (suc (suc (suc k)))) (fixed Semicolon) r.1.1.1.1.0 refl, tt),
+          ),
+        ),
+      ),
+    )
+    item_no_calls (Family x p count size) k r = (
+      silent k (fixed ObjectsWord) r.0 refl,
+      (
+        no_call_after ts end follows (suc k) (ap ends_statement (sign_at ts end k (fixed ObjectsWord) r.0)),
+        (
+          silent (suc (suc k)) (fixed LeftBracket) r.1.1.0 refl,
+          (
+            silent (suc (suc (suc k))) (number_part count) r.1.1.1.0 refl,
+            (
+              silent (suc (suc (suc (suc k)))) (fixed RightBracket) r.1.1.1.1.0 refl,
+              (
+                silent (suc (suc (suc (suc (suc k))))) (fixed Colon) r.1.1.1.1.1.0 refl,
+                (silent (suc (suc (suc (suc (suc (suc k)))))) (number_part size) r.1.1.1.1.1.1.0 refl, (silent (suc (suc (suc (suc (suc (suc (suc k))))))) (fixed Semicolon) r.1.1.1.1.1.1.1.0 refl, tt)),
+              ),
+            ),
+          ),
+        ),
+      ),
+    )
 
     keeps_all : Keeps (λ x. x)
     keeps_all = record { name = λ x h l. h }
@@ -234,98 +258,86 @@ as_program p =
     ap (λ (l : Parts). flat_map item_parts p.items ++ fixed MainWord ∷ fixed LeftBrace ∷ (l ++ fixed RightBrace ∷ [])) (run_is p.main)
     ∙ sym (append_assoc (flat_map item_parts p.items) (fixed MainWord ∷ []) (block_parts p.main))
 
-pub written_reads : (l : TokenList) (q : SourceText) → IsSourceReading l q → refusal l.lexemes ≡ None → AreWords l
-    → IsReading (expanded_tokens l) (expanded_tree (fresh_name (text_names l.lexemes l.end)) q)
-written_reads l q r none_refused words =
-    record {
-      spelled = spelled_by spelt;
-      placed = placed_by spelt;
-      sound = record { proper = r.proper; valid = record { is = valid_by spelt words.each } };
-      short = record { is = short_by spelt };
-    }
-  where
-    ts : List TokenAt
-    ts = l.lexemes
+module _ (l : TokenList) (q : SourceText) (r : IsSourceReading l q) (none_refused : refusal l.lexemes ≡ None) where
+  follows : (k : ℕ) → is_call (signs l.lexemes) k ≡ true → ends_statement (before (signs l.lexemes) k) ≡ true
+  follows = calls_follow l.lexemes none_refused
 
-    end : Pos
-    end = l.end
+  lying : Lies l.lexemes l.end 0 (flat_map piece_parts q.pieces ++ main_parts q.main)
+  lying = lies l.lexemes l.end 0 (source_parts q) r.spelled r.placed r.short.is
 
-    follows : (k : ℕ) → is_call (signs l.lexemes) k ≡ true → ends_statement (before (signs l.lexemes) k) ≡ true
-    follows = calls_follow l.lexemes none_refused
+  valid : (list_all (λ (p : Part). is_valid p.token) (flat_map read_parts q.pieces) ≡ true) × (list_all (λ (p : Part). is_valid p.token) (main_parts q.main) ≡ true)
+  valid = all_split good (flat_map read_parts q.pieces) (main_parts q.main) r.valid.is
 
-    parts : Parts
-    parts = flat_map piece_parts q.pieces
+  here : PiecesHere l.lexemes l.end 0 q.pieces
+  here = pieces_here l.lexemes l.end 0 q.pieces (lies_left l.lexemes l.end 0 (flat_map piece_parts q.pieces) (main_parts q.main) lying) valid.0
 
-    lying : Lies l.lexemes l.end 0 (flat_map piece_parts q.pieces ++ main_parts q.main)
-    lying = lies l.lexemes l.end 0 (source_parts q) r.spelled r.placed r.short.is
+  abbrev km : ℕ
+  km = after 0 (flat_map piece_parts q.pieces)
 
-    valid : (list_all (λ (p : Part). is_valid p.token) (flat_map read_parts q.pieces) ≡ true) × (list_all (λ (p : Part). is_valid p.token) (main_parts q.main) ≡ true)
-    valid = all_split good (flat_map read_parts q.pieces) (main_parts q.main) r.valid.is
+  main_here : Reads l.lexemes l.end (after 0 (flat_map piece_parts q.pieces)) (main_parts q.main)
+  main_here = reads l.lexemes l.end (after 0 (flat_map piece_parts q.pieces)) (main_parts q.main)
+      (lies_right l.lexemes l.end 0 (flat_map piece_parts q.pieces) (main_parts q.main) lying) valid.1
 
-    here : PiecesHere l.lexemes l.end 0 q.pieces
-    here = pieces_here l.lexemes l.end 0 q.pieces (lies_left l.lexemes l.end 0 (flat_map piece_parts q.pieces) (main_parts q.main) lying) valid.0
+  many : length l.lexemes ≡ length (source_parts q)
+  many =
+      let a : length (bytes_of (source_parts q)) ≡ length (texts l) = ap length r.spelled in
+      let b = length-map (tokens_of (source_parts q)) token_bytes in let c = length-map (source_parts q) (λ (p : Part). p.token) in
+      let d = length-map l.lexemes (λ (t : TokenAt). t.bytes) in omega (arith, a, b, c, d)
 
-    km : ℕ
-    km = after 0 (flat_map piece_parts q.pieces)
+  pub same_items : items l.lexemes l.end ≡ map item_name (items_of q.pieces)
+  same_items = items_are l.lexemes l.end q many here main_here r.known
 
-    main_here : Reads l.lexemes l.end (after 0 (flat_map piece_parts q.pieces)) (main_parts q.main)
-    main_here = reads l.lexemes l.end (after 0 (flat_map piece_parts q.pieces)) (main_parts q.main)
-        (lies_right l.lexemes l.end 0 (flat_map piece_parts q.pieces) (main_parts q.main) lying) valid.1
+  abbrev makes : CallTrees
+  makes = all_trees (map item_name (items_of q.pieces)) (fresh_name (text_names l.lexemes l.end)) no_trees (spoken_procedures q.pieces)
 
-    many : length l.lexemes ≡ length (source_parts q)
-    many =
-        let a : length (bytes_of (source_parts q)) ≡ length (texts l) = ap length r.spelled in
-        let b = length-map (tokens_of (source_parts q)) token_bytes in let c = length-map (source_parts q) (λ (p : Part). p.token) in
-        let d = length-map l.lexemes (λ (t : TokenAt). t.bytes) in omega (arith, a, b, c, d)
+  abbrev calls : CallWriter l.lexemes l.end
+  calls = all_writers l.lexemes l.end (no_writer l.lexemes l.end) (procedures_at l.lexemes l.end 0 q.pieces)
 
-    own : List Name
-    own = map item_name (items_of q.pieces)
+  aw : AllWritten l.lexemes l.end follows (map item_name (items_of q.pieces)) same_items (no_writer l.lexemes l.end) no_trees 0 q.pieces q.main
+  aw = all_written l.lexemes l.end follows (map item_name (items_of q.pieces)) same_items (no_writer l.lexemes l.end) no_trees 0 [] q.pieces q.main
+      (record { by = λ k x p args made n b g t a. absurd (cc) }) here r.known
 
-    same_items : items l.lexemes l.end ≡ map item_name (items_of q.pieces)
-    same_items = items_are l.lexemes l.end q many here main_here r.known
+  abbrev made_main : List Statement
+  made_main = (trees makes (λ x. x) q.main 0).made
 
-    makes : CallTrees
-    makes = all_trees (map item_name (items_of q.pieces)) (fresh_name (text_names l.lexemes l.end)) no_trees (spoken_procedures q.pieces)
+  iw : ItemsWritten l.lexemes l.end follows calls 0 q.pieces
+  iw = items_written l.lexemes l.end follows calls 0 q.pieces here
 
-    calls : CallWriter l.lexemes l.end
-    calls = all_writers l.lexemes l.end (no_writer l.lexemes l.end) (procedures_at l.lexemes l.end 0 q.pieces)
+  wm : Writes l.lexemes l.end (λ x. x) (keeps_all l.lexemes l.end follows) calls km (main_parts q.main)
+      (fixed MainWord ∷ braced (map statement_parts made_main)) (block_names (spoken_actions q.main)) 0 (trees makes (λ x. x) q.main 0).next
+  wm =
+      let body : Parts = flat_map (λ (t : Parts). t) (block_of q.main) in
+      join l.lexemes l.end follows (λ x. x) (keeps_all l.lexemes l.end follows) calls makes aw.pieces aw.called
+      (word l.lexemes l.end follows (λ x. x) (keeps_all l.lexemes l.end follows) calls makes aw.pieces aw.called km 0 MainWord main_here.0)
+      (block l.lexemes l.end follows (λ x. x) (keeps_all l.lexemes l.end follows) calls makes aw.pieces aw.called (suc km) 0
+      (trees makes (λ x. x) q.main 0).next (block_of q.main) (map statement_parts made_main) (block_names (spoken_actions q.main)) main_here.1
+      (spokens l.lexemes l.end follows (λ x. x) (keeps_all l.lexemes l.end follows) calls makes aw.pieces aw.called q.main (suc (suc km)) 0
+      (left l.lexemes l.end (suc (suc km)) body (fixed RightBrace ∷ []) main_here.1.1) aw.fits
+      (ap is_proc (sign_at l.lexemes l.end (suc km) (fixed LeftBrace) main_here.1.0))))
 
-    aw : AllWritten l.lexemes l.end follows (map item_name (items_of q.pieces)) same_items (no_writer l.lexemes l.end) no_trees 0 q.pieces q.main
-    aw = all_written l.lexemes l.end follows (map item_name (items_of q.pieces)) same_items (no_writer l.lexemes l.end) no_trees 0 [] q.pieces q.main
-        (record { by = λ k x p args made n b g t a. absurd (cc) }) here r.known
+  is_made : expansion l.lexemes l.end ≡ iw.made ++ (wm.made ++ [])
+  is_made =
+      ap (λ (w : Written). w.tokens)
+      ((λ i. write_places l.lexemes l.end (all_writers l.lexemes l.end (no_writer l.lexemes l.end) (procedures_are l.lexemes l.end q many here main_here r.known i))
+      (λ x. x) 0 (outer_are l.lexemes l.end q many here main_here r.known i) 0)
+      ∙ iw.by (places km (main_parts q.main))
+      ∙ ap (λ (u : List ℕ). onto iw.made (write_places l.lexemes l.end calls (λ x. x) 0 u 0)) (sym (append-nil (places km (main_parts q.main))))
+      ∙ ap (onto iw.made) (wm.by []))
 
-    made_main : List Statement
-    made_main = (trees makes (λ x. x) q.main 0).made
+  spelt : Spells (expansion l.lexemes l.end) (program_parts (expanded_tree (fresh_name (text_names l.lexemes l.end)) q))
+  spelt =
+      subst (λ (u : List MadeToken). Spells u (program_parts (expanded_tree (fresh_name (text_names l.lexemes l.end)) q)))
+      (sym (is_made ∙ ap (λ (u : List MadeToken). iw.made ++ u) (append-nil wm.made)))
+      (subst (Spells (iw.made ++ wm.made)) (as_program (expanded_tree (fresh_name (text_names l.lexemes l.end)) q)) (spells_both iw.spells wm.spells))
 
-    iw : ItemsWritten l.lexemes l.end follows calls 0 q.pieces
-    iw = items_written l.lexemes l.end follows calls 0 q.pieces here
+  pub written_reads : AreWords l → IsReading (expanded_tokens l) (expanded_tree (fresh_name (text_names l.lexemes l.end)) q)
+  written_reads words = record {
+    spelled = spelled_by spelt;
+    placed = placed_by spelt;
+    sound = record { proper = proper_tree (fresh_name (text_names l.lexemes l.end)) q r.proper; valid = record { is = valid_by spelt words.each } };
+    short = record { is = short_by spelt };
+  }
 
-    wm : Writes l.lexemes l.end (λ x. x) (keeps_all l.lexemes l.end follows) calls km (main_parts q.main)
-        (fixed MainWord ∷ braced (map statement_parts made_main)) (block_names (spoken_actions q.main)) 0 (trees makes (λ x. x) q.main 0).next
-    wm =
-        let body : Parts = flat_map (λ (t : Parts). t) (block_of q.main) in
-        join l.lexemes l.end follows (λ x. x) (keeps_all l.lexemes l.end follows) calls makes aw.pieces aw.called
-        (word l.lexemes l.end follows (λ x. x) (keeps_all l.lexemes l.end follows) calls makes aw.pieces aw.called km 0 MainWord main_here.0)
-        (block l.lexemes l.end follows (λ x. x) (keeps_all l.lexemes l.end follows) calls makes aw.pieces aw.called (suc km) 0
-        (trees makes (λ x. x) q.main 0).next (block_of q.main) (map statement_parts made_main) (block_names (spoken_actions q.main)) main_here.1
-        (spokens l.lexemes l.end follows (λ x. x) (keeps_all l.lexemes l.end follows) calls makes aw.pieces aw.called q.main (suc (suc km)) 0
-        (left l.lexemes l.end (suc (suc km)) body (fixed RightBrace ∷ []) main_here.1.1) aw.fits
-        (ap is_proc (sign_at l.lexemes l.end (suc km) (fixed LeftBrace) main_here.1.0))))
-
-    made : List MadeToken
-    made = iw.made ++ (wm.made ++ [])
-
-    is_made : expansion l.lexemes l.end ≡ iw.made ++ (wm.made ++ [])
-    is_made =
-        ap (λ (w : Written). w.tokens)
-        ((λ i. write_places l.lexemes l.end (all_writers l.lexemes l.end (no_writer l.lexemes l.end) (procedures_are l.lexemes l.end q many here main_here r.known i))
-        (λ x. x) 0 (outer_are l.lexemes l.end q many here main_here r.known i) 0)
-        ∙ iw.by (places km (main_parts q.main))
-        ∙ ap (λ (u : List ℕ). onto iw.made (write_places l.lexemes l.end calls (λ x. x) 0 u 0)) (sym (append-nil (places km (main_parts q.main))))
-        ∙ ap (onto iw.made) (wm.by []))
-
-    spelt : Spells (expansion l.lexemes l.end) (program_parts (expanded_tree (fresh_name (text_names l.lexemes l.end)) q))
-    spelt =
-        subst (λ (u : List MadeToken). Spells u (program_parts (expanded_tree (fresh_name (text_names l.lexemes l.end)) q)))
-        (sym (is_made ∙ ap (λ (u : List MadeToken). iw.made ++ u) (append-nil wm.made)))
-        (subst (Spells (iw.made ++ wm.made)) (as_program (expanded_tree (fresh_name (text_names l.lexemes l.end)) q)) (spells_both iw.spells wm.spells))
+  -- the names of `main`
+  pub main_names : names_at l.lexemes l.end (places (after 0 (flat_map piece_parts q.pieces)) (main_parts q.main)) ≡ block_names (spoken_actions q.main)
+  main_names = wm.names

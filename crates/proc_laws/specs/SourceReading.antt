@@ -4,19 +4,21 @@ use Rattle.std.specs.List.{flat_map, list_all}
 use Rattle.jade_alphabet.specs.declared.TheConstants.{WORD_LIMIT}
 use Rattle.jade_base.specs.declared.place.Pos.{Pos}
 use Rattle.jade_lexer.specs.Lexemes.{TokenAt, TokenList}
+use Rattle.jade_syntax.specs.declared.shapes.place.BlockKind.{BlockKind}
+use Rattle.jade_syntax.specs.declared.shapes.place.BlockKind.TheVariants.{Main}
 use Rattle.jade_syntax.specs.declared.tree.Expr.{Expr}
 use Rattle.jade_syntax.specs.declared.tree.Statement.TheOpen.{Statement-F}
 use Rattle.jade_syntax.specs.Abstract.{Name}
 use Rattle.jade_syntax.specs.Numbering.{same_name}
+use Rattle.jade_syntax.specs.Shapes.{at_place, all_placed}
 use Rattle.jade_parser.specs.declared.Sign.TheVariants.{MainWord, LeftParen, RightParen, LeftBrace, RightBrace, Comma, Semicolon}
 use Rattle.jade_parser.specs.Spelled.{Called, Part, Parts, plain, fixed, marked, outer, AllValid, AllShort, Agrees}
 use Rattle.jade_parser.specs.Statements.{kind_word, at_statement, braced}
-use Rattle.jade_parser.specs.Programs.{item_parts, Proper}
+use Rattle.jade_parser.specs.Programs.{item_parts}
 use Rattle.jade_parser.specs.Grammar.{bytes_of, texts, positions}
 use Rattle.proc_expand.specs.Words.{sign_of, closing, is_after}
-use Rattle.proc_expand.specs.Written.{MadeToken, text_names, fresh_name, expansion}
-use Rattle.proc_laws.specs.ExpandedTree.{expanded_tree}
-use Rattle.proc_laws.specs.SourceTree.{HeadParam, Spoken, Local, Assign, Store, If, IfElse, For, Withonly, With, Declare, Call, Spokens, Done, Then, Piece, AnItem, AProcedure, Unread, SourceText}
+use Rattle.proc_expand.specs.Written.{MadeToken, expansion}
+use Rattle.proc_laws.specs.SourceTree.{HeadParam, Spoken, Local, Assign, Store, If, IfElse, For, Withonly, With, Declare, Call, Spokens, Done, Then, SpokenProcedure, Piece, AnItem, AProcedure, Unread, SourceText, spoken_procedures}
 
 -- ---- the parts of a source, in text order
 
@@ -137,15 +139,51 @@ abbrev pub fits_after : List Piece → List Piece → Spokens → Bool
 fits_after before [] main = all_fit before main
 fits_after before (p ∷ ps) main = piece_fits before p && fits_after (p ∷ before) ps main
 
+-- ---- where statements stand
+
+-- `calls` tells of each name where a call of it may stand
+module _ (calls : Name → BlockKind → Bool) where
+  abbrev mutual
+    -- where a statement may stand: as in a program
+    pub stands : Spoken → BlockKind → Bool
+    stands (Local kind x at e) = at_place (Statement-F.Local kind x at e)
+    stands (Assign x at e) = at_place (Statement-F.Assign x at e)
+    stands (Store c e) = at_place (Statement-F.Store c e)
+    stands (If e first) = at_place (Statement-F.If e (all_stand first) None)
+    stands (IfElse e first other) = at_place (Statement-F.If e (all_stand first) (Some (all_stand other)))
+    stands (For x at low high body) = at_place (Statement-F.For x at low high (all_stand body))
+    stands (Withonly at section names body) = at_place (Statement-F.Withonly at (all_stand section) names (all_stand body))
+    stands (With at section) = at_place (Statement-F.With at (all_stand section))
+    stands (Declare how at o) = at_place (Statement-F.Declare how at o)
+    stands (Call x at args) = calls x
+
+    -- of each statement of a block
+    pub all_stand : Spokens → List (BlockKind → Bool)
+    all_stand Done = []
+    all_stand (Then a more) = stands a ∷ all_stand more
+
+-- one procedure more, for calls of its name: they may stand where each statement of its body may
+abbrev pub and_stands : (Name → BlockKind → Bool) → SpokenProcedure → Name → BlockKind → Bool
+and_stands calls p x place = if same_name x p.name then all_placed place (all_stand calls p.body) else calls x place
+
+-- all procedures, in text order
+abbrev pub calls_stand : (Name → BlockKind → Bool) → List SpokenProcedure → Name → BlockKind → Bool
+calls_stand calls [] = calls
+calls_stand calls (p ∷ ps) = calls_stand (and_stands calls p) ps
+
+-- each statement of `main`, and of what it calls, stands where the grammar has it
+abbrev pub is_proper : SourceText → Bool
+is_proper q = all_placed Main (all_stand (calls_stand (λ x place. true) (spoken_procedures q.pieces)) q.main)
+
 -- the tokens are the source's, each place that the tree keeps of a token is that token's, names and numbers are such, no outermost expression has
--- more than 256 tokens, calls are of procedures before them, and the statements that stand for the source stand where the grammar has them
+-- more than 256 tokens, calls are of procedures before them, and statements stand where the grammar has them
 pub record IsSourceReading (l : TokenList) (q : SourceText) : Type 0 where
   pub spelled : bytes_of (source_parts q) ≡ texts l
   pub placed : Agrees (positions l) 0 (source_parts q)
   pub valid : AllValid (flat_map read_parts q.pieces ++ main_parts q.main)
   pub short : AllShort (source_parts q)
   pub known : fits_after [] q.pieces q.main ≡ true
-  pub proper : Proper (expanded_tree (fresh_name (text_names l.lexemes l.end)) q)
+  pub proper : is_proper q ≡ true
 
 -- ---- the tokens that are written
 

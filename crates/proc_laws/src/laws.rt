@@ -3,7 +3,7 @@
 ghost use Rattle.std.specs.Prelude.{◌≡◌, ℕ, List, [], ℤ, map, not, true, None};
 ghost use Rattle.jade_base.specs.declared.place.Pos.{Pos};
 ghost use Rattle.jade_lexer.specs.Lexemes.{TokenList};
-ghost use Rattle.jade_parser.specs.Grammar.{IsReading};
+ghost use Rattle.jade_parser.specs.Grammar.{IsReading, texts, positions};
 ghost use Rattle.jade_syntax.specs.declared.tree.Program.{Program};
 ghost use Rattle.jade_syntax.specs.PlacedImage.{placed_program};
 ghost use Rattle.replaced_trees.specs.MovedTree.{tokens_moved};
@@ -82,3 +82,17 @@ pub fn written_is_the_tree()
     ensures { (l : TokenList) → (q : SourceText) → IsSourceReading l q → refusal l.lexemes ≡ None → AreWords l
         → IsReading (expanded_tokens l) (expanded_tree (fresh_name (text_names l.lexemes l.end)) q) }
 {}
+
+/// A law of programs with procedures, which does nothing: where tokens read as a source and are not
+/// refused, then any program without static faults that the tokens that are written for them read as,
+/// wherever these stand, does what the source does, with its faults at their origins.
+pub fn written_does_as_its_source()
+    ensures { (origin : Pos → Pos) → (l : TokenList) → (q : SourceText) → IsSourceReading l q → refusal l.lexemes ≡ None
+        → (there : TokenList) → texts there ≡ texts (expanded_tokens l) → map origin (positions there) ≡ positions (expanded_tokens l)
+        → (p : Program) → IsReading there p → static_faults (placed_program p) ≡ []
+        → (numbers : List ℤ) → (limit : ℕ)
+        → moved_course origin (root_course (program p) numbers limit) ≡ source_course (source_of q) numbers limit }
+{
+    erased_is_program();
+    one_tree();
+}
