@@ -6,15 +6,9 @@ use Rattle.jade_base.specs.declared.place.Pos.{Pos}
 use Rattle.jade_lexer.specs.Lexemes.{TokenAt}
 use Rattle.jade_syntax.specs.Abstract.{Name}
 use Rattle.jade_syntax.specs.Numbering.{same_name}
-use Rattle.proc_expand.specs.declared.sign.Sign.{Sign}
-use Rattle.proc_expand.specs.declared.sign.Sign.TheVariants.{ItemWord}
 use Rattle.proc_expand.specs.Words.{bytes_at}
 use Rattle.proc_expand.specs.Names.{is_among, place_among}
 use Rattle.proc_expand.specs.Written.{is_variable, free_number}
-
-abbrev pub is_item_word : Sign → Bool
-is_item_word ItemWord = true
-is_item_word _ = false
 
 -- the names of some entries, the newest first, in the order in which they were declared
 abbrev pub names_of : List (Name × ℕ) → List Name

@@ -69,6 +69,10 @@ abbrev pub is_kind : Sign → Bool
 is_kind Kind = true
 is_kind _ = false
 
+abbrev pub is_item_word : Sign → Bool
+is_item_word ItemWord = true
+is_item_word _ = false
+
 abbrev pub is_semicolon : Sign → Bool
 is_semicolon Semicolon = true
 is_semicolon _ = false

@@ -7,11 +7,9 @@ use Rattle.jade_base.specs.declared.place.Pos.{Pos}
 use Rattle.jade_lexer.specs.Lexemes.{TokenAt, TokenList}
 use Rattle.jade_syntax.specs.Abstract.{Name}
 use Rattle.jade_syntax.specs.Numbering.{same_name}
-use Rattle.proc_expand.specs.declared.sign.Sign.{Sign}
-use Rattle.proc_expand.specs.declared.sign.Sign.TheVariants.{ItemWord, Called}
 use Rattle.proc_expand.specs.declared.sign.End.{End}
 use Rattle.proc_expand.specs.declared.procedures.Procedure.{Procedure}
-use Rattle.proc_expand.specs.Words.{signs, is_called, at, bytes_at, those, end_place}
+use Rattle.proc_expand.specs.Words.{signs, is_called, is_item_word, at, bytes_at, those, end_place}
 use Rattle.proc_expand.specs.Names.{is_among, first_places, place_among}
 use Rattle.proc_expand.specs.Refusals.{begins, procedure, param_place, is_call, call_end, commas, count}
 
@@ -67,14 +65,13 @@ module _ (ts : List TokenAt) (end : Pos) where
   abbrev pub text_names : List Name
   text_names = map (bytes_at ts) (those (length ts) (λ k. is_called (at (signs ts) k)))
 
-  -- the names that stand directly after `input`, `object` or `objects`
-  abbrev pub item_names_from : List Sign → ℕ → List Name
-  item_names_from [] k = []
-  item_names_from (ItemWord ∷ Called ∷ ss) k = bytes_at ts (suc k) ∷ item_names_from ss (suc (suc k))
-  item_names_from (s ∷ ss) k = item_names_from ss (suc k)
+  -- `input`, `object` or `objects` stands at a place outside of procedures, and a name directly after it
+  abbrev pub before_item : ℕ → Bool
+  before_item k = is_item_word (at (signs ts) k) && is_called (at (signs ts) (suc k)) && not (in_procedure k)
 
+  -- the names of items
   abbrev pub items : List Name
-  items = item_names_from (signs ts) 0
+  items = map (λ k. bytes_at ts (suc k)) (those (length ts) before_item)
 
   -- the numbers from k on, n of them
   abbrev pub from : (k n : ℕ) → List ℕ
@@ -175,10 +172,6 @@ module _ (ts : List TokenAt) (end : Pos) where
 
   abbrev pub no_writer : CallWriter
   no_writer k args n = record { tokens = []; next = n }
-
-  -- a place lies in a procedure
-  abbrev pub in_procedure : ℕ → Bool
-  in_procedure k = list_any (λ (p : Procedure). nat_le p.place k && nat_le k (closed_at p.end)) procedures
 
   -- the tokens of the expanded text
   abbrev pub expansion : List MadeToken

@@ -4,3 +4,4 @@ pub mod Expansion
 pub mod Moved
 pub mod SourceTree
 pub mod ExpandedTree
+pub mod SourceReading

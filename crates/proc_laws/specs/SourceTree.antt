@@ -1,5 +1,5 @@
 -- The tree of a program with procedures: that of a program, with one more statement, the call, and one more item, the procedure.
--- Of a procedure that is never called its tokens alone are kept.
+-- Of a procedure that is never called the body is kept as its tokens alone.
 use Rattle.std.specs.Prelude.{ℕ, List, [], ◌∷◌, map}
 use Rattle.jade_base.specs.declared.place.Pos.{Pos}
 use Rattle.jade_syntax.specs.declared.tree.Item.{Item}
@@ -46,11 +46,11 @@ pub record SpokenProcedure : Type 0 where
   pub params : List HeadParam
   pub body : Spokens
 
--- what stands before `main`: an item, a procedure, or one that is never called, of which nothing is read
+-- what stands before `main`: an item, a procedure, or one that is never called, whose body is not read
 pub data Piece : Type 0 where
   AnItem : Item → Piece
   AProcedure : SpokenProcedure → Piece
-  Unread : List (List ℕ) → Piece
+  Unread : Name → Pos → List HeadParam → (body : List (List ℕ)) → Piece
 
 -- a whole source
 pub record SourceText : Type 0 where
@@ -81,13 +81,13 @@ abbrev pub items_of : List Piece → List Item
 items_of [] = []
 items_of (AnItem i ∷ ps) = i ∷ items_of ps
 items_of (AProcedure p ∷ ps) = items_of ps
-items_of (Unread tokens ∷ ps) = items_of ps
+items_of (Unread x at params body ∷ ps) = items_of ps
 
 abbrev pub spoken_procedures : List Piece → List SpokenProcedure
 spoken_procedures [] = []
 spoken_procedures (AnItem i ∷ ps) = spoken_procedures ps
 spoken_procedures (AProcedure p ∷ ps) = p ∷ spoken_procedures ps
-spoken_procedures (Unread tokens ∷ ps) = spoken_procedures ps
+spoken_procedures (Unread x at params body ∷ ps) = spoken_procedures ps
 
 abbrev pub param : HeadParam → Param
 param p = record { kind = p.kind; name = p.name }

@@ -1,9 +1,9 @@
 //! What is proved of calls.
 
-ghost use Rattle.std.specs.Prelude.{◌≡◌, ℕ, List, [], ℤ, map, not, true};
+ghost use Rattle.std.specs.Prelude.{◌≡◌, ℕ, List, [], ℤ, map, not, true, None};
 ghost use Rattle.jade_base.specs.declared.place.Pos.{Pos};
 ghost use Rattle.jade_lexer.specs.Lexemes.{TokenList};
-ghost use Rattle.jade_parser.specs.Grammar.{IsReading};
+ghost use Rattle.jade_parser.specs.Grammar.{IsReading, texts, positions};
 ghost use Rattle.jade_syntax.specs.declared.tree.Program.{Program};
 ghost use Rattle.jade_syntax.specs.PlacedImage.{placed_program};
 ghost use Rattle.replaced_trees.specs.MovedTree.{tokens_moved};
@@ -11,12 +11,14 @@ ghost use Rattle.jade_syntax.specs.Erased.{erased_program};
 ghost use Rattle.jade_syntax.specs.Placed.{PlacedProgram};
 ghost use Rattle.jade_syntax.specs.StaticFaults.{static_faults};
 ghost use Rattle.proc_laws.specs.Moved.{moved_course, moved_program};
-ghost use Rattle.proc_expand.specs.Written.{fresh_name};
+ghost use Rattle.proc_expand.specs.Refusals.{refusal};
+ghost use Rattle.proc_expand.specs.Written.{fresh_name, text_names};
 ghost use Rattle.jade_meaning.specs.Course.{root_course};
 ghost use Rattle.jade_syntax.specs.Abstract.{Name};
 ghost use Rattle.proc_laws.specs.Source.{SourceProgram};
 ghost use Rattle.proc_laws.specs.SourceTree.{SourceText, source_of};
 ghost use Rattle.proc_laws.specs.ExpandedTree.{expanded_tree};
+ghost use Rattle.proc_laws.specs.SourceReading.{IsSourceReading, AreWords, expanded_tokens};
 ghost use Rattle.jade_syntax.specs.Image.{program};
 ghost use Rattle.proc_laws.specs.SourceMeaning.{source_course};
 ghost use Rattle.proc_laws.specs.Expansion.{AreFresh, Each, block_names, expanded_program, sets_all, item_name};
@@ -66,6 +68,28 @@ pub fn tokens_do_as_their_source()
         → ((x : Name) → is_among (block_names (source_of q).main) x ≡ true → is_among names x ≡ true)
         → (tokens : TokenList) → IsReading (tokens_moved origin tokens) (expanded_tree (fresh_name names) q)
         → (p : Program) → IsReading tokens p → static_faults (placed_program p) ≡ []
+        → (numbers : List ℤ) → (limit : ℕ)
+        → moved_course origin (root_course (program p) numbers limit) ≡ source_course (source_of q) numbers limit }
+{
+    erased_is_program();
+    one_tree();
+}
+
+/// A law of programs with procedures, which does nothing: where tokens read as a source and are not
+/// refused, and no token that is written for them is longer than a word may be, what is written for
+/// them, each token at its origin, reads as the tree of the expanded program.
+pub fn written_is_the_tree()
+    ensures { (l : TokenList) → (q : SourceText) → IsSourceReading l q → refusal l.lexemes ≡ None → AreWords l
+        → IsReading (expanded_tokens l) (expanded_tree (fresh_name (text_names l.lexemes l.end)) q) }
+{}
+
+/// A law of programs with procedures, which does nothing: where tokens read as a source and are not
+/// refused, then any program without static faults that the tokens that are written for them read as,
+/// wherever these stand, does what the source does, with its faults at their origins.
+pub fn written_does_as_its_source()
+    ensures { (origin : Pos → Pos) → (l : TokenList) → (q : SourceText) → IsSourceReading l q → refusal l.lexemes ≡ None
+        → (there : TokenList) → texts there ≡ texts (expanded_tokens l) → map origin (positions there) ≡ positions (expanded_tokens l)
+        → (p : Program) → IsReading there p → static_faults (placed_program p) ≡ []
         → (numbers : List ℤ) → (limit : ℕ)
         → moved_course origin (root_course (program p) numbers limit) ≡ source_course (source_of q) numbers limit }
 {
