@@ -2,6 +2,8 @@
 //! without words a few numbers of them once each. With a third word, 1, the entries are readers that
 //! all hold at once, and each asks what keeps it from the object; with 2 each is asked for what
 //! would keep it from writing. `bench/shelf` times it.
+//!
+//! Floor `bench`, over `jade_base` and `object_shelf`.
 #![tactic(auto)]
 
 use jade_base::{Memory, Mode, Path, Right, Rights};

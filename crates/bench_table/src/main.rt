@@ -4,6 +4,9 @@
 //! object, and the child takes the object, gives it back, leaves it and ends. So many other tasks
 //! are live all the while, and no try is made at them. There are no workers, and no report is made
 //! in the end. `bench/table` times it.
+//!
+//! Floor `bench`, over `jade_base`, `jade_lexer`, `jade_meaning`, `jade_parser`, `jade_syntax`,
+//! `jade_types`, `object_table`, `task_codegen` and `task_suspend`.
 #![tactic(auto)]
 
 mod cycles;

@@ -1,6 +1,9 @@
 //! What is proved of cores beside the laws of schedule_core: that picks decide what is played, what is
 //! left of a run and in which order it stands, contents by the place of a task in the serial order,
 //! that full turn lists can be played to their end, and that a task's children can be counted.
+//!
+//! Floor `schedule`, over `jade_base`, `jade_list`, `jade_meaning`, `jade_syntax`, `object_shelf`,
+//! `schedule_core` and `task_roll`.
 #![tactic(auto)]
 
 ghost use Rattle.std.specs.Prelude.{◌≡◌, ◌↔◌, false, ℕ, ℤ, List};

@@ -1,4 +1,6 @@
 //! Which fault of a run comes first, and in which part a run passes its limit of steps.
+//!
+//! Floor `base`, over `jade_base` and `jade_list`.
 #![tactic(auto)]
 
 pub mod limit;

@@ -1,4 +1,6 @@
 //! The program `jade`: the words after its name, standard input and standard output.
+//!
+//! Floor `command`, over `jade_base` and `jade_run`.
 #![tactic(auto)]
 
 use jade_base::{StdSink, StdSource, Word};

@@ -1,4 +1,6 @@
 //! The bytes that words are made of, and the limits of words, numbers, brackets and expressions.
+//!
+//! Floor `base`, over no crate.
 #![tactic(auto)]
 
 pub mod letters;

@@ -1,5 +1,7 @@
 //! What every crate of Jade speaks of: places, paths, rights, contents, faults, reports, and the
 //! bytes that come in and go out.
+//!
+//! Floor `base`, over `jade_list`, with `smallvec` of the kit.
 #![tactic(auto)]
 
 mod calls;

@@ -37,6 +37,15 @@ impl Path {
         Ok(Path { numbers })
     }
 
+    /// The path with these numbers, of which there is one at least. The error is want of memory.
+    pub fn of(alloc: Global, numbers: &[u32]) -> Result<Path, Memory>
+        requires { 0 < length numbers.now }
+        ensures { IfOk result (λ path. path ≡ numbers.now) }
+    {
+        let numbers = SmallVec::from_slice(alloc, numbers)?;
+        Ok(Path { numbers })
+    }
+
     /// The path of this task's child with a number. The error is want of memory.
     pub fn child(&self, alloc: Global, number: u32) -> Result<Path, Memory>
         ensures { IfOk result (λ path. path ≡ self.now ++ number ∷ []) }

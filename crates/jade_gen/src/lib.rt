@@ -1,4 +1,6 @@
 //! Texts of programs that are made from a number.
+//!
+//! Floor `text`, over `jade_base`, with `itoa` of the kit.
 #![tactic(auto)]
 
 #[cfg(test)]

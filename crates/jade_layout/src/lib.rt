@@ -1,4 +1,6 @@
 //! The printed layout of programs.
+//!
+//! Floor `text`, over `jade_alphabet`, `jade_base`, `jade_lexer`, `jade_list` and `jade_syntax`.
 #![tactic(auto)]
 
 mod expressions;

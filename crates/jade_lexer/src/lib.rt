@@ -1,4 +1,6 @@
 //! The lexical grammar: a text cut into its tokens, or its first refused place.
+//!
+//! Floor `text`, over `jade_alphabet` and `jade_base`.
 #![tactic(auto)]
 
 mod alphabet;

@@ -1,4 +1,6 @@
 //! The meaning of programs: what each task says of itself, the serial run, and the answer.
+//!
+//! Floor `meaning`, over `access_spec`, `jade_base`, `jade_list` and `jade_syntax`.
 #![tactic(auto)]
 
 pub mod commuting;

@@ -1,5 +1,7 @@
 //! The parser: from the tokens of a text to the tree of its program, or to the first token that is
 //! refused, or to the 257th token of an outermost expression.
+//!
+//! Floor `text`, over `jade_alphabet`, `jade_base`, `jade_lexer`, `jade_list` and `jade_syntax`.
 #![tactic(auto)]
 
 mod begins;

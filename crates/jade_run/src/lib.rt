@@ -1,4 +1,9 @@
 //! The commands: from words and bytes to a text and a status.
+//!
+//! Floor `command`, over `erased_places`, `fault_order`, `jade_base`, `jade_gen`, `jade_layout`,
+//! `jade_lexer`, `jade_list`, `jade_meaning`, `jade_parser`, `jade_reading`, `jade_syntax`,
+//! `jade_types`, `number_words`, `object_table`, `serial_machine`, `steal_workers` and
+//! `task_codegen`, with `itoa` of the kit.
 #![tactic(auto)]
 
 pub mod answer;

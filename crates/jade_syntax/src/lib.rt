@@ -1,4 +1,6 @@
 //! The tree of a program, the names in it, and what they stand for.
+//!
+//! Floor `text`, over `jade_alphabet`, `jade_base` and `jade_list`.
 #![tactic(auto)]
 
 pub mod checked;

@@ -1,4 +1,6 @@
 //! Numbers as they are spelled: in decimal, without a needless zero.
+//!
+//! Floor `base`, with `itoa` of the kit.
 #![tactic(auto)]
 
 pub mod numbers;

@@ -1,4 +1,7 @@
 //! Procedures: what refuses a text with them, and on the way to the text without them the names that it has.
+//!
+//! Floor `text`, over `jade_alphabet`, `jade_base`, `jade_lexer`, `jade_list`, `jade_syntax` and
+//! `name_scope`, with `itoa` of the kit.
 #![tactic(auto)]
 
 mod brackets;
@@ -8,6 +11,7 @@ mod frame;
 mod fresh;
 mod known;
 mod naming;
+mod outer;
 mod places;
 pub mod procedures;
 pub mod refusal;

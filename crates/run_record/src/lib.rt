@@ -1,4 +1,7 @@
 //! The recording of a run as text: written, and read.
+//!
+//! Floor `command`, over `jade_alphabet`, `jade_base`, `jade_list` and `number_words`, with `itoa`
+//! of the kit.
 #![tactic(auto)]
 
 mod labels;

@@ -8,11 +8,11 @@ use crate::keeper::Kept;
 use crate::signals::Signals;
 use crate::worker::Worker;
 use crossbeam_utils::CachePadded;
-use fair_deque::Thief;
 use jade_base::ObjectId;
 use object_table::ObjectTable;
 use std::sync::Mutex;
 use std::sync::atomic::{AtomicU64, Ordering};
+use task_deque::Thief;
 use task_suspend::{Capsule, CapsuleLine, Rooms, RunName};
 
 /// A worker of the run.

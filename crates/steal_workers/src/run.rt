@@ -12,7 +12,6 @@ use crate::keeper::Over;
 use crate::signals::{Signals, padded_count};
 use crate::worker::Worker;
 use crossbeam_utils::CachePadded;
-use fair_deque::{Owner, Thief, empty, put_task, thief_of};
 use jade_base::Memory;
 use jade_meaning::Plan;
 use object_table::{ObjectTable, Ran, TaskPass};
@@ -22,6 +21,7 @@ use std::sync::atomic::AtomicU64;
 use std::sync::{Mutex, Wait};
 use std::thread::Threads;
 use task_codegen::Compiled;
+use task_deque::{Owner, Thief, empty, put_task, thief_of};
 use task_suspend::{Capsule, CapsuleLine, Rooms, RunName};
 
 /// What is run: the code of a program, a number for each of its inputs, and the limit of its steps.

@@ -1,8 +1,8 @@
 //! One worker.
 
 use crossbeam_deque::Steal;
-use fair_deque::{Owner, Thief, put_task, steal_task, take_task, visit};
 use std::mem;
+use task_deque::{Owner, Thief, put_task, steal_task, take_task, visit};
 
 /// A worker: its place among the workers, for how many rounds it has found nothing that goes on, the
 /// task that it goes on with next, which others don't see, its ready tasks, whether the others see that

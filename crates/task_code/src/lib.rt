@@ -1,4 +1,6 @@
 //! The code of a program, the rules that it keeps, and the first place where it does not.
+//!
+//! Floor `code`, over `code_meaning`, `jade_base`, `jade_meaning` and `jade_syntax`.
 #![tactic(auto)]
 
 pub mod decoded;

@@ -1,6 +1,9 @@
 //! Prints the tasks of a program, by a serial run of it: what each declares, each of its asks with the
 //! steps that it has begun by then, and the line of its `withonly`. The words are LIMIT NUMBER*, the
 //! text is read from standard input. `tools/graph.py` says what each line means, and draws them.
+//!
+//! Floor `pictures`, over `access_spec`, `code_meaning`, `jade_base`, `jade_syntax`,
+//! `picture_base`, `task_code`, `task_codegen` and `task_machine`.
 #![tactic(auto)]
 
 mod creations;

@@ -1,4 +1,7 @@
 //! Runs the code of a task, up to the next thing that the task asks for.
+//!
+//! Floor `code`, over `access_spec`, `code_meaning`, `jade_base`, `jade_meaning`, `jade_syntax`,
+//! `spec_cover` and `task_code`.
 #![tactic(auto)]
 
 mod entries;

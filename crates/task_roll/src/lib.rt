@@ -1,4 +1,6 @@
 //! The live tasks in serial order, and what the parts of tasks leave.
+//!
+//! Floor `schedule`, over `jade_base` and `jade_list`.
 #![tactic(auto)]
 
 pub mod note;

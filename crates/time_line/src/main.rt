@@ -2,6 +2,9 @@
 //! after that the objects. The words are WORKERS LIMIT NUMBER*, the text is read from standard input.
 //! The times are measured, and nothing is proved of them. `tools/timeline.py` says what each line
 //! means, and draws them. After the word `untimed`, times and threads are left out.
+//!
+//! Floor `pictures`, over `jade_base`, `jade_meaning`, `jade_syntax`, `object_table`,
+//! `picture_base`, `steal_workers` and `task_codegen`.
 #![tactic(auto)]
 
 mod answer;

@@ -1,4 +1,6 @@
 //! What the programs share that run cases of standard input.
+//!
+//! Floor `worked`, over `jade_base`, with `bstr` of the kit.
 #![tactic(auto)]
 
 ghost use Rattle.std.specs.Prelude.{◌≡◌};

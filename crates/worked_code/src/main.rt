@@ -1,4 +1,7 @@
 //! Compiles a program, and prints the instructions of its bodies.
+//!
+//! Floor `worked`, over `code_meaning`, `jade_base`, `jade_lexer`, `jade_parser`, `jade_syntax`,
+//! `jade_types`, `task_code` and `task_codegen`.
 #![tactic(auto)]
 
 use code_meaning::Body;

@@ -1,5 +1,8 @@
 //! Checks a program, and prints what each of its names stands for, in text order, and the number of
 //! cells of each object, as the plan of a run tells it.
+//!
+//! Floor `worked`, over `jade_base`, `jade_lexer`, `jade_meaning`, `jade_parser`, `jade_syntax` and
+//! `jade_types`.
 #![tactic(auto)]
 
 use jade_base::{ObjectId, StdSource, read_text};

@@ -1,5 +1,7 @@
 //! The pieces of the low crates at small examples: paths, specifications, contents, sources, sinks,
 //! names and trees. It prints what each comes to.
+//!
+//! Floor `worked`, over `jade_base`, `jade_list` and `jade_syntax`.
 #![tactic(auto)]
 
 mod bytes;

@@ -5,6 +5,10 @@
 //! refused, it prints what `run` would write. Where the turns are in the order of creation, both
 //! serial runs, the plain one and that of the code, must come to the same: where one does not, it
 //! prints a line that says so.
+//!
+//! Floor `worked`, over `fault_order`, `jade_base`, `jade_lexer`, `jade_meaning`, `jade_parser`,
+//! `jade_syntax`, `jade_types`, `schedule_core`, `serial_machine`, `task_codegen` and
+//! `worked_case`.
 #![tactic(auto)]
 
 mod case;

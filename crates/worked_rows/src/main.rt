@@ -4,6 +4,8 @@
 //! piece, with no line feed before or after it. Before the cases it runs one program over a source
 //! and a sink of which a call fails, and other commands, and prints how many runs were shown to the
 //! witness.
+//!
+//! Floor `worked`, over `jade_base`, `jade_run` and `worked_case`.
 #![tactic(auto)]
 
 ghost use Rattle.std.specs.Prelude.{None};

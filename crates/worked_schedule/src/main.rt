@@ -1,5 +1,7 @@
 //! Walks a program event by event: a task that writes a cell, and `main`, which then adds one to it.
 //! It prints each event with what it carries; every read is answered with 5.
+//!
+//! Floor `worked`, over `jade_base`, `jade_lexer`, `jade_meaning`, `jade_parser` and `jade_syntax`.
 #![tactic(auto)]
 
 use jade_base::Memory;

@@ -2,6 +2,9 @@
 //! task asks for. It prints of each try the task, how many events it has done, what it asks for,
 //! what came of the try, and which tasks come out of a room; then the report. The schedules differ,
 //! the reports don't.
+//!
+//! Floor `worked`, over `jade_base`, `jade_lexer`, `jade_meaning`, `jade_parser`, `jade_syntax`,
+//! `jade_types`, `object_table`, `task_codegen`, `task_machine` and `task_suspend`.
 #![tactic(auto)]
 
 mod run;

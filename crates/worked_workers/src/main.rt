@@ -4,6 +4,8 @@
 //! the words of a `run` or a `drill`, and the holds, each of a task at an ask of its own until
 //! another is at one of its own. The lines up to the next one are its text, with a line feed between
 //! two lines. A line `* N PIECE` stands for N times the piece.
+//!
+//! Floor `worked`, over `jade_base`, `jade_gen`, `jade_run`, `steal_workers` and `worked_case`.
 #![tactic(auto)]
 
 mod case;

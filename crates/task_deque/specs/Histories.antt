@@ -2,7 +2,7 @@
 use Rattle.std.specs.Prelude.{◌≡◌, ℕ, ◌+◌, ◌≤◌, List, [], ◌∷◌, length}
 use mathlib.Core.Option.{some}
 use lib.ListN.{get_elem?}
-use Rattle.fair_deque.specs.declared.History.{History}
+use Rattle.task_deque.specs.declared.History.{History}
 
 -- the weights of items, added up
 abbrev pub weight : {X : Type 0} → (X → ℕ) → List X → ℕ

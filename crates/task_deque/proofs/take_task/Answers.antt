@@ -1,5 +1,5 @@
-use Rattle.fair_deque.proofs.Balance.{takes, pops, finds}
-use Rattle.fair_deque.proofs.take_task.Goals as goal
+use Rattle.task_deque.proofs.Balance.{takes, pops, finds}
+use Rattle.task_deque.proofs.take_task.Goals as goal
 
 pub pop_as-requires-clause-fifo : goal.pop_as-requires-clause-fifo
 pop_as-requires-clause-fifo g c = λ _. takes _ _

@@ -4,8 +4,8 @@ use Rattle.std.specs.Prelude.{min}
 use mathlib.Core.Option.{some, some-injective, some-ne-none}
 use lib.ListN.{get_elem?}
 use Rattle.crossbeam_deque.specs.Tasks.{Pushes, Takes, Pops, Admits, Learns, Finds, FindsFew}
-use Rattle.fair_deque.specs.declared.History.{History}
-use Rattle.fair_deque.specs.Histories.{history, weight, IsBalanced, Accounts, AccountsForFew}
+use Rattle.task_deque.specs.declared.History.{History}
+use Rattle.task_deque.specs.Histories.{history, weight, IsBalanced, Accounts, AccountsForFew}
 
 weight-append : {X : Type 0} (h : X → ℕ) (xs ys : List X) → weight h (xs ++ ys) ≡ weight h xs + weight h ys
 weight-append h [] ys = omega arith

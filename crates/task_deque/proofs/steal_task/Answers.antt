@@ -1,5 +1,5 @@
-use Rattle.fair_deque.proofs.Balance.{takes, finds_few}
-use Rattle.fair_deque.proofs.steal_task.Goals as goal
+use Rattle.task_deque.proofs.Balance.{takes, finds_few}
+use Rattle.task_deque.proofs.steal_task.Goals as goal
 
 pub steal_as-requires-clause-takes : goal.steal_as-requires-clause-takes
 steal_as-requires-clause-takes g c = takes _ _

@@ -1,4 +1,5 @@
-//! Deques of ready tasks, one for each worker, under a rule: what was put into a deque is what was taken out of it and what still lies there, each task once.
+//! Deques of ready tasks, one for each worker, under a rule: what was put into a deque is what was
+//! taken out of it and what still lies there, each task once.
 //!
 //! The owner takes the task that it put last, and others take the one that was put first.
 //!
@@ -8,12 +9,14 @@
 //!
 //! What no clause says: in which order tasks leave a deque, that a task which lies there is ever
 //! taken, and how long a call takes.
+//!
+//! Floor `running`, with `crossbeam_deque` of the kit.
 #![tactic(auto)]
 
 ghost use Rattle.std.specs.Prelude.{◌≡◌, ◌<◌, ◌⊎◌, [], ◌∷◌, ◌++◌, List, IfOk, MatchResult, MatchOption, length};
 ghost use Rattle.crossbeam_deque.specs.Handles.{IsPassOf, stealer_deque, taken, view, worker_deque, worker_flavor, worker_view};
 ghost use Rattle.crossbeam_deque.specs.Steals.{MatchSteal};
-ghost use Rattle.fair_deque.specs.Histories.{Accounts, AccountsForFew, history};
+ghost use Rattle.task_deque.specs.Histories.{Accounts, AccountsForFew, history};
 
 use crossbeam_deque::protocol::{Lesson, Outcome, Protocol};
 use crossbeam_deque::{Pass, Steal, Stealer, Worker};
@@ -31,11 +34,11 @@ pub struct History<T> {
 }
 
 /// The rule: what all handles put is what they took and what still lies in the deque.
-pub struct Fair;
+pub struct Balanced;
 
-impl<T> Protocol<T, History<T>> for Fair {
+impl<T> Protocol<T, History<T>> for Balanced {
     ghost use Rattle.std.specs.Prelude.{[]};
-    ghost use Rattle.fair_deque.specs.Histories.{history, IsBalanced};
+    ghost use Rattle.task_deque.specs.Histories.{history, IsBalanced};
 
     ghost holds = { IsBalanced };
 
@@ -49,7 +52,7 @@ pub struct Put;
 
 impl<T> Outcome<T, History<T>> for Put {
     ghost use Rattle.std.specs.Prelude.{◌≡◌, ◌++◌};
-    ghost use Rattle.fair_deque.specs.Histories.{history};
+    ghost use Rattle.task_deque.specs.Histories.{history};
 
     ghost then = { λ h xs g. g ≡ history (h.put ++ xs) h.taken };
 }
@@ -60,7 +63,7 @@ pub struct Took;
 
 impl<T> Outcome<T, History<T>> for Took {
     ghost use Rattle.std.specs.Prelude.{◌≡◌, ◌++◌, []};
-    ghost use Rattle.fair_deque.specs.Histories.{Accounts, history};
+    ghost use Rattle.task_deque.specs.Histories.{Accounts, history};
 
     ghost then = { λ h xs g. g ≡ history h.put (h.taken ++ xs) };
 
@@ -73,7 +76,7 @@ pub struct Stole;
 
 impl<T> Outcome<T, History<T>> for Stole {
     ghost use Rattle.std.specs.Prelude.{◌≡◌, ◌++◌};
-    ghost use Rattle.fair_deque.specs.Histories.{AccountsForFew, history};
+    ghost use Rattle.task_deque.specs.Histories.{AccountsForFew, history};
 
     ghost then = { λ h xs g. g ≡ history h.put (h.taken ++ xs) };
 
@@ -84,16 +87,16 @@ impl<T> Outcome<T, History<T>> for Stole {
 pub struct Looked;
 
 impl<T> Lesson<T, History<T>> for Looked {
-    ghost use Rattle.fair_deque.specs.Histories.{Accounts};
+    ghost use Rattle.task_deque.specs.Histories.{Accounts};
 
     ghost fact = { λ h items. Accounts h items };
 }
 
 /// A deque as its worker holds it.
-pub type Owner<T> = Worker<T, Global, History<T>, Fair>;
+pub type Owner<T> = Worker<T, Global, History<T>, Balanced>;
 
 /// A deque as the other workers hold it.
-pub type Thief<T> = Stealer<T, Global, History<T>, Fair>;
+pub type Thief<T> = Stealer<T, Global, History<T>, Balanced>;
 
 /// A visit of another worker to a deque, with its history.
 pub type Visit<T> = Pass<T, History<T>, Global>;

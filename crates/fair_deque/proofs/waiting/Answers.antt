@@ -1,5 +1,0 @@
-use Rattle.fair_deque.proofs.Balance.{learns}
-use Rattle.fair_deque.proofs.waiting.Goals as goal
-
-pub len_as-requires : goal.len_as-requires
-len_as-requires g c = learns _ _
