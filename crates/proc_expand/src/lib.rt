@@ -7,17 +7,23 @@
 mod brackets;
 mod called;
 mod calls;
+mod error;
+pub mod expand;
 mod frame;
 mod fresh;
 mod known;
+mod marks;
 mod naming;
 mod outer;
+mod pen;
 mod places;
 pub mod procedures;
 pub mod refusal;
 mod scan;
 mod sheet;
 pub mod sign;
+mod source;
 #[cfg(test)]
 mod tests;
 mod twice;
+mod write;

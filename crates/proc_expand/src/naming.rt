@@ -15,17 +15,6 @@ use jade_lexer::Tokens;
 use name_scope::NameScope;
 use std::alloc::Global;
 
-/// A procedure whose calls are written: the place of its `proc`, how many parameters it has, the
-/// first place of its body and the place after the last, and how many names a call replaces.
-#[derive(Clone, Copy, Debug, PartialEq, Eq)]
-pub(crate) struct Body {
-    pub(crate) place: usize,
-    pub(crate) params: usize,
-    pub(crate) start: usize,
-    pub(crate) stop: usize,
-    pub(crate) names: usize,
-}
-
 /// Whether it is `input`, `object` or `objects`.
 fn is_item_word(sign: Sign) -> bool
     ensures { result ≡ is_item_word sign }
