@@ -14,7 +14,7 @@ use Rattle.proc_expand.specs.declared.sign.Sign.{Sign}
 use Rattle.proc_expand.specs.Words.{signs, at, bytes_at, those, one_if, is_called, is_item_word}
 use Rattle.proc_expand.specs.Names.{is_among, first_places, place_among}
 use Rattle.proc_expand.specs.Refusals.{param_place}
-use Rattle.proc_expand.specs.Written.{items, from, is_variable, names_at, in_procedure}
+use Rattle.proc_expand.specs.Written.{items as item_names, from, is_variable, names_at, in_procedure}
 use Rattle.proc_expand.specs.Replaced.{names_of, with_name, with_names, found_among, AreNumbered, IsNumber, IsMark}
 use Rattle.proc_expand.proofs.First.{plus_one}
 use Rattle.proc_expand.proofs.Outside.{those_filter}
@@ -296,7 +296,7 @@ items_more ts ss ks i d l =
     by false e = ap (λ t. if t then get_or ks i d ∷ [] else []) (sym e)
 
 pub all_items : (ts : List TokenAt) (end : Pos) (ss : List Sign) (ks : List ℕ) → ss ≡ signs ts
-    → ks ≡ those (length ts) (λ k. not (in_procedure ts end k)) → items_among ts ss ks ≡ items ts end
+    → ks ≡ those (length ts) (λ k. not (in_procedure ts end k)) → items_among ts ss ks ≡ item_names ts end
 all_items ts end ss ks e h =
     ap (λ u. items_among ts u ks) e ∙ ap (items_among ts (signs ts)) h
     ∙ ap (map (λ k. bytes_at ts (suc k))) (those_filter (length ts) (stands (signs ts)) (λ k. not (in_procedure ts end k)))

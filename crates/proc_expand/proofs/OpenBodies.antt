@@ -23,19 +23,20 @@ use Rattle.proc_expand.proofs.Wholes.{params_long, stop_within}
 
 -- ---- tokens by their places
 
-pub pos_got : (ts : List TokenAt) (end : Pos) (k : ℕ) (t : TokenAt) → slice_get ts k ≡ Some t → t.pos ≡ pos_at ts end k
-pos_got [] end k t h = absurd (cc)
-pos_got (u ∷ ts) end zero t h = let e : u ≡ t = cc in ap (λ (v : TokenAt). v.pos) (sym e)
-pos_got (u ∷ ts) end (suc k) t h = pos_got ts end k t h
+module _ (all : List TokenAt) (end : Pos) where
+  pub pos_got : (ts : List TokenAt) (k : ℕ) (t : TokenAt) → slice_get ts k ≡ Some t → t.pos ≡ pos_at all end ts k
+  pos_got [] k t h = absurd (cc)
+  pos_got (u ∷ ts) zero t h = let e : u ≡ t = cc in ap (λ (v : TokenAt). v.pos) (sym e)
+  pos_got (u ∷ ts) (suc k) t h = pos_got ts k t h
 
-pub no_pos : (ts : List TokenAt) (end : Pos) (k : ℕ) → length ts ≤ k → end ≡ pos_at ts end k
-no_pos [] end k h = refl
-no_pos (u ∷ ts) end zero h = absurd (omega (arith, h))
-no_pos (u ∷ ts) end (suc k) h = no_pos ts end k (omega (arith, h))
+  pub no_pos : (ts : List TokenAt) (k : ℕ) → length ts ≤ k → end ≡ pos_at all end ts k
+  no_pos [] k h = refl
+  no_pos (u ∷ ts) zero h = absurd (omega (arith, h))
+  no_pos (u ∷ ts) (suc k) h = no_pos ts k (omega (arith, h))
 
 -- ---- how many names there are
 
-those_few : (n : ℕ) (is : ℕ → Bool) → length (those n is) ≤ n
+pub those_few : (n : ℕ) (is : ℕ → Bool) → length (those n is) ≤ n
 those_few zero is = omega arith
 those_few (suc n) is = by (is n) (those_few n is)
   where
@@ -161,7 +162,7 @@ module _ (ts : List TokenAt) (end : Pos) where
         let a = few_names ts end in let b = is.few in let c = ap length is.names in let d = names_count s.names in omega (arith, a, b, c, d)
 
     pub name_token : (call : Option Call) (k : ℕ) (number : Option ℕ) (x : Name) (o : Pos) → StandsIn ts end call k → number ≡ number_in call (mark k)
-        → x ≡ bytes_at ts k → o ≡ pos_at ts end k → made (names_of s.names) number x o ≡ token_at ts end (names_in ts end call) k
+        → x ≡ bytes_at ts k → o ≡ pos_at ts end ts k → made (names_of s.names) number x o ≡ token_at ts end (names_in ts end call) k
     name_token call k number x o h a b c =
         ap (λ ns. made ns number x o) is.names ∙ ap (λ m. made (text_names ts end) m x o) a
         ∙ ap (λ y. made (text_names ts end) (number_in call (mark k)) y o) b
@@ -169,7 +170,7 @@ module _ (ts : List TokenAt) (end : Pos) where
         ∙ ap (λ p. record { bytes = if is_variable ts end k then names_in ts end call (bytes_at ts k) else bytes_at ts k; origin = p }) c
 
     pub param_made : (c : Call) (i : ℕ) (number : Option ℕ) (x : Name) (o : Pos) → IsOpen ts end c → i < (head (signs ts) c.procedure).params
-        → number ≡ number_in (Some c) (mark (param_place c.procedure i)) → x ≡ bytes_at ts (param_place c.procedure i) → o ≡ pos_at ts end c.place
+        → number ≡ number_in (Some c) (mark (param_place c.procedure i)) → x ≡ bytes_at ts (param_place c.procedure i) → o ≡ pos_at ts end ts c.place
         → made (names_of s.names) number x o ≡ param_token ts end c i
     param_made c i number x o h l a b d =
         ap (λ ns. made ns number x o) is.names ∙ ap (λ m. made (text_names ts end) m x o) a

@@ -2,6 +2,7 @@
 use Rattle.std.proofs.Common.{◌≡◌, ℕ, zero, suc, ◌+◌, ◌-◌, ◌<◌, ◌≤◌, ◌≢◌, Bool, true, false, ◌&&◌, List, [], ◌∷◌, ◌++◌, length, take, drop, nat_eq, nat_lt, Option, Some, None, refl, sym, ap, ◌∙◌, subst, arith}
 use Rattle.std.specs.Prelude.{map, slice_index_or, Result, Ok, Err, if◌then◌else◌}
 use Rattle.std.proofs.lemmas.List.{append_assoc, length-append, length-take, length-drop}
+use Rattle.std.proofs.Math.Seq.{take-append_seam}
 use Rattle.jade_base.specs.declared.place.Pos.{Pos}
 use Rattle.jade_lexer.specs.Lexemes.{TokenAt, TokenList}
 use Rattle.proc_expand.specs.declared.error.ExpandError.{ExpandError}
@@ -35,19 +36,13 @@ not_longer (u ∷ us) h =
     let c = ap length (spaced_last u us) in omega (arith, a, b, c, h)
 
 -- pieces that stop before a last byte do not see it
-same_before : (text more : List ℕ) (n : ℕ) (ps : List Piece) (m : ℕ) → AreLaid n ps m → m ≤ length text + 1 → n ≤ length text
+same_before : (text more : List ℕ) (n : ℕ) (ps : List Piece) (m : ℕ) → AreLaid n ps m → m ≤ length text + 1
     → map (piece_token (text ++ more)) ps ≡ map (piece_token text) ps
-same_before text more n [] m h l k = refl
-same_before text more n (p ∷ ps) m h l k =
+same_before text more n [] m h l = refl
+same_before text more n (p ∷ ps) m h l =
     let at = h.0.at in let up = h.0.up in let end = laid_up (p.stop + 1) ps m h.1 in
     ap (λ t. t ∷ map (piece_token (text ++ more)) ps) (same_piece text more p (omega (arith, at, up)) (omega (arith, end, l)))
-    ∙ ap (λ ts. piece_token text p ∷ ts) (rest ps h.1)
-  where
-    rest : (qs : List Piece) → AreLaid (p.stop + 1) qs m → map (piece_token (text ++ more)) qs ≡ map (piece_token text) qs
-    rest [] g = refl
-    rest (q ∷ qs) g =
-        let at = g.0.at in let up = g.0.up in let end = laid_up (q.stop + 1) qs m g.1 in
-        same_before text more (p.stop + 1) (q ∷ qs) m g l (omega (arith, at, up, end, l))
+    ∙ ap (λ ts. piece_token text p ∷ ts) (same_before text more (p.stop + 1) ps m h.1 l)
 
 cut : (xs ys : List ℕ) (a b : ℕ) → xs ++ a ∷ [] ≡ ys ++ b ∷ [] → xs ≡ ys
 cut [] [] a b h = refl
@@ -64,7 +59,7 @@ is_expanded s xs is e = by s.pieces.items refl
   where
     same : (more : List ℕ) → map (piece_token (xs ++ more)) s.pieces.items ≡ map (piece_token xs) s.pieces.items
     same more = same_before xs more 0 s.pieces.items (length s.text.items) is.laid
-        (let l = ap length e in let m = length-append xs (32 ∷ []) in omega (arith, l, m)) (omega arith)
+        (let l = ap length e in let m = length-append xs (32 ∷ []) in omega (arith, l, m))
 
     tokens : tokens_in (xs ++ 10 ∷ []) s.pieces.items ≡ tokens_of s
     tokens = same (10 ∷ []) ∙ sym (same (32 ∷ [])) ∙ ap (λ u. map (piece_token u) s.pieces.items) (sym e)
@@ -74,13 +69,15 @@ is_expanded s xs is e = by s.pieces.items refl
 
     by : (ps : List Piece) → s.pieces.items ≡ ps → (IsExpanded (xs ++ 10 ∷ []) s.pieces.items) × (tokens_in (xs ++ 10 ∷ []) s.pieces.items ≡ tokens_of s)
     by [] h = absurd (let l = is.laid in let z = subst (λ u. AreLaid 0 u (length s.text.items)) h l in let a = ap length e in let m = length-append xs (32 ∷ []) in omega (arith, z, a, m))
-    by (p ∷ ps) h =
-        (record {
-          laid = subst (λ u. AreLaid 0 u (laid_to (xs ++ 10 ∷ []) u)) (sym h)
-              (subst (AreLaid 0 (p ∷ ps)) as_many (subst (λ u. AreLaid 0 u (length s.text.items)) h is.laid));
-          bytes = ap (λ u. u ++ 10 ∷ []) (cut xs (spaced (tokens_of s)) 32 32 (sym e ∙ is.text ∙ whole (tokens_of s) (ap (map (piece_token s.text.items)) h)))
-              ∙ ap (λ us. spaced us ++ 10 ∷ []) (sym tokens);
-        }, tokens)
+    by (p ∷ ps) h = (
+      record {
+        laid = subst (λ u. AreLaid 0 u (laid_to (xs ++ 10 ∷ []) u)) (sym h)
+            (subst (AreLaid 0 (p ∷ ps)) as_many (subst (λ u. AreLaid 0 u (length s.text.items)) h is.laid));
+        bytes = ap (λ u. u ++ 10 ∷ []) (cut xs (spaced (tokens_of s)) 32 32 (sym e ∙ is.text ∙ whole (tokens_of s) (ap (map (piece_token s.text.items)) h)))
+            ∙ ap (λ us. spaced us ++ 10 ∷ []) (sym tokens);
+      },
+      tokens,
+    )
       where
         whole : (us : List MadeToken) → us ≡ piece_token s.text.items p ∷ map (piece_token s.text.items) ps → spaced_out us ≡ spaced us ++ 32 ∷ []
         whole us g = ap spaced_out g ∙ spaced_last (piece_token s.text.items p) (map (piece_token s.text.items) ps) ∙ ap (λ v. spaced v ++ 32 ∷ []) (sym g)
@@ -90,13 +87,39 @@ pub none_expanded : (s : Sheet) → IsSheet s → s.text.items ≡ [] → (IsExp
 none_expanded s is e = by s.pieces.items refl
   where
     by : (ps : List Piece) → s.pieces.items ≡ ps → (IsExpanded (10 ∷ []) s.pieces.items) × (tokens_in (10 ∷ []) s.pieces.items ≡ tokens_of s)
-    by [] h =
-        (record {
-          laid = subst (λ u. AreLaid 0 u (laid_to (10 ∷ []) u)) (sym h) refl;
-          bytes = ap (λ u. spaced (tokens_in (10 ∷ []) u) ++ 10 ∷ []) (sym h);
-        }, ap (tokens_in (10 ∷ [])) h ∙ sym (ap (map (piece_token s.text.items)) h))
+    by [] h = (
+      record {
+        laid = subst (λ u. AreLaid 0 u (laid_to (10 ∷ []) u)) (sym h) refl;
+        bytes = ap (λ u. spaced (tokens_in (10 ∷ []) u) ++ 10 ∷ []) (sym h);
+      },
+      ap (tokens_in (10 ∷ [])) h ∙ sym (ap (map (piece_token s.text.items)) h),
+    )
     by (p ∷ ps) h = absurd (let l = is.laid in let z = subst (λ u. AreLaid 0 u (length s.text.items)) h l in let u = z.0.at in let w = z.0.up in
         let v = laid_up (p.stop + 1) ps (length s.text.items) z.1 in let a = ap length e in omega (arith, u, w, v, a))
+
+-- the sheet's bytes with a line feed in place of the last
+abbrev pub finished_text : Sheet → List ℕ
+finished_text s = take (length s.text.items - 1) s.text.items ++ 10 ∷ []
+
+pub finished_is : (s : Sheet) → IsSheet s → (IsExpanded (finished_text s) s.pieces.items) × (tokens_in (finished_text s) s.pieces.items ≡ tokens_of s)
+finished_is s is = by s.pieces.items refl
+  where
+    Both : List ℕ → Type 0
+    Both u = (IsExpanded u s.pieces.items) × (tokens_in u s.pieces.items ≡ tokens_of s)
+
+    by : (ps : List Piece) → s.pieces.items ≡ ps → Both (finished_text s)
+    by [] h =
+        let e : s.text.items ≡ [] = is.text ∙ ap (λ u. spaced_out (map (piece_token s.text.items) u)) h in
+        subst Both (sym (ap (λ u. take (length u - 1) u ++ 10 ∷ []) e)) (none_expanded s is e)
+    by (p ∷ ps) h =
+        let us = piece_token s.text.items p ∷ map (piece_token s.text.items) ps in
+        let e : s.text.items ≡ spaced us ++ 32 ∷ [] =
+        is.text ∙ ap (λ u. spaced_out (map (piece_token s.text.items) u)) h ∙ spaced_last (piece_token s.text.items p) (map (piece_token s.text.items) ps) in
+        let n : length s.text.items - 1 ≡ length (spaced us) =
+        (let a = ap length e in let b = length-append (spaced us) (32 ∷ []) in omega (arith, a, b)) in
+        subst Both (sym (ap (λ i. take i s.text.items ++ 10 ∷ []) n ∙ ap (λ u. take (length (spaced us)) u ++ 10 ∷ []) e
+        ∙ ap (λ u. u ++ 10 ∷ []) (take-append_seam (spaced us) (32 ∷ []))))
+        (is_expanded s (spaced us) is e)
 
 -- ---- origins by pieces
 

@@ -1,8 +1,12 @@
 -- What is written in several steps.
 use Rattle.std.proofs.Common.{◌≡◌, ℕ, zero, suc, ◌+◌, ◌*◌, ◌<◌, ◌≤◌, List, [], ◌∷◌, ◌++◌, length, refl, sym, ap, ◌∙◌, subst, arith}
+use Rattle.std.specs.Prelude.{Result, Ok, Err, OnOk}
+use Rattle.std.specs.Result.{IsErrAnd}
 use Rattle.std.proofs.lemmas.List.{append_assoc, append-nil, length-append}
 use Rattle.jade_syntax.specs.Abstract.{Name}
 use Rattle.proc_expand.specs.declared.pen.Pen.{Pen}
+use Rattle.proc_expand.specs.declared.sheet.Stop.{Stop}
+use Rattle.proc_expand.specs.declared.sheet.Stop.TheVariants.{Grown}
 use Rattle.proc_expand.specs.Written.{MadeToken}
 use Rattle.proc_expand.specs.Sheets.{spaced_out, tokens_of, IsSheet}
 use Rattle.proc_expand.specs.Pens.{written, IsPen, Wrote, IsTooLong}
@@ -93,3 +97,14 @@ module _ (names : List Name) (old now : Pen) (all : List MadeToken) where
     long = let b = long_before us more now g in
         subst (λ x. 1048576 < length (spaced_out x)) (ap (λ x. written now ++ x) (sym e) ∙ h.same) b.long;
   }
+
+-- ---- what follows where a call has a value
+
+pub on_both : {T E P Q R : Type 0} → (r : Result T E) → OnOk r P → OnOk r Q → (P → Q → R) → OnOk r R
+on_both (Ok v) a b f = f a b
+on_both (Err e) a b f = a
+
+-- an error is passed on
+pub passed_on : {T U : Type 0} → (r : Result T Stop) (q : Result U Stop) (e : Stop) → IsErrAnd r (λ y. y ≡ e) → q ≡ Err e → r ≡ Err Grown → q ≡ Err Grown
+passed_on (Ok x) q e h w g = elim h [ ]
+passed_on (Err y) q e h w g = let z : q ≡ Err Grown = cc in z

@@ -179,7 +179,7 @@ whole_is (Semicolon ∷ us) k = not_whole (Semicolon ∷ us) k k (omega arith) (
 whole_is (Comma ∷ us) k = not_whole (Comma ∷ us) k k (omega arith) (omega arith)
 whole_is (Other ∷ us) k = not_whole (Other ∷ us) k k (omega arith) (omega arith)
 
-nth_drop : (ss : List Sign) (k i : ℕ) → nth (drop k ss) i ≡ at ss (k + i)
+pub nth_drop : (ss : List Sign) (k i : ℕ) → nth (drop k ss) i ≡ at ss (k + i)
 nth_drop ss k i = sym (first_of (drop k ss) i) ∙ ap (λ u. slice_index_or u 0 Other) (drop-drop i k ss) ∙ first_of ss (k + i)
 
 module _ (ss : List Sign) (p : ℕ) (l : p < length ss) where

@@ -16,11 +16,11 @@ use Rattle.proc_expand.specs.declared.sign.End.TheVariants.{Closed, Wrong, Never
 use Rattle.proc_expand.specs.declared.refusal.Reason.{Reason}
 use Rattle.proc_expand.specs.declared.refusal.Reason.TheVariants.{Shape, Unknown, Count, Twice}
 use Rattle.proc_expand.specs.declared.refusal.Refusal.{Refusal}
-use Rattle.proc_expand.specs.Words.{signs, sign_of, at, before, bytes_at, some, first, or_here, open_before, is_proc, is_called, ends_item, opens_curly, closing, is_closed, closes_before, fails_at, end_place}
+use Rattle.proc_expand.specs.Words.{signs, sign_of, at, before, bytes_at, some, first, or_here, open_before, is_proc, is_called, is_comma, is_semicolon, is_else, is_after, ends_item, opens_curly, closing, is_closed, closes_before, fails_at, end_place}
 use Rattle.proc_expand.specs.Refusals.{begins, is_outer_main, head, body_end, proc_fails, is_call, call_end, call_fails, ends_empty, ending_fails, count, is_shape, misplaced, within, is_named, if_before, meant, is_none, is_unknown, counts_other, is_count, repeats_name, repeats_param, is_twice, reason, or_reason, first_reason, refusal}
 use Rattle.proc_expand.specs.Frames.{newest_named}
 use Rattle.proc_expand.proofs.First.{plus_one, by_case, eq_true, eq_false, eq_same, lt_true, lt_false, first_below, both_left, both_right, both_true}
-use Rattle.proc_expand.proofs.Nested.{closed_within, wrong_within, closed_in}
+use Rattle.proc_expand.proofs.Nested.{closed_within, closed_in, closing_opens}
 use Rattle.proc_expand.proofs.Heads.{curly_is, lies_within}
 use Rattle.proc_expand.proofs.Depths.{nth, head_ok, within_brackets, closed_inside}
 use Rattle.proc_expand.proofs.WholeHeads.{nth_drop, head_up, head_long, head_named, head_opens}
@@ -148,8 +148,12 @@ module _ (ts : List TokenAt) (pos : Pos) (ok : refusal ts ≡ None) where
     closes : closing (signs ts) (stop_of p) ≡ Closed (end_of_body p)
     closes = sym is_body ∙ body_closed
 
-    pub body_in : (stop_of p ≤ end_of_body p) × (end_of_body p < length ts)
-    body_in = let c = closed_in (signs ts) (stop_of p) (end_of_body p) stop_in closes in let a = as_many in (c.0, omega (arith, c.1, a))
+    pub body_in : (stop_of p < end_of_body p) × (end_of_body p < length ts)
+    body_in =
+        let c = closed_in (signs ts) (stop_of p) (end_of_body p) stop_in closes in
+        let d = closed_within (drop (stop_of p + 1) (signs ts)) (Curly ∷ []) (stop_of p + 1) (end_of_body p)
+        (sym (closing_opens (signs ts) (stop_of p) Curly stop_in (curly_is (at (signs ts) (stop_of p)) stop_opens)) ∙ closes) in
+        let a = as_many in (omega (arith, d), omega (arith, c, a))
 
     pub stop_within : stop_of p < length ts
     stop_within = let s = stop_in in let a = as_many in omega (arith, s, a)
@@ -225,10 +229,14 @@ module _ (ts : List TokenAt) (pos : Pos) (ok : refusal ts ≡ None) where
         (λ j m. ap (λ n. fails_at n (call_end (signs ts) k) j) (sym as_many) ∙ fails j m)
       where
         fails : (j : ℕ) → j ≤ length ts → fails_at (length (signs ts)) (call_end (signs ts) k) j ≡ false
-        fails j m = last_of_three _ _ _ (fails_at (length (signs ts)) (call_end (signs ts) k) j)
+        fails j m = last_of_three
+            (is_after 0 (call_end (signs ts) k) j && is_comma (before (signs ts) j))
+            (is_after 1 (call_end (signs ts) k) j && not (is_semicolon (at (signs ts) j)))
+            (is_after 2 (call_end (signs ts) k) j && (is_semicolon (before (signs ts) j) && is_else (at (signs ts) j)))
+            (fails_at (length (signs ts)) (call_end (signs ts) k) j)
             (none_of (ends_empty (signs ts) k j) (ending_fails (signs ts) (call_end (signs ts) k) j) (call_not_failing j m)).1
 
-    is_meant : is_none (meant ts k) ≡ false
+    pub is_meant : is_none (meant ts k) ≡ false
     is_meant = if_true (is_call (signs ts) k) (is_none (meant ts k)) c (nothing k (omega (arith, l))).unknown
 
     pub counted : (d : ℕ) → meant ts k ≡ Some d → count (signs ts) k ≡ (head (signs ts) d).params

@@ -1,10 +1,11 @@
 -- What each turn of writing leaves.
-use Rattle.std.proofs.Common.{◌≡◌, ℕ, zero, suc, ◌+◌, ◌-◌, ◌*◌, ◌<◌, ◌≤◌, Bool, true, false, List, [], ◌∷◌, ◌++◌, length, drop, nat_eq, Option, Some, None, refl, sym, ap, ◌∙◌, subst, arith}
+use Rattle.std.proofs.Common.{◌≡◌, ℕ, zero, suc, ◌+◌, ◌-◌, ◌*◌, ◌<◌, ◌≤◌, ◌≢◌, Bool, true, false, List, [], ◌∷◌, ◌++◌, length, drop, nat_eq, Option, Some, None, refl, sym, ap, ◌∙◌, subst, arith}
 use Rattle.std.specs.Prelude.{map, codes, not, reverse, slice_index_or, if◌then◌else◌}
 use Rattle.std.specs.List.{All, filter}
 use Rattle.std.proofs.lemmas.List.{map-append, append_assoc, append-nil, length-append, length-map, drop-drop, drop_all, reverse-append}
 use Rattle.std.proofs.lemmas.List.Elements.{All-append}
-use Rattle.std.proofs.Math.Seq.{drop-cons}
+use Rattle.std.proofs.Math.Seq.{drop-cons, get_or-append_seam}
+use Rattle.std.proofs.Math.ListN.{get_or-append}
 use Rattle.jade_base.specs.declared.place.Pos.{Pos}
 use Rattle.jade_lexer.specs.Lexemes.{TokenAt}
 use Rattle.jade_syntax.specs.Abstract.{Name}
@@ -12,13 +13,14 @@ use Rattle.proc_expand.specs.declared.sign.Bracket.TheVariants.{Round, Curly}
 use Rattle.proc_expand.specs.declared.sign.Sign.{Sign}
 use Rattle.proc_expand.specs.declared.sign.End.{End}
 use Rattle.proc_expand.specs.declared.sign.End.TheVariants.{Closed, Wrong, Never}
+use Rattle.proc_expand.specs.declared.procedures.Procedure.{Procedure}
 use Rattle.proc_expand.specs.declared.frame.Call.{Call}
 use Rattle.proc_expand.specs.declared.frame.Frame.{Frame}
 use Rattle.proc_expand.specs.declared.pen.Pen.{Pen}
 use Rattle.proc_expand.specs.declared.source.Source.{Source}
 use Rattle.proc_expand.specs.Words.{signs, sign_of, at, bytes_at, is_comma, those, next_place, after_sign, closing, closing_from, is_after, end_place}
 use Rattle.proc_expand.specs.Names.{is_among, first_places}
-use Rattle.proc_expand.specs.Refusals.{begins, head, body_end, procedure, param_place, is_call, call_end, commas, count, meant}
+use Rattle.proc_expand.specs.Refusals.{begins, head, body_end, procedure, procedure_of, param_place, is_call, call_end, commas, count, meant, is_none, refusal}
 use Rattle.proc_expand.specs.Written.{MadeToken, items, text_names, in_procedure, closed_at, replaced_at, replaced_by, names_at, param_places, body_places, is_variable, from, spans, arguments, given_at, made_at, token_at, expansion}
 use Rattle.proc_expand.specs.Frames.{newest_named, writer_before, names_in, writer_in, places_left, end_of, left, call_start}
 use Rattle.proc_expand.specs.Sheets.{spaced_out}
@@ -29,8 +31,9 @@ use Rattle.proc_expand.proofs.Nested.{closed_within, closed_in, closing_opens, s
 use Rattle.proc_expand.proofs.Heads.{comma_is}
 use Rattle.proc_expand.proofs.CallFacts.{call_within, call_opens, rest_next}
 use Rattle.proc_expand.proofs.Outside.{those_below}
-use Rattle.proc_expand.proofs.Wholes.{stop_of, end_of_body, body_in, params_long, IsMeant, meant_is, newest, apart, encloses}
-use Rattle.proc_expand.proofs.StackOfFrames.{left_done, left_token, left_call}
+use Rattle.proc_expand.proofs.OpenBodies.{those_few}
+use Rattle.proc_expand.proofs.Wholes.{stop_of, end_of_body, body_in, params_long, counted, is_meant, IsMeant, meant_is, newest, apart, encloses}
+use Rattle.proc_expand.proofs.StackOfFrames.{left_done, left_token, left_call, left_all}
 use Rattle.proc_expand.proofs.PenFacts.{long_both, few_written, grows, count_grows}
 
 -- ---- places in a row
@@ -167,8 +170,9 @@ module _ (ts : List TokenAt) (end : Pos) where
 -- ---- arguments
 
 module _ (ss : List Sign) (start close : ℕ) where
-  pub ends_none : commas_after ss start ≡ [] → EndsArgument ss start close close
-  ends_none h = record {
+  pub ends_none : start ≤ close → commas_after ss start ≡ [] → EndsArgument ss start close close
+  ends_none l h = record {
+    down = l;
     up = omega arith;
     last = λ e. refl;
     comma = λ c cs e. absurd (let z = sym h ∙ e in cc);
@@ -186,11 +190,12 @@ module _ (ss : List Sign) (start close : ℕ) where
   pub other_rest : (k next : ℕ) → k < length ss → is_comma (at ss k) ≡ false → next_place ss k ≡ Some next → commas_after ss k ≡ commas_after ss next
   other_rest k next l h e = rest_next ss k next l e ∙ ap (λ t. if t then k ∷ commas_after ss next else commas_after ss next) h
 
-  pub ends_comma : (k : ℕ) → k < length ss → is_comma (at ss k) ≡ true → commas_after ss k ≡ commas_after ss start → InBrackets ss k close
+  pub ends_comma : (k : ℕ) → start ≤ k → k < length ss → is_comma (at ss k) ≡ true → commas_after ss k ≡ commas_after ss start → InBrackets ss k close
       → EndsArgument ss start close k
-  ends_comma k l h same inside =
+  ends_comma k d l h same inside =
       let r = sym same ∙ comma_rest k l h in
       record {
+        down = d;
         up = let w = closed_within (drop k ss) (Round ∷ []) k close inside.closed in w.0;
         last = λ e. absurd (let z = sym r ∙ e in cc);
         comma = λ c cs e. (let z = sym r ∙ e in cc);
@@ -230,7 +235,7 @@ module _ (ts : List TokenAt) (end : Pos) (around : Option Call) (c : Call) where
       ap (λ is. given is (spans ts end start (commas_after ss start) close)) (from_first ts end i params l)
       ∙ by (commas_after ss start) refl n
     where
-      none_left : length [] + suc i ≡ params → params - (i + 1) ≡ 0
+      none_left : 0 + suc i ≡ params → params - (i + 1) ≡ 0
       none_left g = omega (arith, g)
 
       by : (cs : List ℕ) → commas_after ss start ≡ cs → length cs + suc i ≡ params
@@ -249,6 +254,11 @@ module _ (ts : List TokenAt) (end : Pos) (around : Option Call) (c : Call) where
           (ap (λ us. spans ts end (suc d) us close) (sym (h.next d cs e))
           ∙ (let z : suc d ≡ stop + 1 = (let w = h.comma d cs e in omega (arith, w)) in
           ap (λ j. spans ts end j (commas_after ss (stop + 1)) close) z))
+
+  -- no parameter is left
+  pub given_none : (params i start close : ℕ) → params ≤ i → given_from ts end around c params i start close ≡ []
+  given_none params i start close l =
+      ap (λ is. given is (spans ts end start (commas_after ss start) close)) (from_none ts end i (params - i) (omega (arith, l)))
 
   -- the next argument, if another parameter is left
   pub count_step : (params i start stop close : ℕ) → length (commas_after ss start) + suc i ≡ params → EndsArgument ss start close stop → i + 1 < params
@@ -291,17 +301,35 @@ module _ (ts : List TokenAt) (end : Pos) (around : Option Call) (c : Call) where
         many : nat_eq (count ss c.place) 0 ≡ false
         many = by_case (nat_eq (count ss c.place) 0) (λ b. absurd (let z = eq_true (count ss c.place) 0 b in omega (arith, z, n, h))) (λ b. b)
 
+-- ---- the procedure that a call means
+
+module _ (ts : List TokenAt) where
+  pub callee_meant : (q : Procedure) (a : Option ℕ) → Some q ≡ procedure_of (signs ts) a → a ≡ Some q.place
+  callee_meant q None h = absurd (cc)
+  callee_meant q (Some d) h = let e : q ≡ procedure (signs ts) d = cc in ap (λ (r : Procedure). Some r.place) (sym e)
+
+  pub callee_is : (q : Procedure) (a : Option ℕ) → Some q ≡ procedure_of (signs ts) a → q ≡ procedure (signs ts) q.place
+  callee_is q None h = absurd (cc)
+  callee_is q (Some d) h =
+      let e : q ≡ procedure (signs ts) d = cc in e ∙ ap (λ (r : Procedure). procedure (signs ts) r.place) (sym e)
+
+pub no_callee : (ts : List TokenAt) (end : Pos) (ok : refusal ts ≡ None) (k : ℕ) (l : k < length ts) → is_call (signs ts) k ≡ true
+    → None ≡ procedure_of (signs ts) (meant ts k) → ⊥
+no_callee ts end ok k l c h = by (meant ts k) (is_meant ts end ok k l c) h
+  where
+    by : (a : Option ℕ) → is_none a ≡ false → None ≡ procedure_of (signs ts) a → ⊥
+    by None e g = absurd (cc)
+    by (Some d) e g = absurd (cc)
+
 -- ---- turns
 
 all_front : (P : Frame → Type 0) (fs : List Frame) (f : Frame) → All P (fs ++ f ∷ []) → All P fs
-all_front P [] f h = h.1
-all_front P (g ∷ fs) f h = (h.0, all_front P fs f h.1)
+all_front P fs f h = λ k d l. subst P (get_or-append fs (f ∷ []) d k l) (h k d (let a = length-append fs (f ∷ []) in omega (arith, a, l)))
 
 all_back : (P : Frame → Type 0) (fs : List Frame) (f : Frame) → All P (fs ++ f ∷ []) → P f
-all_back P [] f h = h.0
-all_back P (g ∷ fs) f h = all_back P fs f h.1
+all_back P fs f h = subst P (get_or-append_seam fs f [] f) (h (length fs) f (let a = length-append fs (f ∷ []) in omega (arith, a)))
 
-reverse_more : (fs : List Frame) (f : Frame) → reverse (fs ++ f ∷ []) ≡ f ∷ reverse fs
+pub reverse_more : (fs : List Frame) (f : Frame) → reverse (fs ++ f ∷ []) ≡ f ∷ reverse fs
 reverse_more fs f = reverse-append fs (f ∷ [])
 
 module _ (ts : List TokenAt) (end : Pos) (s : Source) (is : IsSource ts end s) where
@@ -340,6 +368,12 @@ module _ (ts : List TokenAt) (end : Pos) (s : Source) (is : IsSource ts end s) w
 
   pub last_frame : (fs : List Frame) (f : Frame) → All (IsFrame ts end outer) (fs ++ f ∷ []) → IsFrame ts end outer f
   last_frame fs f h = all_back (IsFrame ts end outer) fs f h
+
+  pub no_frame : All (IsFrame ts end outer) []
+  no_frame = λ k d l. absurd (omega (arith, l))
+
+  pub one_frame : (f : Frame) → IsFrame ts end outer f → All (IsFrame ts end outer) (f ∷ [])
+  one_frame f q = λ k d l. subst (IsFrame ts end outer) (let z : k ≡ 0 = omega (arith, l) in ap (λ i. slice_index_or (f ∷ []) i d) (sym z)) q
 
   -- nothing is left
   pub done : (f : Frame) (fs : List Frame) (n : ℕ) → IsFrame ts end outer f → f.stop ≤ f.next
@@ -447,3 +481,118 @@ module _ (ts : List TokenAt) (end : Pos) (s : Source) (is : IsSource ts end s) w
       inside = λ c z. subst (λ i. IsBody ts end i b.next b.stop) (let y : call ≡ c = cc in y)
           (record { opened = o; start = omega (arith, u); stops = v });
     }
+
+  -- a frame ends within the text
+  pub frame_small : (f : Frame) → IsFrame ts end outer f → f.stop ≤ 1048576
+  frame_small f h = by f.call refl
+    where
+      by : (call : Option Call) → f.call ≡ call → f.stop ≤ 1048576
+      by None e =
+          let o = h.outside e in let a = ap length is.outer in let b = those_few (length ts) (λ k. not (in_procedure ts end k)) in let c = is.few in
+          omega (arith, o, a, b, c)
+      by (Some c) e =
+          let i = h.inside c e in let o = i.opened in let b = body_in ts end is.accepted c.procedure o.within o.begun in let t = i.stops in let d = is.few in
+          omega (arith, b, t, d)
+
+  -- what is on the stack after a call
+  two_more : (fs hs : List Frame) (g b : Frame) → hs ≡ (fs ++ g ∷ []) ++ b ∷ [] → (hs ≡ fs ++ (g ∷ b ∷ [])) × (reverse hs ≡ b ∷ g ∷ reverse fs)
+  two_more fs hs g b e =
+      (e ∙ append_assoc fs (g ∷ []) (b ∷ []), ap reverse e ∙ reverse_more (fs ++ g ∷ []) b ∙ ap (λ r. b ∷ r) (reverse_more fs g))
+
+  pub goes_call : (p q : Pen) (fs hs : List Frame) (f g b : Frame) (k n d close m : ℕ) → IsWriting ts end outer p (fs ++ f ∷ []) n
+      → (h : IsNext ts end outer f k) (t : is_call (signs ts) k ≡ true) (e : call_end (signs ts) k ≡ Closed close) (means : meant ts k ≡ Some d)
+      → g.call ≡ f.call → g.next ≡ f.next + (close - k) + 2 → g.stop ≡ f.stop
+      → b.call ≡ Some (record { procedure = d; place = k; base = n }) → b.next ≡ (head (signs ts) d).stop + 1
+      → b.stop ≡ closed_at ts end (body_end (signs ts) d) → hs ≡ (fs ++ g ∷ []) ++ b ∷ []
+      → m ≡ n + length (replaced_at ts end (procedure (signs ts) d)) → IsOpen ts end (record { procedure = d; place = k; base = n })
+      → Wrote (text_names ts end) (start_tokens ts end k ++ given_all ts end f.call (record { procedure = d; place = k; base = n })) p q
+      → GoesOn ts end outer p (fs ++ f ∷ []) n q hs m
+  goes_call p q fs hs f g b k n d close m w h t e means u v x y z r a c o wrote =
+      let us = start_tokens ts end k ++ given_all ts end f.call (record { procedure = d; place = k; base = n }) in
+      let two = two_more fs hs g b a in
+      let l = length-append (start_tokens ts end k) (given_all ts end f.call (record { procedure = d; place = k; base = n })) in
+      goes_on p q fs hs f (g ∷ b ∷ []) us n m w wrote
+      (call_opened f g b (reverse fs) k n d close h t e means u v x y z r
+      ∙ ap (λ i. us ++ left ts end outer (b ∷ g ∷ reverse fs) i) (sym c)
+      ∙ ap (λ i. us ++ left ts end outer i m) (sym two.1))
+      two.0
+      (All-append (IsFrame ts end outer) (g ∷ []) (b ∷ []) (one_frame g (frame_on f g (last_frame fs f w.frames) u x (omega (arith, v))))
+      (one_frame b (body_frame f g b (reverse fs) k n d close h t e means o y z r)))
+      (let i = w.few in let j = count_grows (text_names ts end) us p q wrote in
+      let v = replaced_few ts end s is d (is_within f g b (reverse fs) k n d close h t e means) (is_begun f g b (reverse fs) k n d close h t e means) in
+      omega (arith, i, j, l, v, c))
+      (omega (arith, l))
+
+  -- ---- a call that comes next
+
+  module _ (p : Pen) (fs : List Frame) (f : Frame) (k n d close : ℕ) (w : IsWriting ts end outer p (fs ++ f ∷ []) n) (h : IsNext ts end outer f k)
+      (t : is_call (signs ts) k ≡ true) (e : call_end (signs ts) k ≡ Closed close) (means : meant ts k ≡ Some d) where
+    abbrev the_call : Call
+    the_call = record { procedure = d; place = k; base = n }
+
+    abbrev pub whole_call : List MadeToken
+    whole_call = start_tokens ts end k ++ given_all ts end f.call the_call
+
+    -- the body of its procedure
+    abbrev the_body : Frame
+    the_body = record { next = (head (signs ts) d).stop + 1; stop = closed_at ts end (body_end (signs ts) d); call = Some the_call }
+
+    -- what is left around it
+    abbrev the_rest : Frame
+    the_rest = record { next = f.next + (close - k) + 2; stop = f.stop; call = f.call }
+
+    pub callee_begun : begins (signs ts) d ≡ true
+    callee_begun = is_begun f the_rest the_body (reverse fs) k n d close h t e means
+
+    pub callee_within : d < length ts
+    callee_within = is_within f the_rest the_body (reverse fs) k n d close h t e means
+
+    pub callee_open : (q : Pen) → Wrote (text_names ts end) (start_tokens ts end k) p q → IsOpen ts end the_call
+    callee_open q wrote = is_open f the_rest the_body (reverse fs) k n d close h t e means p q (fs ++ f ∷ []) w wrote
+
+    pub callee_counted : count (signs ts) k ≡ (head (signs ts) d).params
+    callee_counted = counted ts end is.accepted k (let s = h.stands in s.within) t d means
+
+    pub arguments_stand : StandIn ts end f.call k close
+    arguments_stand = arguments_in ts end s is f.call k close h.stands t e
+
+    pub close_up : (k < close) × (close < length ts)
+    close_up = let c = closed_in (signs ts) (k + 1) close (call_within (signs ts) k t) e in
+        let a = length-map ts (λ (t : TokenAt). sign_of t.bytes) in (omega (arith, c), omega (arith, c, a))
+
+    pub count_at : slice_index_or s.marks.counts.items d 0 ≡ length (replaced_at ts end (procedure (signs ts) d))
+    count_at = let m = is.marks in let a = m.all in a.count d callee_within callee_begun
+
+    pub counts_long : length s.marks.counts.items ≡ length ts
+    counts_long = let m = is.marks in let a = m.all in a.counted
+
+    pub given_small : n + length (replaced_at ts end (procedure (signs ts) d)) ≤ 1099512676352
+    given_small = let a = w.few in let b = few_written (text_names ts end) p w.pen in let c = replaced_few ts end s is d callee_within callee_begun in
+        omega (arith, a, b, c)
+
+    -- the whole would be too long
+    pub call_long : IsTooLong p whole_call → IsWholeTooLong ts end outer p (fs ++ f ∷ []) n
+    call_long g = whole_long p fs f whole_call
+        (left ts end outer (the_body ∷ the_rest ∷ reverse fs) (n + length (replaced_at ts end (procedure (signs ts) d)))) n
+        (call_opened f the_rest the_body (reverse fs) k n d close h t e means refl refl refl refl refl refl) g
+
+  -- ---- all of it
+
+  pub starts : (p : Pen) (hs : List Frame) (f : Frame) → IsPen (text_names ts end) p → written p ≡ [] → hs ≡ f ∷ [] → f.next ≡ 0 → f.stop ≡ length outer
+      → f.call ≡ None → IsWriting ts end outer p hs 0 × (whole ts end outer p hs 0 ≡ expansion ts end)
+  starts p hs f h none e u v c = (
+    record {
+      pen = h;
+      frames = subst (All (IsFrame ts end outer)) (sym e) (one_frame f (record {
+        outside = λ z. v;
+        inside = λ b z. absurd (let y = sym c ∙ z in cc);
+      }));
+      few = omega arith;
+    },
+    ap (λ x. x ++ left ts end outer (reverse hs) 0) none ∙ ap (λ r. left ts end outer (reverse r) 0) e
+        ∙ left_all ts end outer f is.outer u c,
+  )
+
+  -- nothing is left
+  pub all_done : (p : Pen) (hs : List Frame) (n : ℕ) → hs ≡ [] → whole ts end outer p hs n ≡ expansion ts end → written p ≡ expansion ts end
+  all_done p hs n e h = sym (append-nil (written p)) ∙ ap (λ r. written p ++ left ts end outer (reverse r) n) (sym e) ∙ h

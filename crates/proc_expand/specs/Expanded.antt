@@ -35,7 +35,7 @@ unless_grown l true = Err Grown
 unless_grown l false = Ok (record { tokens = expansion l.lexemes l.end; end = l.end })
 
 abbrev pub unless_refused : TokenList → Option Refusal → Result ExpandedText ExpandError
-unless_refused l (Some r) = Err (error_for r.why (pos_at l.lexemes l.end r.place))
+unless_refused l (Some r) = Err (error_for r.why (pos_at l.lexemes l.end l.lexemes r.place))
 unless_refused l None = unless_grown l (nat_lt 1048576 (length (expanded_text l)))
 
 -- the first refusal, or that the expanded text is longer than 1,048,576 bytes, or the expanded text

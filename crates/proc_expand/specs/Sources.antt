@@ -65,6 +65,7 @@ pub record InBrackets (ss : List Sign) (start close : ℕ) : Type 0 where
 
 -- an argument ends at the first of these commas, or else where the brackets are closed
 pub record EndsArgument (ss : List Sign) (start close stop : ℕ) : Type 0 where
+  pub down : start ≤ stop
   pub up : stop ≤ close
   pub last : commas_after ss start ≡ [] → stop ≡ close
   pub comma : (c : ℕ) (cs : List ℕ) → commas_after ss start ≡ c ∷ cs → stop ≡ c

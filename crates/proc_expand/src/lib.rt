@@ -7,8 +7,7 @@
 mod brackets;
 mod called;
 mod calls;
-mod error;
-pub mod expand;
+pub mod error;
 mod frame;
 mod fresh;
 mod known;
@@ -26,4 +25,3 @@ mod source;
 #[cfg(test)]
 mod tests;
 mod twice;
-mod write;
