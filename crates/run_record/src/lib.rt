@@ -2,16 +2,6 @@
 //!
 //! Floor `command`, over `jade_alphabet`, `jade_base`, `jade_list` and `number_words`, with `itoa`
 //! and `smallvec` of the kit.
-<<<<<<< HEAD
-//! and `smallvec` of the kit.
-<<<<<<< HEAD
-//! and `smallvec` of the kit.
-=======
-//! of the kit.
->>>>>>> 908983d246c01fc2e6aae834866c042ff1adc62a
-=======
-//! of the kit.
->>>>>>> 96223d21515451f7286b4a3d4e46d6ab349b9056
 #![tactic(auto)]
 
 mod labels;
