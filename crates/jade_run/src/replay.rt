@@ -1,6 +1,6 @@
 //! What a recording comes to that is replayed.
 
-ghost use Rattle.std.specs.Prelude.{◌≡◌, ◌≤◌, ◌↔◌, length, IfOk, IsTrue};
+ghost use Rattle.std.specs.Prelude.{◌≡◌, ◌≤◌, ◌↔◌, length, IfOk, IfSome, IsTrue};
 ghost use Rattle.jade_syntax.specs.Image.{program};
 ghost use Rattle.jade_syntax.specs.Objects.{sizes};
 ghost use Rattle.jade_meaning.specs.Report.{report as reported};
@@ -24,7 +24,7 @@ use std::alloc::Global;
 use std::sync::Wait;
 use std::thread::Threads;
 use steal_workers::{EmptyGate, run_tasks};
-use task_codegen::compile;
+use task_codegen::{Compiled, compile};
 
 /// What bytes are answered with of which this line is the first that breaks the form.
 fn formless(alloc: Global, line: u32) -> Result<Answer, Memory>
@@ -102,9 +102,79 @@ fn compared(
     })
 }
 
-/// What a recording comes to whose program is this one, and whose turns are named by these lists. A
-/// run by one worker tells its turns, and where these are those of the recording, it is the run to
-/// compare with; the program is followed by the lists only where they are others.
+/// Whether each path of a list stands after the one before it.
+fn ascend(paths: &PathList) -> bool {
+    for i in 1..paths.len() {
+        if paths.at(i).compare(paths.at(i - 1)).is_lt() {
+            return false;
+        }
+    }
+    true
+}
+
+/// Whether the turns on each object are in serial order, as those of a run by one worker mostly are.
+fn are_in_order(lists: &TurnLists) -> bool {
+    for i in 0..lists.len() {
+        if !ascend(lists.at(i)) {
+            return false;
+        }
+    }
+    true
+}
+
+/// What a recording comes to of whose program the turns are named by these lists, where a run by one
+/// worker takes these turns.
+fn replay_by_run<R: Threads + Wait + Sync>(
+    rt: &R,
+    alloc: Global,
+    compiled: &Compiled,
+    recorded: &Record,
+    lists: &TurnLists,
+    bytes: &[u8],
+) -> Result<Option<Answer>, Memory>
+    requires plays { Plays bytes.now recorded.now compiled.now.program }
+    requires named { AreNamed compiled.now.program.items recorded.now.turns lists.now }
+    ensures { IfOk result (λ found. IfSome found (λ a. IsReplayed bytes.now a.text.items a.status)) }
+{
+    let numbers = recorded.numbers.as_slice();
+    let ran = run_tasks(rt, alloc, compiled, numbers, 1, recorded.limit, &EmptyGate)?;
+    let report = ran.report(alloc)?;
+    if are_turns(&report.turns, lists) {
+        let answer = compared(alloc, compiled.checked(), recorded, &report)?;
+        return Ok(Some(answer));
+    }
+    Ok(None)
+}
+
+/// What a recording comes to whose program is this one, and whose turns are named by these lists:
+/// the program is followed by them.
+fn replay_followed(
+    alloc: Global,
+    checked: &Checked,
+    recorded: &Record,
+    lists: &TurnLists,
+    bytes: &[u8],
+) -> Result<Answer, Memory>
+    requires plays { Plays bytes.now recorded.now checked.now.program }
+    requires named { AreNamed checked.now.program.items recorded.now.turns lists.now }
+    ensures { IfOk result (λ a. IsReplayed bytes.now a.text.items a.status) }
+{
+    match follow(
+        alloc,
+        checked,
+        recorded.numbers.as_slice(),
+        recorded.limit,
+        lists,
+    ) {
+        Ok(report) => compared(alloc, checked, recorded, &report),
+        Err(FollowError::Off) => turnless(alloc),
+        Err(FollowError::Memory) => Err(Memory),
+    }
+}
+
+/// What a recording comes to whose program is this one, and whose turns are named by these lists.
+/// Where the turns are in serial order, a run by one worker may take just these, and is then the run
+/// to compare with; the program is followed by the lists only where it takes others.
 fn replay_by<R: Threads + Wait + Sync>(
     rt: &R,
     alloc: Global,
@@ -117,17 +187,13 @@ fn replay_by<R: Threads + Wait + Sync>(
     requires named { AreNamed checked.program.items recorded.now.turns lists.now }
     ensures { IfOk result (λ a. IsReplayed bytes.now a.text.items a.status) }
 {
-    let numbers = recorded.numbers.as_slice();
-    let compiled = compile(alloc, checked)?;
-    let ran = run_tasks(rt, alloc, &compiled, numbers, 1, recorded.limit, &EmptyGate)?;
-    let report = ran.report(alloc)?;
-    if are_turns(&report.turns, lists) {
-        return compared(alloc, compiled.checked(), recorded, &report);
+    if !are_in_order(lists) {
+        return replay_followed(alloc, &checked, recorded, lists, bytes);
     }
-    match follow(alloc, compiled.checked(), numbers, recorded.limit, lists) {
-        Ok(report) => compared(alloc, compiled.checked(), recorded, &report),
-        Err(FollowError::Off) => turnless(alloc),
-        Err(FollowError::Memory) => Err(Memory),
+    let compiled = compile(alloc, checked)?;
+    match replay_by_run(rt, alloc, &compiled, recorded, lists, bytes)? {
+        Some(answer) => Ok(answer),
+        None => replay_followed(alloc, compiled.checked(), recorded, lists, bytes),
     }
 }
 
