@@ -29,3 +29,4 @@ mod WrittenTree
 mod WrittenNames
 mod WrittenMeaning
 mod ProperTree
+mod TextRead
