@@ -13,7 +13,7 @@ use Rattle.proc_expand.proofs.First.{plus_one}
 use Rattle.proc_expand.proofs.NameLists.{met_more, are_first}
 
 module _ (ts : List TokenAt) (end : Pos) (p : ℕ) where
-  abbrev heads_names : ℕ → List Name
+  abbrev pub heads_names : ℕ → List Name
   heads_names n = map (bytes_at ts) (map (param_place p) (from ts end 0 n))
 
   pub all_replaced : (own mid all : List Name) (start stop n : ℕ) → own ≡ items ts end → n ≡ (head (signs ts) p).params

@@ -133,7 +133,7 @@ closed_inside ss o i j c a b l h e m g f n w =
 
 -- ---- heads
 
-abbrev nth : List Sign → ℕ → Sign
+abbrev pub nth : List Sign → ℕ → Sign
 nth us i = slice_index_or us i Other
 
 after_ok : (us : List Sign) (k i : ℕ) → (after_params k us).fits ≡ true → k + i < (after_params k us).stop → is_proc (nth us i) ≡ false
@@ -213,7 +213,7 @@ inside_ok (Semicolon ∷ us) k i f l = absurd (cc)
 inside_ok (Comma ∷ us) k i f l = absurd (cc)
 inside_ok (Other ∷ us) k i f l = absurd (cc)
 
-head_ok : (us : List Sign) (k i : ℕ) → (head_from k us).fits ≡ true → k + i < (head_from k us).stop → is_proc (nth us i) ≡ false
+pub head_ok : (us : List Sign) (k i : ℕ) → (head_from k us).fits ≡ true → k + i < (head_from k us).stop → is_proc (nth us i) ≡ false
 head_ok [] k i f l = absurd (cc)
 head_ok (Called ∷ []) k i f l = absurd (cc)
 head_ok (Called ∷ Opens Round ∷ us) k zero f l = refl

@@ -283,7 +283,7 @@ place_after ss n k = ap (λ s. made n (opens_curly s) k) (sym (first_of ss k)) �
 
 -- ---- the `{` of a head
 
-curly_is : (s : Sign) → opens_curly s ≡ true → s ≡ Opens Curly
+pub curly_is : (s : Sign) → opens_curly s ≡ true → s ≡ Opens Curly
 curly_is (Opens Curly) h = refl
 curly_is Proc h = absurd (cc)
 curly_is Main h = absurd (cc)

@@ -11,3 +11,11 @@ mod StackOfFrames
 mod SheetFacts
 mod Depths
 mod BodyNames
+mod Outside
+mod WholeHeads
+mod Wholes
+mod Marking
+mod PenFacts
+mod OpenBodies
+mod Writing
+mod Origins

@@ -1,9 +1,9 @@
 -- Lists of names, as they grow by one.
-use Rattle.std.proofs.Common.{◌≡◌, ℕ, zero, suc, ◌+◌, ◌<◌, ◌≤◌, Bool, true, false, cond, ◌||◌, List, [], ◌∷◌, ◌++◌, ◌-◌, ◌≢◌, length, drop, slice_set, Option, Some, None, refl, sym, ap, ◌∙◌, subst, arith}
+use Rattle.std.proofs.Common.{◌≡◌, ℕ, zero, suc, ◌+◌, ◌<◌, ◌≤◌, Bool, true, false, cond, ◌||◌, List, [], ◌∷◌, ◌++◌, ◌-◌, ◌≢◌, length, drop, slice_set, take, get_or, not, Option, Some, None, refl, sym, ap, ◌∙◌, subst, arith}
 use Rattle.std.specs.Prelude.{map, slice_index_or, ◌&&◌, if◌then◌else◌}
 use Rattle.std.specs.Map.{lookup}
 use Rattle.std.specs.List.{filter}
-use Rattle.std.proofs.lemmas.List.{map-append, append_assoc, length-append, append-nil, get_or-set_same, get_or-set_other}
+use Rattle.std.proofs.lemmas.List.{take_more, map-append, append_assoc, length-append, append-nil, get_or-set_same, get_or-set_other}
 use Rattle.std.proofs.lemmas.List.Elements.{filter-append}
 use Rattle.jade_base.specs.declared.place.Pos.{Pos}
 use Rattle.jade_lexer.specs.Lexemes.{TokenAt}
@@ -11,14 +11,13 @@ use Rattle.jade_syntax.specs.Abstract.{Name}
 use Rattle.jade_syntax.specs.Numbering.{same_name}
 use Rattle.name_scope.proofs.Kept.{same_from, same_self}
 use Rattle.proc_expand.specs.declared.sign.Sign.{Sign}
-use Rattle.proc_expand.specs.declared.sign.Sign.TheVariants.{Proc, Main, Else, Kind, ItemWord, Called, Opens, Closes, Semicolon, Comma, Other}
-use Rattle.proc_expand.specs.Words.{at, bytes_at, those, one_if, is_called}
+use Rattle.proc_expand.specs.Words.{signs, at, bytes_at, those, one_if, is_called, is_item_word}
 use Rattle.proc_expand.specs.Names.{is_among, first_places, place_among}
 use Rattle.proc_expand.specs.Refusals.{param_place}
-use Rattle.proc_expand.specs.Written.{item_names_from, from, is_variable, names_at}
-use Rattle.proc_expand.specs.Replaced.{is_item_word, names_of, with_name, with_names, found_among, AreNumbered, IsNumber, IsMark}
-use Rattle.proc_expand.proofs.First.{drop_at, plus_one, both_left, both_right}
-use Rattle.proc_expand.proofs.Heads.{first_of, called_is, lies_within}
+use Rattle.proc_expand.specs.Written.{items as item_names, from, is_variable, names_at, in_procedure}
+use Rattle.proc_expand.specs.Replaced.{names_of, with_name, with_names, found_among, AreNumbered, IsNumber, IsMark}
+use Rattle.proc_expand.proofs.First.{plus_one}
+use Rattle.proc_expand.proofs.Outside.{those_filter}
 
 -- ---- one name more
 
@@ -261,68 +260,46 @@ names_both ts end ks js =
 
 -- ---- the names of items and of the text
 
-item_is : (s : Sign) → is_item_word s ≡ true → s ≡ ItemWord
-item_is ItemWord h = refl
-item_is Proc h = absurd (cc)
-item_is Main h = absurd (cc)
-item_is Else h = absurd (cc)
-item_is Kind h = absurd (cc)
-item_is Called h = absurd (cc)
-item_is (Opens b) h = absurd (cc)
-item_is (Closes b) h = absurd (cc)
-item_is Semicolon h = absurd (cc)
-item_is Comma h = absurd (cc)
-item_is Other h = absurd (cc)
+-- those of some places that stand directly after a word of items
+abbrev pub stands : List Sign → ℕ → Bool
+stands ss k = is_item_word (at ss k) && is_called (at ss (suc k))
 
-module _ (ts : List TokenAt) (end : Pos) where
-  no_item : (u : Sign) (us : List Sign) (k : ℕ) → is_called u ≡ false
-      → item_names_from ts end (ItemWord ∷ u ∷ us) k ≡ item_names_from ts end (u ∷ us) (suc k)
-  no_item Called us k h = absurd (cc)
-  no_item Proc us k h = refl
-  no_item Main us k h = refl
-  no_item Else us k h = refl
-  no_item Kind us k h = refl
-  no_item ItemWord us k h = refl
-  no_item (Opens b) us k h = refl
-  no_item (Closes b) us k h = refl
-  no_item Semicolon us k h = refl
-  no_item Comma us k h = refl
-  no_item Other us k h = refl
+abbrev pub items_among : List TokenAt → List Sign → List ℕ → List Name
+items_among ts ss ks = map (λ k. bytes_at ts (suc k)) (filter (stands ss) ks)
 
-  passed : (s : Sign) (us : List Sign) (k : ℕ) → (is_item_word s && is_called (slice_index_or us 0 Other)) ≡ false
-      → item_names_from ts end (s ∷ us) k ≡ item_names_from ts end us (suc k)
-  passed ItemWord [] k h = refl
-  passed ItemWord (u ∷ us) k h = no_item u us k h
-  passed Proc us k h = refl
-  passed Main us k h = refl
-  passed Else us k h = refl
-  passed Kind us k h = refl
-  passed Called us k h = refl
-  passed (Opens b) us k h = refl
-  passed (Closes b) us k h = refl
-  passed Semicolon us k h = refl
-  passed Comma us k h = refl
-  passed Other us k h = refl
+pub no_item : (ts : List TokenAt) (es : List (Name × ℕ)) (ss : List Sign) (k : ℕ) → (is_item_word (at ss k) && is_called (at ss (k + 1))) ≡ false
+    → names_of es ≡ names_of es ++ map (λ k. bytes_at ts (suc k)) (one_if (is_item_word (at ss k) && is_called (at ss (suc k))) k)
+no_item ts es ss k h =
+    sym (append-nil (names_of es))
+    ∙ ap (λ t. names_of es ++ map (λ k. bytes_at ts (suc k)) (one_if t k)) (sym h)
+    ∙ ap (λ i. names_of es ++ map (λ k. bytes_at ts (suc k)) (one_if (is_item_word (at ss k) && is_called (at ss i)) k)) (plus_one k)
 
-  pub items_pass : (ss : List Sign) (k : ℕ) → k < length ss → (is_item_word (at ss k) && is_called (at ss (k + 1))) ≡ false
-      → item_names_from ts end (drop k ss) k ≡ item_names_from ts end (drop (k + 1) ss) (k + 1)
-  items_pass ss k l h =
-      ap (λ u. item_names_from ts end u k) (drop_at ss k l)
-      ∙ passed (at ss k) (drop (k + 1) ss) k (ap (λ s. is_item_word (at ss k) && is_called s) (first_of ss (k + 1)) ∙ h)
-      ∙ ap (item_names_from ts end (drop (k + 1) ss)) (sym (plus_one k))
+pub item_added : (ts : List TokenAt) (es more : List (Name × ℕ)) (x : Name) (v : ℕ) (ss : List Sign) (k : ℕ) → more ≡ (x, v) ∷ es → x ≡ bytes_at ts (k + 1)
+    → (is_item_word (at ss k) && is_called (at ss (k + 1))) ≡ true
+    → names_of more ≡ names_of es ++ map (λ k. bytes_at ts (suc k)) (one_if (is_item_word (at ss k) && is_called (at ss (suc k))) k)
+item_added ts es more x v ss k h e t =
+    ap names_of h ∙ ap (λ y. names_of es ++ y ∷ []) (e ∙ ap (bytes_at ts) (plus_one k))
+    ∙ ap (λ u. names_of es ++ map (λ k. bytes_at ts (suc k)) (one_if u k)) (sym t)
+    ∙ ap (λ i. names_of es ++ map (λ k. bytes_at ts (suc k)) (one_if (is_item_word (at ss k) && is_called (at ss i)) k)) (plus_one k)
 
-  pub items_take : (ss : List Sign) (k : ℕ) → k < length ss → (is_item_word (at ss k) && is_called (at ss (k + 1))) ≡ true
-      → item_names_from ts end (drop k ss) k ≡ bytes_at ts (k + 1) ∷ item_names_from ts end (drop (k + 2) ss) (k + 2)
-  items_take ss k l h =
-      let is_word = item_is (at ss k) (both_left (is_item_word (at ss k)) (is_called (at ss (k + 1))) h) in
-      let called = both_right (is_item_word (at ss k)) (is_called (at ss (k + 1))) h in
-      let m = lies_within ss (k + 1) is_called refl called in
-      ap (λ u. item_names_from ts end u k)
-      (drop_at ss k l ∙ ap (λ s. s ∷ drop (k + 1) ss) is_word ∙ ap (λ u. ItemWord ∷ u) (drop_at ss (k + 1) m)
-      ∙ ap (λ s. ItemWord ∷ s ∷ drop (k + 1 + 1) ss) (called_is (at ss (k + 1)) called))
-      ∙ ap (λ i. bytes_at ts i ∷ item_names_from ts end (drop (k + 1 + 1) ss) (suc i)) (sym (plus_one k))
-      ∙ ap (λ i. bytes_at ts (k + 1) ∷ item_names_from ts end (drop (k + 1 + 1) ss) i) (sym (plus_one (k + 1)))
-      ∙ (let e : k + 1 + 1 ≡ k + 2 = omega arith in ap (λ i. bytes_at ts (k + 1) ∷ item_names_from ts end (drop i ss) i) e)
+pub items_more : (ts : List TokenAt) (ss : List Sign) (ks : List ℕ) (i d : ℕ) → i < length ks
+    → items_among ts ss (take i ks) ++ map (λ k. bytes_at ts (suc k)) (one_if (stands ss (get_or ks i d)) (get_or ks i d))
+    ≡ items_among ts ss (take (i + 1) ks)
+items_more ts ss ks i d l =
+    ap (λ u. items_among ts ss (take i ks) ++ map (λ k. bytes_at ts (suc k)) u) (by (stands ss (get_or ks i d)) refl)
+    ∙ sym (map-append (λ k. bytes_at ts (suc k)) (filter (stands ss) (take i ks)) (filter (stands ss) (get_or ks i d ∷ [])))
+    ∙ ap (map (λ k. bytes_at ts (suc k))) (sym (filter-append (stands ss) (take i ks) (get_or ks i d ∷ [])))
+    ∙ ap (items_among ts ss) (sym (take_more ks i d l))
+  where
+    by : (b : Bool) → stands ss (get_or ks i d) ≡ b → one_if b (get_or ks i d) ≡ filter (stands ss) (get_or ks i d ∷ [])
+    by true e = ap (λ t. if t then get_or ks i d ∷ [] else []) (sym e)
+    by false e = ap (λ t. if t then get_or ks i d ∷ [] else []) (sym e)
+
+pub all_items : (ts : List TokenAt) (end : Pos) (ss : List Sign) (ks : List ℕ) → ss ≡ signs ts
+    → ks ≡ those (length ts) (λ k. not (in_procedure ts end k)) → items_among ts ss ks ≡ item_names ts end
+all_items ts end ss ks e h =
+    ap (λ u. items_among ts u ks) e ∙ ap (items_among ts (signs ts)) h
+    ∙ ap (map (λ k. bytes_at ts (suc k))) (those_filter (length ts) (stands (signs ts)) (λ k. not (in_procedure ts end k)))
 
 pub those_more : (ts : List TokenAt) (k : ℕ) (is : ℕ → Bool)
     → map (bytes_at ts) (those (suc k) is) ≡ map (bytes_at ts) (those k is) ++ map (bytes_at ts) (one_if (is k) k)

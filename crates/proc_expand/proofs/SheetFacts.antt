@@ -8,7 +8,7 @@ use Rattle.proc_expand.specs.declared.sheet.Sheet.{Sheet}
 use Rattle.proc_expand.specs.Written.{MadeToken}
 use Rattle.proc_expand.specs.Sheets.{spaced_out, piece_token, tokens_of, AreLaid, IsSheet}
 
-laid_up : (n : ℕ) (ps : List Piece) (m : ℕ) → AreLaid n ps m → n ≤ m
+pub laid_up : (n : ℕ) (ps : List Piece) (m : ℕ) → AreLaid n ps m → n ≤ m
 laid_up n [] m h = omega (arith, h)
 laid_up n (p ∷ ps) m h = let b = h.0.up in let l = laid_up (p.stop + 1) ps m h.1 in omega (arith, b, l)
 
@@ -16,7 +16,7 @@ laid_more : (n : ℕ) (ps : List Piece) (m : ℕ) (p : Piece) → AreLaid n ps m
 laid_more n [] m p h e l = (record { at = e ∙ sym h; up = omega (arith, h, l) }, refl)
 laid_more n (q ∷ ps) m p h e l = (h.0, laid_more (q.stop + 1) ps m p h.1 e l)
 
-same_piece : (text more : List ℕ) (p : Piece) → p.start ≤ p.stop → p.stop ≤ length text → piece_token (text ++ more) p ≡ piece_token text p
+pub same_piece : (text more : List ℕ) (p : Piece) → p.start ≤ p.stop → p.stop ≤ length text → piece_token (text ++ more) p ≡ piece_token text p
 same_piece text more p h l =
     ap (λ u. record { bytes = u; origin = p.origin })
     (ap (take (p.stop - p.start)) (drop-append-le p.start text more (omega (arith, h, l)))

@@ -61,6 +61,10 @@ module _ (ts : List TokenAt) (end : Pos) where
   abbrev pub procedures : List Procedure
   procedures = map (procedure (signs ts)) (those (length ts) (begins (signs ts)))
 
+  -- a place lies in a procedure
+  abbrev pub in_procedure : ℕ → Bool
+  in_procedure k = list_any (λ (p : Procedure). nat_le p.place k && nat_le k (closed_at p.end)) procedures
+
   -- the names of the text
   abbrev pub text_names : List Name
   text_names = map (bytes_at ts) (those (length ts) (λ k. is_called (at (signs ts) k)))

@@ -7,16 +7,21 @@
 mod brackets;
 mod called;
 mod calls;
+pub mod error;
 mod frame;
 mod fresh;
 mod known;
+mod marks;
 mod naming;
+mod outer;
+mod pen;
 mod places;
 pub mod procedures;
 pub mod refusal;
 mod scan;
 mod sheet;
 pub mod sign;
+mod source;
 #[cfg(test)]
 mod tests;
 mod twice;

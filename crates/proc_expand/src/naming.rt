@@ -1,12 +1,12 @@
 //! The names that calls replace.
 
 ghost use Rattle.std.specs.Prelude.{◌≡◌, ◌∷◌, ◌++◌, ◌+◌, ◌-◌, ◌*◌, ◌<◌, ◌≤◌, ◌&&◌, [], length, map, true, slice_index_or, IfOk, OnOk, None};
-ghost use Rattle.std.specs.Prelude.{ℕ, not};
+ghost use Rattle.std.specs.Prelude.{ℕ, suc, not};
 ghost use Rattle.proc_expand.specs.Names.{is_among};
-ghost use Rattle.proc_expand.specs.Words.{at, bytes_at, is_called, one_if, signs as signs_of};
+ghost use Rattle.proc_expand.specs.Words.{at, bytes_at, is_called, is_item_word, those, one_if, signs as signs_of};
 ghost use Rattle.proc_expand.specs.Refusals.{param_place, is_call};
-ghost use Rattle.proc_expand.specs.Written.{items, text_names, is_variable, names_at, from};
-ghost use Rattle.proc_expand.specs.Replaced.{is_item_word, names_of, with_name, with_names, number_among, AreNumbered, IsNumber, IsMark};
+ghost use Rattle.proc_expand.specs.Written.{items, text_names, is_variable, names_at, from, in_procedure};
+ghost use Rattle.proc_expand.specs.Replaced.{names_of, with_name, with_names, number_among, AreNumbered, IsNumber, IsMark};
 
 use crate::calls::is_call;
 use crate::sign::{Sign, bytes_at, is_called, sign_at};
@@ -14,17 +14,6 @@ use jade_base::Memory;
 use jade_lexer::Tokens;
 use name_scope::NameScope;
 use std::alloc::Global;
-
-/// A procedure whose calls are written: the place of its `proc`, how many parameters it has, the
-/// first place of its body and the place after the last, and how many names a call replaces.
-#[derive(Clone, Copy, Debug, PartialEq, Eq)]
-pub(crate) struct Body {
-    pub(crate) place: usize,
-    pub(crate) params: usize,
-    pub(crate) start: usize,
-    pub(crate) stop: usize,
-    pub(crate) names: usize,
-}
 
 /// Whether it is `input`, `object` or `objects`.
 fn is_item_word(sign: Sign) -> bool
@@ -44,24 +33,39 @@ fn before_item(signs: &[Sign], place: usize) -> bool
     is_item_word(signs[place]) && is_called(sign_at(signs, place + 1))
 }
 
-/// The names that stand directly after `input`, `object` or `objects`.
+/// Adds the name that stands directly after a place, if that is an item's.
+#[tactic(auto, using(crate::proofs::NameLists::no_item, crate::proofs::NameLists::item_added))]
+fn add_item<'t>(
+    found: &mut NameScope<'t, usize>,
+    tokens: &Tokens<'t>,
+    signs: &[Sign],
+    place: usize,
+) -> Result<(), Memory>
+    requires { place < length signs.now }
+    ensures { OnOk result (names_of found.new ≡ names_of found.old ++ map (λ k. bytes_at tokens.now.lexemes (suc k)) (one_if (is_item_word (at signs.now place) && is_called (at signs.now (suc place))) place)) }
+{
+    if !before_item(signs, place) {
+        return Ok(());
+    }
+    found.declare(bytes_at(tokens, place + 1), place)?;
+    Ok(())
+}
+
+/// The names of items: those that stand directly after `input`, `object` or `objects` at one of the
+/// places outside of procedures.
 pub(crate) fn items<'t>(
     alloc: Global,
     tokens: &Tokens<'t>,
     signs: &[Sign],
+    outer: &[usize],
 ) -> Result<NameScope<'t, usize>, Memory>
-    requires { signs.now ≡ signs_of tokens.now.lexemes }
+    requires signs { signs.now ≡ signs_of tokens.now.lexemes }
+    requires outer { outer.now ≡ those (length tokens.now.lexemes) (λ k. not (in_procedure tokens.now.lexemes tokens.now.end k)) }
     ensures { IfOk result (λ found. names_of found ≡ items tokens.now.lexemes tokens.now.end) }
 {
     let mut found: NameScope<'t, usize> = NameScope::none(alloc);
-    let mut place = 0;
-    'items: while place < signs.len() {
-        if before_item(signs, place) {
-            found.declare(bytes_at(tokens, place + 1), place)?;
-            place += 2;
-        } else {
-            place += 1;
-        }
+    for i in 0..outer.len() {
+        add_item(&mut found, tokens, signs, outer[i])?;
     }
     Ok(found)
 }

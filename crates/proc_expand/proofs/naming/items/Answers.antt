@@ -1,22 +1,21 @@
-use Rattle.std.proofs.Common.{◌+◌, ◌++◌, [], ◌∷◌, drop, sym, ap, ◌∙◌}
-use Rattle.std.proofs.lemmas.List.{append_assoc}
-use Rattle.proc_expand.specs.Written.{item_names_from}
-use Rattle.proc_expand.specs.Replaced.{names_of}
-use Rattle.proc_expand.proofs.NameLists.{items_take, items_pass}
+use Rattle.std.proofs.Common.{◌≡◌, ◌<◌, ◌++◌, length, take, map, suc, slice_index_or, sym, ap, ◌∙◌, subst, arith}
+use Rattle.std.proofs.lemmas.List.{take_all, length-map}
+use Rattle.proc_expand.specs.Words.{signs, sign_of, bytes_at, one_if}
+use Rattle.proc_expand.proofs.NameLists.{stands, items_among, items_more, all_items}
+use Rattle.proc_expand.proofs.Outside.{outer_below}
 use Rattle.proc_expand.proofs.naming.items.Goals as goal
 
-pub items-preserved-then-before_item : goal.items-preserved-then-before_item
-items-preserved-then-before_item c =
-    let ts = c.args.tokens.now.lexemes in let end = c.args.tokens.now.end in let ss = c.args.signs.now in let k = c.items.place in
-    let rest = item_names_from ts end (drop (k + 2) ss) (k + 2) in
-    ap (λ es. names_of es ++ rest) c.in_ok-declare.ensures.declared
-    ∙ append_assoc (names_of c.items.found) (c.bytes_at.result.now ∷ []) rest
-    ∙ ap (λ x. names_of c.items.found ++ x ∷ rest) c.bytes_at.ensures
-    ∙ ap (λ u. names_of c.items.found ++ u) (sym (items_take ts end ss k c.items-test.true (sym c.before_item.ensures ∙ c.if-before_item.true)))
-    ∙ c.items.invariant
+pub add_item-requires : goal.add_item-requires
+add_item-requires c = outer_below c.args.tokens.now.lexemes c.args.tokens.now.end c.args.signs.now c.args.outer.now c.loop-i.i 0 c.requires.signs c.requires.outer c.loop-i-test.true
 
-pub items-preserved : goal.items-preserved
-items-preserved c =
-    let ts = c.args.tokens.now.lexemes in let end = c.args.tokens.now.end in let ss = c.args.signs.now in let k = c.items.place in
-    ap (λ u. names_of c.items.found ++ u) (sym (items_pass ts end ss k c.items-test.true (sym c.before_item.ensures ∙ c.if-before_item.false)))
-    ∙ c.items.invariant
+pub loop-i-preserved : goal.loop-i-preserved
+loop-i-preserved c =
+    let ts = c.args.tokens.now.lexemes in let ss = c.args.signs.now in let ks = c.args.outer.now in let k = slice_index_or ks c.loop-i.i 0 in
+    c.in_ok-add_item.ensures ∙ ap (λ u. u ++ map (λ j. bytes_at ts (suc j)) (one_if (stands ss k) k)) c.loop-i.invariant
+    ∙ items_more ts ss ks c.loop-i.i 0 c.loop-i-test.true
+
+pub returns : goal.returns
+returns c =
+    let ts = c.args.tokens.now.lexemes in let ss = c.args.signs.now in let ks = c.args.outer.now in
+    c.loop-i.invariant ∙ ap (items_among ts ss) (take_all c.loop-i.i ks (let t = c.loop-i-test.false in omega (arith, t)))
+    ∙ all_items ts c.args.tokens.now.end ss ks c.requires.signs c.requires.outer
