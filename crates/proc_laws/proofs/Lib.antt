@@ -30,3 +30,4 @@ mod WrittenNames
 mod WrittenMeaning
 mod ProperTree
 mod TextRead
+mod ProgramTokens

@@ -1,62 +1,24 @@
 -- The text that is written for a source reads as the tokens that are written, where it reads as tokens at all.
-use Rattle.std.proofs.Common.{◌≡◌, ℕ, ◌<◌, Bool, true, false, ◌&&◌, ◌||◌, List, [], ◌∷◌, ◌++◌, length, map, take, drop, Result, Ok, Err, refl, sym, ap, ◌∙◌, arith}
-use Rattle.std.specs.Prelude.{ℤ, not, nat_le, nat_lt, ◌==◌, if◌then◌else◌}
+use Rattle.std.proofs.Common.{◌≡◌, ℕ, ◌<◌, Bool, true, false, ◌&&◌, List, [], ◌∷◌, ◌++◌, length, map, take, drop, Result, Ok, Err, refl, sym, ap, ◌∙◌, arith}
+use Rattle.std.specs.Prelude.{not, nat_le, nat_lt, ◌==◌, if◌then◌else◌}
 use Rattle.std.specs.List.{list_all, list_any}
 use Rattle.std.specs.Char.{is_ascii_digit}
-use Rattle.std.specs.Fmt.{decimal}
-use Rattle.std.proofs.lemmas.Bool.{and_parts, leb-true}
+use Rattle.std.proofs.lemmas.Bool.{and_parts}
 use Rattle.std.proofs.lemmas.List.{append_assoc, length-append}
 use Rattle.jade_alphabet.specs.declared.TheConstants.{WORD_LIMIT, DEPTH_LIMIT}
-use Rattle.jade_alphabet.specs.Letters.{is_letter, is_word}
+use Rattle.jade_alphabet.specs.Letters.{is_letter}
 use Rattle.jade_lexer.specs.declared.lexeme.LexError.{LexError}
 use Rattle.jade_lexer.specs.declared.lexeme.LexError.TheVariants.{Byte, Number, Deep}
-use Rattle.jade_lexer.specs.Alphabet.{is_token, is_run, is_symbol, is_number, is_opener, longest}
+use Rattle.jade_lexer.specs.Alphabet.{is_token, is_number, is_opener, longest}
 use Rattle.jade_lexer.specs.Lexemes.{TokenAt, TokenList}
 use Rattle.jade_lexer.specs.Reading.{Reading, Whole, Refused, add, first_part, token_part, read_from, reading, first_spot, spot_after, depth_after, pos_after}
 use Rattle.jade_lexer.proofs.Longest.{longest_is}
 use Rattle.jade_lexer.proofs.Parts.{part_token, part_separator}
 use Rattle.jade_lexer.proofs.Steps.{blank_read, token_read, refused_read}
-use Rattle.jade_layout.specs.Readable.{is_sound}
 use Rattle.jade_layout.proofs.Apart.{cutters, apart_cutter, apart_longest}
-use Rattle.jade_layout.proofs.Goes.{is_plain, decimal_plain}
-use Rattle.jade_syntax.specs.Names.{is_reserved}
-use Rattle.jade_parser.specs.declared.Sign as lexicon
-use Rattle.jade_parser.specs.declared.Sign.TheVariants.{InputWord}
-use Rattle.jade_parser.specs.Spelled.{Token, Fixed, Called, Counted, Unknown, Part, Parts, is_valid}
-use Rattle.jade_parser.specs.Kinds.{token_bytes, sign_bytes}
-use Rattle.jade_parser.specs.Grammar.{bytes_of, texts}
+use Rattle.jade_parser.specs.Grammar.{texts}
 use Rattle.proc_expand.specs.Written.{MadeToken, expansion, spaced, expanded_text}
 use Rattle.proc_laws.specs.SourceReading.{made_token, expanded_tokens}
-
--- ---- the tokens of a program are tokens
-
-first_and : (a b : Bool) → (a && b) ≡ true → a ≡ true
-first_and true b h = refl
-first_and false b h = absurd (cc)
-
-sign_token : (s : lexicon.Sign) → is_token (sign_bytes s) ≡ true
-sign_token InputWord = refl
-sign_token s = refl
-
-pub is_token_of : (t : Token) → is_valid t ≡ true → is_token (token_bytes t) ≡ true
-is_token_of (Fixed s) h = sign_token s
-is_token_of (Called x) h =
-    let a = first_and (nat_le (length x) WORD_LIMIT && is_word x) (not (is_reserved x)) h in
-    let b = and_parts (nat_le (length x) WORD_LIMIT) (is_word x) a in
-    word_token x b.1
-  where
-    word_token : (x : List ℕ) → is_word x ≡ true → is_token x ≡ true
-    word_token x w = ap (λ t. t || is_run x || is_symbol x) w
-is_token_of (Counted (ℤ.pos n)) h = token_of_plain (decimal n) (decimal_plain n (leb-true n 9223372036854775807 h))
-  where
-    firsts : (a b c d e : Bool) → (a && b && c && d && e) ≡ true → a ≡ true
-    firsts true b c d e h = refl
-    firsts false b c d e h = absurd (cc)
-
-    token_of_plain : (x : List ℕ) → is_plain x ≡ true → is_token x ≡ true
-    token_of_plain x g = first_and (is_token x) _ (first_and _ _ (firsts (is_sound x) _ _ _ _ g))
-is_token_of (Counted (ℤ.negsuc n)) h = absurd (cc)
-is_token_of Unknown h = absurd (cc)
 
 -- ---- one token, and what comes after it
 
@@ -163,20 +125,3 @@ tokens_read (t ∷ u ∷ us) h spot tokens r =
 pub text_read : (l there : TokenList) → list_all (λ (t : MadeToken). is_token t.bytes) (expansion l.lexemes l.end) ≡ true
     → reading (expanded_text l) ≡ Whole there → texts there ≡ texts (expanded_tokens l)
 text_read l there h r = tokens_read (expansion l.lexemes l.end) h first_spot there r
-
--- what is spelled by such parts is tokens
-pub each_is_token : (us : List MadeToken) (ps : Parts) → bytes_of ps ≡ bytes_made us → list_all (λ (p : Part). is_valid p.token) ps ≡ true
-    → list_all (λ (t : MadeToken). is_token t.bytes) us ≡ true
-each_is_token [] ps e v = refl
-each_is_token (u ∷ us) [] e v = absurd (cc)
-each_is_token (u ∷ us) (p ∷ ps) e v =
-    let b = and_parts (is_valid p.token) (list_all (λ (q : Part). is_valid q.token) ps) v in
-    λ i. (ap is_token (sym (ap (first_or []) e)) ∙ is_token_of p.token b.0) i && each_is_token us ps (ap rest_of e) b.1 i
-  where
-    first_or : List ℕ → List (List ℕ) → List ℕ
-    first_or d [] = d
-    first_or d (x ∷ xs) = x
-
-    rest_of : List (List ℕ) → List (List ℕ)
-    rest_of [] = []
-    rest_of (x ∷ xs) = xs

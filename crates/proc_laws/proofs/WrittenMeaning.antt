@@ -29,11 +29,11 @@ use Rattle.proc_laws.specs.ExpandedTree.{expanded_tree}
 use Rattle.proc_laws.specs.Moved.{moved_course}
 use Rattle.proc_laws.specs.SourceMeaning.{source_course}
 use Rattle.proc_laws.specs.SourceTree.{SourceText, source_of}
-use Rattle.proc_laws.specs.SourceReading.{IsSourceReading, AreWords, made_token, expanded_tokens}
+use Rattle.proc_laws.specs.SourceReading.{IsSourceReading, made_token, expanded_tokens}
 use Rattle.proc_laws.proofs.TokensToSource.{tokens_do}
 use Rattle.jade_lexer.specs.Reading.{reading, Whole}
-use Rattle.proc_laws.proofs.TextRead.{text_read, each_is_token}
-use Rattle.proc_laws.proofs.WrittenTree.{written_reads}
+use Rattle.proc_laws.proofs.TextRead.{text_read}
+use Rattle.proc_laws.proofs.WrittenTree.{written_reads, all_tokens}
 use Rattle.proc_laws.proofs.WrittenNames.{items_listed, main_listed}
 
 -- ---- tokens of a program are no longer than a word may be
@@ -104,12 +104,9 @@ module _ (whole : (p : Program) → erased_program (placed_program p) ≡ progra
       p read faultless ns limit
 
   -- the text that is written, where it reads as tokens
-  pub text_does : (origin : Pos → Pos) (l : TokenList) (q : SourceText) → IsSourceReading l q → refusal l.lexemes ≡ None → AreWords l
+  pub text_does : (origin : Pos → Pos) (l : TokenList) (q : SourceText) → IsSourceReading l q → refusal l.lexemes ≡ None
       → (there : TokenList) → reading (expanded_text l) ≡ Whole there → map origin (positions there) ≡ positions (expanded_tokens l)
       → (p : Program) → IsReading there p → static_faults (placed_program p) ≡ [] → (ns : List ℤ) (limit : ℕ)
       → moved_course origin (root_course (program p) ns limit) ≡ source_course (source_of q) ns limit
-  text_does origin l q r none_refused words there e f p read faultless ns limit =
-      let w = written_reads l q r none_refused words in
-      written_does origin l q r none_refused there
-      (text_read l there (each_is_token (expansion l.lexemes l.end) (program_parts (expanded_tree (fresh_name (text_names l.lexemes l.end)) q)) w.spelled w.sound.valid.is) e)
-      f p read faultless ns limit
+  text_does origin l q r none_refused there e f p read faultless ns limit =
+      written_does origin l q r none_refused there (text_read l there (all_tokens l q r none_refused) e) f p read faultless ns limit

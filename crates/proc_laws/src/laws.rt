@@ -99,11 +99,10 @@ pub fn written_does_as_its_source()
 }
 
 /// A law of programs with procedures, which does nothing: where tokens read as a source and are not
-/// refused, and no token that is written for them is longer than a word may be, then any program
-/// without static faults that the text that is written for them reads as does what the source does,
-/// with its faults at their origins.
+/// refused, then any program without static faults that the text that is written for them reads as
+/// does what the source does, with its faults at their origins.
 pub fn text_does_as_its_source()
-    ensures { (origin : Pos → Pos) → (l : TokenList) → (q : SourceText) → IsSourceReading l q → refusal l.lexemes ≡ None → AreWords l
+    ensures { (origin : Pos → Pos) → (l : TokenList) → (q : SourceText) → IsSourceReading l q → refusal l.lexemes ≡ None
         → (there : TokenList) → reading (expanded_text l) ≡ Whole there → map origin (positions there) ≡ positions (expanded_tokens l)
         → (p : Program) → IsReading there p → static_faults (placed_program p) ≡ []
         → (numbers : List ℤ) → (limit : ℕ)
