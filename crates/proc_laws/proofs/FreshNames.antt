@@ -5,7 +5,7 @@ use Rattle.std.specs.Prelude.{nat_le, if◌then◌else◌}
 use Rattle.std.specs.List.{list_all}
 use Rattle.std.specs.Fmt.{digits_onto, digit_glyph}
 use Rattle.jade_alphabet.specs.declared.TheConstants.{WORD_LIMIT}
-use Rattle.jade_alphabet.specs.Letters.{is_letter_or_digit}
+use Rattle.jade_alphabet.specs.Letters.{is_letter_or_digit, is_word}
 use Rattle.jade_syntax.specs.Abstract.{Name}
 use Rattle.jade_syntax.specs.Names.{is_name}
 use Rattle.proc_expand.specs.Written.{fresh_name, free_number}
@@ -32,3 +32,6 @@ with_v xs h l = λ i. l i && h i && true
 
 pub fresh_is_name : (names : List Name) (i : ℕ) → nat_le (length (fresh_name names i)) WORD_LIMIT ≡ true → is_name (fresh_name names i) ≡ true
 fresh_is_name names i l = with_v (digits_onto (suc (free_number names i)) 10 false (free_number names i) []) (digits_spelled (suc (free_number names i)) (free_number names i) [] refl) l
+
+pub fresh_is_word : (names : List Name) (i : ℕ) → is_word (fresh_name names i) ≡ true
+fresh_is_word names i = digits_spelled (suc (free_number names i)) (free_number names i) [] refl

@@ -29,3 +29,5 @@ mod WrittenTree
 mod WrittenNames
 mod WrittenMeaning
 mod ProperTree
+mod TextRead
+mod ProgramTokens

@@ -49,7 +49,9 @@ use Rattle.proc_laws.proofs.CallPlaces as call
 use Rattle.proc_laws.proofs.CallPlaces.{AllSpell, IsWritten, CallsWritten, span_is}
 use Rattle.proc_laws.proofs.WrittenStatements.{spokens}
 use Rattle.proc_laws.proofs.HeadsInText.{stop_of, procedure_of}
-use Rattle.proc_laws.proofs.FreshNames.{fresh_is_name}
+use Rattle.proc_laws.proofs.FreshNames.{fresh_is_name, fresh_is_word}
+use Rattle.proc_laws.proofs.ProgramTokens.{is_token_of, word_token}
+use Rattle.jade_lexer.specs.Alphabet.{is_token}
 
 -- the parts of `true`
 atom_spelled : (at : Pos) → atom_parts (roll-Atom (Atom-F.Truth true at)) ≡ marked (Fixed TrueWord) at ∷ []
@@ -84,7 +86,7 @@ module _ (ts : List TokenAt) (end : Pos) where
   -- a word that is made for a call
   made_word : (k : ℕ) (t : spelled.Token) (o : Option Pos) (n : ℕ) → KeptAt o (pos_at ts end ts k) → is_valid t ≡ true → nat_le n EXPRESSION_LIMIT ≡ true
       → Spelt (made_at ts end k (token_bytes t)) (record { token = t; at = o; nth = n })
-  made_word k t o n g v s = record { bytes = refl; kept = g; valid = λ h. v; short = s }
+  made_word k t o n g v s = record { bytes = refl; kept = g; valid = λ h. v; short = s; token = is_token_of t v }
 
   -- ---- the names of parameters
 
@@ -120,12 +122,13 @@ module _ (ts : List TokenAt) (end : Pos) where
         (outs-Local p.kind (to p.name) at e))
         ∙ ap (λ (l : Parts). plain (kind_word p.kind) ∷ marked (Called (to p.name)) at ∷ fixed Becomes ∷ l)
         (append_assoc (outer e) (fixed Semicolon ∷ []) rest)))
-        (one _ _ _ _ (record { bytes = ap (bytes_at ts) w ∙ k.stand.bytes; kept = tt; valid = λ q. kind_short p.kind; short = refl })
+        (one _ _ _ _ (record { bytes = ap (bytes_at ts) w ∙ k.stand.bytes; kept = tt; valid = λ q. kind_short p.kind; short = refl; token = ap is_token (ap (bytes_at ts) w ∙ k.stand.bytes) ∙ is_token_of (kind_word p.kind) (kind_short p.kind) })
         (one _ _ _ _ (record {
           bytes = x;
           kept = g;
           valid = λ q. keeps.name p.name n.valid (ap (λ (l : List ℕ). nat_le (length l) WORD_LIMIT) (sym x) ∙ q);
           short = refl;
+          token = ap is_token x ∙ keeps.word p.name (is_token_of (Called p.name) n.valid);
         })
         (one _ _ _ _ (made_word c (Fixed Becomes) None 0 tt refl refl)
         (spells_both sp (one _ _ _ _ (made_word c (Fixed Semicolon) None 0 tt refl refl) h)))))
@@ -203,12 +206,20 @@ module _ (ts : List TokenAt) (end : Pos) where
     fresh i = fresh_name (text_names ts end) i
 
     keeps_replaced : (names : List Name) (n : ℕ) → Keeps (replaced_by ts end names n)
-    keeps_replaced names n = record { name = λ x h l. by x h (is_among (items ts end) x) l }
+    keeps_replaced names n = record {
+      name = λ x h l. by x h (is_among (items ts end) x) l;
+      word = λ x h. word_by x h (is_among (items ts end) x);
+    }
       where
         by : (x : Name) → is_name x ≡ true → (b : Bool) → nat_le (length (if b then x else fresh_name (text_names ts end) (n + place_among names x))) WORD_LIMIT ≡ true
             → is_name (if b then x else fresh_name (text_names ts end) (n + place_among names x)) ≡ true
         by x h true l = h
         by x h false l = fresh_is_name (text_names ts end) (n + place_among names x) l
+
+        word_by : (x : Name) → is_token x ≡ true → (b : Bool) → is_token (if b then x else fresh_name (text_names ts end) (n + place_among names x)) ≡ true
+        word_by x h true = h
+        word_by x h false =
+            word_token (fresh_name (text_names ts end) (n + place_among names x)) (fresh_is_word (text_names ts end) (n + place_among names x))
 
     names_of_params : (ps : List HeadParam) → map (λ (q : HeadParam). q.name) ps ≡ map (λ (a : abstract.Param). a.name) (map param ps)
     names_of_params [] = refl

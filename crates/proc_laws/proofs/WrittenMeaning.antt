@@ -23,7 +23,7 @@ use Rattle.jade_parser.specs.Programs.{program_parts}
 use Rattle.jade_parser.specs.Grammar.{IsReading, bytes_of, texts, positions}
 use Rattle.jade_meaning.specs.Course.{root_course}
 use Rattle.proc_expand.specs.Refusals.{refusal}
-use Rattle.proc_expand.specs.Written.{MadeToken, text_names, fresh_name, expansion}
+use Rattle.proc_expand.specs.Written.{MadeToken, text_names, fresh_name, expansion, expanded_text}
 use Rattle.replaced_trees.specs.MovedTree.{token_moved, tokens_moved}
 use Rattle.proc_laws.specs.ExpandedTree.{expanded_tree}
 use Rattle.proc_laws.specs.Moved.{moved_course}
@@ -31,7 +31,9 @@ use Rattle.proc_laws.specs.SourceMeaning.{source_course}
 use Rattle.proc_laws.specs.SourceTree.{SourceText, source_of}
 use Rattle.proc_laws.specs.SourceReading.{IsSourceReading, made_token, expanded_tokens}
 use Rattle.proc_laws.proofs.TokensToSource.{tokens_do}
-use Rattle.proc_laws.proofs.WrittenTree.{written_reads}
+use Rattle.jade_lexer.specs.Reading.{reading, Whole}
+use Rattle.proc_laws.proofs.TextRead.{text_read}
+use Rattle.proc_laws.proofs.WrittenTree.{written_reads, all_tokens}
 use Rattle.proc_laws.proofs.WrittenNames.{items_listed, main_listed}
 
 -- ---- tokens of a program are no longer than a word may be
@@ -100,3 +102,11 @@ module _ (whole : (p : Program) → erased_program (placed_program p) ≡ progra
       (written_reads l q r none_refused
       (record { each = are_short (expansion l.lexemes l.end) (program_parts p) (read.spelled ∙ e) read.sound.valid.is })))
       p read faultless ns limit
+
+  -- the text that is written, where it reads as tokens
+  pub text_does : (origin : Pos → Pos) (l : TokenList) (q : SourceText) → IsSourceReading l q → refusal l.lexemes ≡ None
+      → (there : TokenList) → reading (expanded_text l) ≡ Whole there → map origin (positions there) ≡ positions (expanded_tokens l)
+      → (p : Program) → IsReading there p → static_faults (placed_program p) ≡ [] → (ns : List ℤ) (limit : ℕ)
+      → moved_course origin (root_course (program p) ns limit) ≡ source_course (source_of q) ns limit
+  text_does origin l q r none_refused there e f p read faultless ns limit =
+      written_does origin l q r none_refused there (text_read l there (all_tokens l q r none_refused) e) f p read faultless ns limit

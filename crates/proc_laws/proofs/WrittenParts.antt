@@ -7,6 +7,7 @@ use Rattle.std.proofs.lemmas.List.Elements.{filter-append}
 use Rattle.std.proofs.lemmas.Bool.{and_parts}
 use Rattle.jade_alphabet.specs.declared.TheConstants.{WORD_LIMIT, EXPRESSION_LIMIT}
 use Rattle.jade_base.specs.declared.place.Pos.{Pos}
+use Rattle.jade_lexer.specs.Alphabet.{is_token}
 use Rattle.jade_lexer.specs.Lexemes.{TokenAt}
 use Rattle.jade_syntax.specs.declared.tree.Expr.{Expr}
 use Rattle.jade_syntax.specs.Abstract.{Name}
@@ -25,6 +26,7 @@ use Rattle.replaced_trees.proofs.SpelledTerms.{outer_spelled}
 use Rattle.proc_laws.specs.Expansion.{names_in}
 use Rattle.proc_laws.specs.ExpandedTree.{expr_renamed}
 use Rattle.proc_laws.proofs.Basics.{by_case, no_both}
+use Rattle.proc_laws.proofs.ProgramTokens.{is_token_of}
 use Rattle.proc_laws.proofs.SignsOfTokens.{token_sign, parts_signs}
 use Rattle.proc_laws.proofs.PlacesInText.{after, places, places_both, plus_one, Sound, Reads, sign_at}
 use Rattle.proc_laws.proofs.InnerTokens as inner
@@ -39,6 +41,7 @@ pub record Spelt (t : MadeToken) (p : Part) : Type 0 where
   pub kept : KeptAt p.at t.origin
   pub valid : nat_le (length t.bytes) WORD_LIMIT ≡ true → is_valid p.token ≡ true
   pub short : nat_le p.nth EXPRESSION_LIMIT ≡ true
+  pub token : is_token t.bytes ≡ true
 
 pub data Spells : List MadeToken → Parts → Type 0 where
   none : Spells [] []
@@ -55,6 +58,7 @@ onto made w = record { tokens = made ++ w.tokens; next = w.next }
 -- a name is replaced by a name, unless that is too long
 pub record Keeps (to : Name → Name) : Type 0 where
   pub name : (x : Name) → is_name x ≡ true → nat_le (length (to x)) WORD_LIMIT ≡ true → is_name (to x) ≡ true
+  pub word : (x : Name) → is_token x ≡ true → is_token (to x) ≡ true
 
 -- a part whose name is replaced, where it stands
 abbrev pub renamed_part : (Name → Name) → Part → Part
@@ -226,6 +230,8 @@ module _ (ts : List TokenAt) (end : Pos) where
       kept = same_kept o (Fixed s) n k h.stand.kept;
       valid = λ g. refl;
       short = h.stand.short;
+      token = ap is_token (plain_bytes k (Fixed s) (sign_at ts end k (record { token = Fixed s; at = o; nth = n }) h) (fixed_plain s) ∙ h.stand.bytes)
+          ∙ is_token_of (Fixed s) refl;
     }
     spelt_at k (Called x) o n h c =
         let e : (token_at ts end to k).bytes ≡ to x =
@@ -235,12 +241,15 @@ module _ (ts : List TokenAt) (end : Pos) where
           kept = same_kept o (Called x) n k h.stand.kept;
           valid = λ g. keeps.name x h.valid (ap (λ (l : List ℕ). nat_le (length l) WORD_LIMIT) (sym e) ∙ g);
           short = h.stand.short;
+          token = ap is_token e ∙ keeps.word x (is_token_of (Called x) h.valid);
         }
     spelt_at k (Counted v) o n h c = record {
       bytes = plain_bytes k (Counted v) (sign_at ts end k (record { token = Counted v; at = o; nth = n }) h) refl ∙ h.stand.bytes;
       kept = same_kept o (Counted v) n k h.stand.kept;
       valid = λ g. h.valid;
       short = h.stand.short;
+      token = ap is_token (plain_bytes k (Counted v) (sign_at ts end k (record { token = Counted v; at = o; nth = n }) h) refl ∙ h.stand.bytes)
+          ∙ is_token_of (Counted v) h.valid;
     }
     spelt_at k Unknown o n h c = absurd (let v = h.valid in cc)
 

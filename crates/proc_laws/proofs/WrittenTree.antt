@@ -6,6 +6,7 @@ use Rattle.std.proofs.lemmas.List.{append_assoc, append-nil, length-map}
 use Rattle.std.proofs.lemmas.Bool.{and_parts, leb-true, le-leb}
 use Rattle.jade_alphabet.specs.declared.TheConstants.{WORD_LIMIT, EXPRESSION_LIMIT}
 use Rattle.jade_base.specs.declared.place.Pos.{Pos}
+use Rattle.jade_lexer.specs.Alphabet.{is_token}
 use Rattle.jade_lexer.specs.Lexemes.{TokenAt, TokenList}
 use Rattle.jade_syntax.specs.declared.tree.Item.{Item}
 use Rattle.jade_syntax.specs.declared.tree.Item.TheVariants.{Input, Single, Family}
@@ -182,7 +183,7 @@ module _ (ts : List TokenAt) (end : Pos) where
     )
 
     keeps_all : Keeps (λ x. x)
-    keeps_all = record { name = λ x h l. h }
+    keeps_all = record { name = λ x h l. h; word = λ x h. h }
 
     item_same : (i : Item) → renamed_parts (λ x. x) (item_parts i) ≡ item_parts i
     item_same (Input x p) = refl
@@ -248,6 +249,10 @@ valid_by (one t us p ps h r) g =
 short_by : {us : List MadeToken} {ps : Parts} → Spells us ps → list_all (λ (p : Part). nat_le p.nth EXPRESSION_LIMIT) ps ≡ true
 short_by none = refl
 short_by (one t us p ps h r) = λ i. h.short i && short_by r i
+
+tokens_by : {us : List MadeToken} {ps : Parts} → Spells us ps → list_all (λ (t : MadeToken). is_token t.bytes) us ≡ true
+tokens_by none = refl
+tokens_by (one t us p ps h r) = λ i. h.token i && tokens_by r i
 
 run_is : (b : List Statement) → flat_map (λ (t : Parts). t) (map statement_parts b) ≡ flat_map statement_parts b
 run_is [] = refl
@@ -341,3 +346,7 @@ module _ (l : TokenList) (q : SourceText) (r : IsSourceReading l q) (none_refuse
   -- the names of `main`
   pub main_names : names_at l.lexemes l.end (places (after 0 (flat_map piece_parts q.pieces)) (main_parts q.main)) ≡ block_names (spoken_actions q.main)
   main_names = wm.names
+
+  -- what is written is tokens
+  pub all_tokens : list_all (λ (t : MadeToken). is_token t.bytes) (expansion l.lexemes l.end) ≡ true
+  all_tokens = tokens_by spelt

@@ -3,6 +3,7 @@
 ghost use Rattle.std.specs.Prelude.{◌≡◌, ℕ, List, [], ℤ, map, not, true, None};
 ghost use Rattle.jade_base.specs.declared.place.Pos.{Pos};
 ghost use Rattle.jade_lexer.specs.Lexemes.{TokenList};
+ghost use Rattle.jade_lexer.specs.Reading.{reading, Whole};
 ghost use Rattle.jade_parser.specs.Grammar.{IsReading, texts, positions};
 ghost use Rattle.jade_syntax.specs.declared.tree.Program.{Program};
 ghost use Rattle.jade_syntax.specs.PlacedImage.{placed_program};
@@ -12,7 +13,7 @@ ghost use Rattle.jade_syntax.specs.Placed.{PlacedProgram};
 ghost use Rattle.jade_syntax.specs.StaticFaults.{static_faults};
 ghost use Rattle.proc_laws.specs.Moved.{moved_course, moved_program};
 ghost use Rattle.proc_expand.specs.Refusals.{refusal};
-ghost use Rattle.proc_expand.specs.Written.{fresh_name, text_names};
+ghost use Rattle.proc_expand.specs.Written.{expanded_text, fresh_name, text_names};
 ghost use Rattle.jade_meaning.specs.Course.{root_course};
 ghost use Rattle.jade_syntax.specs.Abstract.{Name};
 ghost use Rattle.proc_laws.specs.Source.{SourceProgram};
@@ -89,6 +90,20 @@ pub fn written_is_the_tree()
 pub fn written_does_as_its_source()
     ensures { (origin : Pos → Pos) → (l : TokenList) → (q : SourceText) → IsSourceReading l q → refusal l.lexemes ≡ None
         → (there : TokenList) → texts there ≡ texts (expanded_tokens l) → map origin (positions there) ≡ positions (expanded_tokens l)
+        → (p : Program) → IsReading there p → static_faults (placed_program p) ≡ []
+        → (numbers : List ℤ) → (limit : ℕ)
+        → moved_course origin (root_course (program p) numbers limit) ≡ source_course (source_of q) numbers limit }
+{
+    erased_is_program();
+    one_tree();
+}
+
+/// A law of programs with procedures, which does nothing: where tokens read as a source and are not
+/// refused, then any program without static faults that the text that is written for them reads as
+/// does what the source does, with its faults at their origins.
+pub fn text_does_as_its_source()
+    ensures { (origin : Pos → Pos) → (l : TokenList) → (q : SourceText) → IsSourceReading l q → refusal l.lexemes ≡ None
+        → (there : TokenList) → reading (expanded_text l) ≡ Whole there → map origin (positions there) ≡ positions (expanded_tokens l)
         → (p : Program) → IsReading there p → static_faults (placed_program p) ≡ []
         → (numbers : List ℤ) → (limit : ℕ)
         → moved_course origin (root_course (program p) numbers limit) ≡ source_course (source_of q) numbers limit }
