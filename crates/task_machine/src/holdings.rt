@@ -106,6 +106,7 @@ impl Holdings {
     }
 
     /// The number in a cell of an object, where the object is held; a cell that is not there has 0.
+    #[inline(always)]
     pub fn cell(&self, object: usize, cell: usize) -> Option<i64>
         ensures { result ≡ cell_in (contents_of self.now object) cell }
     {
@@ -113,6 +114,7 @@ impl Holdings {
     }
 
     /// Writes a number into a cell of an object; whether the object is held for more than reading.
+    #[inline(always)]
     pub fn write(&mut self, object: usize, cell: usize, number: i64) -> bool
         ensures written { Written (contents_of self.old) object cell number result (contents_of self.new) }
         ensures objects { objects_in self.new ≡ objects_in self.old }
