@@ -1,5 +1,5 @@
--- What was put into a deque is what was taken out of it and what still lies there, each once.
-use Rattle.std.specs.Prelude.{◌≡◌, ℕ, ◌+◌, ◌≤◌, List, [], ◌∷◌, length}
+-- What was put into a deque is what was taken out of it and what still lies there, each once, and only its owner puts.
+use Rattle.std.specs.Prelude.{◌≡◌, ℕ, ◌+◌, ◌≤◌, Bool, true, false, List, [], ◌∷◌}
 use mathlib.Core.Option.{some}
 use lib.ListN.{get_elem?}
 use Rattle.task_deque.specs.declared.History.{History}
@@ -10,25 +10,22 @@ weight f [] = 0
 weight f (x ∷ xs) = f x + weight f xs
 
 module _ {T : Type 0} where
-  -- the history of a handle that put these tasks and took those
-  abbrev pub history : (put taken : List T) → History T
-  history put taken = record { put = put; taken = taken }
+  -- the history of a handle: whether it is the owner's, the tasks that it put and those that it took
+  abbrev pub history : (owns : Bool) (put taken : List T) → History T
+  history owns put taken = record { owns = owns; put = put; taken = taken }
+
+  -- a history that owns is the one at this place, and a history that does not own has put nothing
+  abbrev pub OnlyOwnerPuts : (owner place : ℕ) (h : History T) → Type 0
+  OnlyOwnerPuts owner place h = (h.owns ≡ true → place ≡ owner) × (h.owns ≡ false → h.put ≡ [])
 
   -- however tasks are weighed, what all handles put weighs as much as what they took and what lies in the deque together;
-  -- so each task that was put was taken once, or lies there once
-  abbrev pub IsBalanced : List T → List (History T) → Type 0
-  IsBalanced items histories =
-      (f : T → ℕ) → weight (λ h. weight f h.put) histories ≡ weight (λ h. weight f h.taken) histories + weight f items
+  -- so each task that was put was taken once, or lies there once. One history at most owns, and only it has put
+  pub record IsBalanced (items : List T) (histories : List (History T)) : Type 0 where
+    pub weighs : (f : T → ℕ) → weight (λ (h : History T). weight f h.put) histories ≡ weight (λ (h : History T). weight f h.taken) histories + weight f items
+    pub owner : ℕ
+    pub only : (place : ℕ) (h : History T) → get_elem? histories place ≡ some h → OnlyOwnerPuts owner place h
 
-  -- a handle's history is one of those that balance with what lies in the deque
-  pub record Accounts (mine : History T) (items : List T) : Type 0 where
-    pub histories : List (History T)
-    pub balanced : IsBalanced items histories
-    pub place : ℕ
-    pub there : get_elem? histories place ≡ some mine
-
-  -- the same where at most one task lies there
-  pub record AccountsForFew (mine : History T) : Type 0 where
-    pub items : List T
-    pub few : length items ≤ 1
-    pub accounts : Accounts mine items
+  -- however tasks are weighed, what the handle took weighs at most as much as what it put; so each task that it took was
+  -- put, and it took it at most as often as it was put
+  abbrev pub TookOfPut : (h : History T) → Type 0
+  TookOfPut h = (f : T → ℕ) → weight f h.taken ≤ weight f h.put

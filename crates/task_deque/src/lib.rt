@@ -1,22 +1,26 @@
 //! Deques of ready tasks, one for each worker, under a rule: what was put into a deque is what was
-//! taken out of it and what still lies there, each task once.
+//! taken out of it and what still lies there, each task once, and only the owner puts.
 //!
 //! The owner takes the task that it put last, and others take the one that was put first.
 //!
-//! The rule holds at every moment, whatever the threads do. It is over the histories of all handles
-//! of a deque: its owner's, and that of each visit by which others steal. What each call adds to the
-//! history of its handle is told by the call's contract, and `waiting` tells the rule itself.
+//! Each call keeps the rule, so it holds at every moment, whatever the threads do. It is over the
+//! histories of all handles of a deque: its owner's, and that of each visit by which others steal. What
+//! a call adds to the history of its handle is told by its contract. A handle does not know the others'
+//! histories; so of the rule the clauses tell what the owner's history shows alone: the owner took no
+//! task more often than it was put, and no more tasks lie there than were put and not taken by the
+//! owner.
 //!
-//! What no clause says: in which order tasks leave a deque, that a task which lies there is ever
-//! taken, and how long a call takes.
+//! What no clause says: when `None`, `Empty` and `Retry` come, that a task which is stolen was put, how
+//! many tasks lie there at least, in which order tasks leave a deque, that a task which lies there is
+//! ever taken, and how long a call takes.
 //!
 //! Floor `running`, with `crossbeam_deque` of the kit.
 #![tactic(auto)]
 
-ghost use Rattle.std.specs.Prelude.{◌≡◌, ◌<◌, ◌⊎◌, [], ◌∷◌, ◌++◌, List, IfOk, MatchResult, MatchOption, length};
-ghost use Rattle.crossbeam_deque.specs.Handles.{IsPassOf, stealer_deque, taken, view, worker_deque, worker_flavor, worker_view};
+ghost use Rattle.std.specs.Prelude.{◌≡◌, ◌≤◌, ◌+◌, [], ◌∷◌, ◌++◌, true, false, IfErr, IfOk, MatchResult, MatchOption, length};
+ghost use Rattle.crossbeam_deque.specs.Handles.{IsPassOf, stealer_deque, view, worker_capacity, worker_deque, worker_flavor, worker_index, worker_view};
 ghost use Rattle.crossbeam_deque.specs.Steals.{MatchSteal};
-ghost use Rattle.task_deque.specs.Histories.{Accounts, AccountsForFew, history};
+ghost use Rattle.task_deque.specs.Histories.{TookOfPut, history};
 
 use crossbeam_deque::protocol::{Lesson, Outcome, Protocol};
 use crossbeam_deque::{Pass, Steal, Stealer, Worker};
@@ -26,25 +30,27 @@ use std::collections::LinkedList;
 /// The slots with which a deque begins; it grows as it must.
 const FIRST_SLOTS: usize = 16;
 
-/// What a handle has put into a deque and taken out of it, in the order in which it did. It stands in
-/// contracts only; no value of it is made.
+/// Whether a handle of a deque is its owner's, and what it has put into the deque and taken out of it,
+/// in the order in which it did. It stands in contracts only; no value of it is made.
 pub struct History<T> {
+    pub owns: bool,
     pub put: LinkedList<T>,
     pub taken: LinkedList<T>,
 }
 
-/// The rule: what all handles put is what they took and what still lies in the deque.
+/// The rule: what all handles put is what they took and what still lies in the deque. At most one of
+/// them is the owner's, and only it puts.
 pub struct Balanced;
 
 impl<T> Protocol<T, History<T>> for Balanced {
-    ghost use Rattle.std.specs.Prelude.{[]};
+    ghost use Rattle.std.specs.Prelude.{[], true, false};
     ghost use Rattle.task_deque.specs.Histories.{history, IsBalanced};
 
     ghost holds = { IsBalanced };
 
-    ghost first = { history [] [] };
+    ghost first = { history true [] [] };
 
-    ghost guest = { history [] [] };
+    ghost guest = { history false [] [] };
 }
 
 /// What a call that puts tells: these tasks were put last.
@@ -54,46 +60,49 @@ impl<T> Outcome<T, History<T>> for Put {
     ghost use Rattle.std.specs.Prelude.{◌≡◌, ◌++◌};
     ghost use Rattle.task_deque.specs.Histories.{history};
 
-    ghost then = { λ h xs g. g ≡ history (h.put ++ xs) h.taken };
+    ghost then = { λ h xs g. g ≡ history h.owns (h.put ++ xs) h.taken };
 }
 
-/// What a call of the owner that takes tells: these tasks were taken last, or at one moment none lay
-/// there.
+/// What a call of the owner that takes tells: these tasks were taken last, and the owner took no task
+/// more often than it was put.
 pub struct Took;
 
 impl<T> Outcome<T, History<T>> for Took {
-    ghost use Rattle.std.specs.Prelude.{◌≡◌, ◌++◌, []};
-    ghost use Rattle.task_deque.specs.Histories.{Accounts, history};
+    ghost use Rattle.std.specs.Prelude.{◌≡◌, ◌++◌};
+    ghost use Rattle.task_deque.specs.Histories.{TookOfPut, history};
 
-    ghost then = { λ h xs g. g ≡ history h.put (h.taken ++ xs) };
-
-    ghost empty = { λ h. Accounts h [] };
+    ghost then = { λ h xs g. (g ≡ history h.owns h.put (h.taken ++ xs)) × TookOfPut g };
 }
 
-/// What a call of another worker that takes tells: these tasks were taken last, or at one moment at
-/// most one lay there.
+/// What a call of another worker that takes tells: these tasks were taken last.
 pub struct Stole;
 
 impl<T> Outcome<T, History<T>> for Stole {
     ghost use Rattle.std.specs.Prelude.{◌≡◌, ◌++◌};
-    ghost use Rattle.task_deque.specs.Histories.{AccountsForFew, history};
+    ghost use Rattle.task_deque.specs.Histories.{history};
 
-    ghost then = { λ h xs g. g ≡ history h.put (h.taken ++ xs) };
-
-    ghost empty = { λ h. AccountsForFew h };
+    ghost then = { λ h xs g. g ≡ history h.owns h.put (h.taken ++ xs) };
 }
 
-/// What a look at the deque tells: the rule, at one moment.
+/// What a look of the owner at the deque tells: no more tasks lie there than were put and not taken by
+/// the owner.
 pub struct Looked;
 
 impl<T> Lesson<T, History<T>> for Looked {
-    ghost use Rattle.task_deque.specs.Histories.{Accounts};
+    ghost use Rattle.std.specs.Prelude.{◌≤◌, ◌+◌, length};
 
-    ghost fact = { λ h items. Accounts h items };
+    ghost fact = { λ h items. length items + length h.taken ≤ length h.put };
 }
 
-/// A deque as its worker holds it.
-pub type Owner<T> = Worker<T, Global, History<T>, Balanced>;
+/// A deque as its worker holds it: its history is the one that owns. It has at least the slots with
+/// which it began, and the index of its next put is at most the number of tasks that were put.
+#[derive(Drop)]
+pub struct Owner<T> {
+    pub worker: Worker<T, Global, History<T>, Balanced>,
+    ghost owns: { (worker_view worker).owns ≡ true },
+    ghost slots: { 16 ≤ worker_capacity worker },
+    ghost index: { worker_index worker ≤ length (worker_view worker).put },
+}
 
 /// A deque as the other workers hold it.
 pub type Thief<T> = Stealer<T, Global, History<T>, Balanced>;
@@ -103,67 +112,72 @@ pub type Visit<T> = Pass<T, History<T>, Global>;
 
 /// An empty deque, of which the owner takes what it put last.
 pub fn empty<T: Drop>(alloc: Global) -> Result<Owner<T>, AllocError>
-    ensures history { IfOk result (λ owner. worker_view owner ≡ history [] []) }
-    ensures lifo { IfOk result (λ owner. worker_flavor owner ≡ 1) }
+    ensures history { IfOk result (λ owner. worker_view owner.worker ≡ history true [] []) }
+    ensures lifo { IfOk result (λ owner. worker_flavor owner.worker ≡ 1) }
 {
-    Owner::<T>::lifo_as(alloc, FIRST_SLOTS)
+    let worker = Worker::<T, Global, History<T>, Balanced>::lifo_as(alloc, FIRST_SLOTS)?;
+    Ok(Owner { worker })
 }
 
 /// The deque for another worker.
 pub fn thief_of<T: Drop>(owner: &Owner<T>) -> Result<Thief<T>, AllocError>
-    ensures { IfOk result (λ thief. stealer_deque thief ≡ worker_deque owner.now) }
+    ensures { IfOk result (λ thief. stealer_deque thief ≡ worker_deque owner.now.worker) }
 {
-    owner.stealer()
+    owner.worker.stealer()
 }
 
 /// Puts a task last. The error hands the task back, and the owner's history is as it was: there was
-/// no memory, or the deque can't grow any more.
+/// no memory, or the deque can't grow any more. It comes only once 16 tasks were put.
 pub fn put_task<T: Drop>(owner: &mut Owner<T>, task: T) -> Result<(), T>
-    ensures put { MatchResult result (λ _. worker_view owner.new ≡ history ((worker_view owner.old).put ++ task ∷ []) (worker_view owner.old).taken)
-        (λ back. (back ≡ task) × (worker_view owner.new ≡ worker_view owner.old)) }
-    ensures same { (worker_deque owner.new ≡ worker_deque owner.old) × (worker_flavor owner.new ≡ worker_flavor owner.old) }
+    ensures put { MatchResult result (λ _. worker_view owner.new.worker ≡ history (worker_view owner.old.worker).owns ((worker_view owner.old.worker).put ++ task ∷ []) (worker_view owner.old.worker).taken)
+        (λ back. (back ≡ task) × (worker_view owner.new.worker ≡ worker_view owner.old.worker)) }
+    ensures same { (worker_deque owner.new.worker ≡ worker_deque owner.old.worker) × (worker_flavor owner.new.worker ≡ worker_flavor owner.old.worker) }
+    ensures refused { IfErr result (λ _. 16 ≤ length (worker_view owner.old.worker).put) }
 {
-    owner.push_as::<Put>(task)
+    owner.worker.push_as::<Put>(task)
 }
 
-/// Takes a task that was put and not taken yet. `None`, with which the owner's history is as it was,
-/// comes only where nothing lay in the deque at one moment of the call.
+/// Takes a task that was put: the owner took no task more often than it was put. With `None` its
+/// history is as it was. When `None` comes is told by no clause, since a handle does not know what the
+/// others took. By the kit's statement of `pop_as` nothing lay in the deque at one moment of the call.
 pub fn take_task<T: Drop>(owner: &mut Owner<T>) -> Option<T>
-    ensures taken { MatchOption result ((worker_view owner.new ≡ worker_view owner.old) × Accounts (worker_view owner.old) [])
-        (λ task. worker_view owner.new ≡ history (worker_view owner.old).put ((worker_view owner.old).taken ++ task ∷ [])) }
-    ensures same { (worker_deque owner.new ≡ worker_deque owner.old) × (worker_flavor owner.new ≡ worker_flavor owner.old) }
+    ensures taken { MatchOption result (worker_view owner.new.worker ≡ worker_view owner.old.worker)
+        (λ task. (worker_view owner.new.worker ≡ history (worker_view owner.old.worker).owns (worker_view owner.old.worker).put ((worker_view owner.old.worker).taken ++ task ∷ [])) × TookOfPut (worker_view owner.new.worker)) }
+    ensures same { (worker_deque owner.new.worker ≡ worker_deque owner.old.worker) × (worker_flavor owner.new.worker ≡ worker_flavor owner.old.worker) }
 {
-    owner.pop_as::<Took>()
+    owner.worker.pop_as::<Took>()
 }
 
 /// A visit to a deque, which has put and taken nothing yet.
 pub fn visit<T: Drop>(thief: &Thief<T>) -> Visit<T>
-    ensures history { view result ≡ history [] [] }
+    ensures history { view result ≡ history false [] [] }
     ensures of { IsPassOf (stealer_deque thief.now) result }
 {
     thief.pass()
 }
 
 /// Takes a task out of another worker's deque. With `Empty` and `Retry` the visit's history is as it
-/// was: at one moment of the call at most one task lay there, or, with `Retry` alone, a task has left
-/// since the visit last looked.
+/// was. When these come is told by no clause, nor that a task which comes was put, since a visit does
+/// not know what the owner put and the others took. By the kit's statement of `steal_as` at most one
+/// task lay there at one moment of the call, or, with `Retry` alone, a task left since the visit last
+/// looked.
 pub fn steal_task<T: Drop>(thief: &Thief<T>, visit: &mut Visit<T>) -> Steal<T>
     requires { IsPassOf (stealer_deque thief.now) visit.old }
-    ensures taken { MatchSteal result ((view visit.new ≡ view visit.old) × AccountsForFew (view visit.old))
-        ((view visit.new ≡ view visit.old) × ((taken visit.old < taken visit.new) ⊎ AccountsForFew (view visit.old)))
-        (λ task. view visit.new ≡ history (view visit.old).put ((view visit.old).taken ++ task ∷ [])) }
+    ensures taken { MatchSteal result (view visit.new ≡ view visit.old) (view visit.new ≡ view visit.old)
+        (λ task. view visit.new ≡ history (view visit.old).owns (view visit.old).put ((view visit.old).taken ++ task ∷ [])) }
     ensures of { IsPassOf (stealer_deque thief.now) visit.new }
 {
     thief.steal_as::<Stole>(visit)
 }
 
-/// The number of tasks that lie in the deque at one moment of the call. At that moment the histories of
-/// all handles, of which the owner's is one, balance with what lies there.
+/// The number of tasks that lie in the deque at one moment of the call, by the kit's statement of
+/// `len_as`. The clause says that it is at most the number of those that were put and not taken by the
+/// owner: how many of these the others took is not known to it.
 pub fn waiting<T: Drop>(owner: &mut Owner<T>) -> usize
-    ensures accounts { (items : List T) × (length items ≡ result) × Accounts (worker_view owner.old) items }
-    ensures same { (worker_view owner.new ≡ worker_view owner.old) × (worker_deque owner.new ≡ worker_deque owner.old) }
+    ensures most { result + length (worker_view owner.old.worker).taken ≤ length (worker_view owner.old.worker).put }
+    ensures same { (worker_view owner.new.worker ≡ worker_view owner.old.worker) × (worker_deque owner.new.worker ≡ worker_deque owner.old.worker) }
 {
-    owner.len_as::<Looked>()
+    owner.worker.len_as::<Looked>()
 }
 
 #[cfg(test)]
