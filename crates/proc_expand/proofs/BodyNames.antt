@@ -8,7 +8,7 @@ use Rattle.proc_expand.specs.Words.{signs, bytes_at}
 use Rattle.proc_expand.specs.Names.{first_places}
 use Rattle.proc_expand.specs.Refusals.{head, body_end, procedure, param_place}
 use Rattle.proc_expand.specs.Written.{items, names_at, from, closed_at, replaced_at}
-use Rattle.proc_expand.specs.Replaced.{with_names}
+use Rattle.proc_expand.specs.steps.Replaced.{with_names}
 use Rattle.proc_expand.proofs.First.{plus_one}
 use Rattle.proc_expand.proofs.NameLists.{met_more, are_first}
 

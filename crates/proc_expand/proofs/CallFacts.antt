@@ -9,8 +9,11 @@ use Rattle.proc_expand.specs.declared.sign.Sign.{Sign}
 use Rattle.proc_expand.specs.declared.sign.Sign.TheVariants.{Proc, Main, Else, Kind, ItemWord, Called, Opens, Closes, Semicolon, Comma, Other}
 use Rattle.proc_expand.specs.declared.sign.End.{End}
 use Rattle.proc_expand.specs.declared.sign.End.TheVariants.{Closed, Wrong, Never}
-use Rattle.proc_expand.specs.Words.{at, before, opens_round, is_called, is_proc, is_comma, is_semicolon, is_else, same_bracket, closing, closing_from, closed_by, next_place, after_sign, after_end}
-use Rattle.proc_expand.specs.Words.{first, some, earliest, end_place, AreEndsFrom, EndsWithin}
+use Rattle.proc_expand.specs.Words.{at, before, opens_round, is_called, is_proc, is_comma, is_semicolon, is_else, same_bracket, closing, closing_from, closed_by}
+use Rattle.proc_expand.specs.steps.Brackets.{next_place, after_sign, after_end}
+use Rattle.proc_expand.specs.Words.{first, some, end_place}
+use Rattle.proc_expand.specs.steps.Brackets.{AreEndsFrom, EndsWithin}
+use Rattle.proc_expand.specs.steps.Looking.{earliest}
 use Rattle.proc_expand.specs.Refusals.{is_call, call_end, commas_from, within, ends_empty, ending_fails, call_fails}
 use Rattle.proc_expand.proofs.First.{index_any, plus_one, drop_at, drop_tail, by_case, eq_true, eq_same, eq_not, eq_false, lt_true, lt_is, lt_false, both_left, both_right}
 use Rattle.proc_expand.proofs.First.{first_same, first_either, one_at, first_one, first_place, first_none, earliest_none, earliest_assoc}
@@ -238,12 +241,6 @@ no_failure ss c h =
     sym (ap (λ b. first (suc (length ss)) (λ k. b && call_fails ss c k)) h ∙ first_none (suc (length ss)) (λ k. false && call_fails ss c k) (λ k l. refl))
 
 -- ---- how far the brackets of calls reach
-
-turned_both : (a b : Bool) → (a && b) ≡ (b && a)
-turned_both true true = refl
-turned_both true false = refl
-turned_both false true = refl
-turned_both false false = refl
 
 beyond : (j r e : ℕ) → (nat_lt j r || nat_lt j e) ≡ nat_lt j (if nat_lt r e then e else r)
 beyond j r e = by (nat_lt r e) refl

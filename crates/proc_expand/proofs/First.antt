@@ -9,7 +9,8 @@ use Rattle.std.proofs.lemmas.Bool.{eqb-true, eq-eqb, ltb-true, lt-ltb}
 use Rattle.jade_lexer.specs.Lexemes.{TokenAt}
 use Rattle.proc_expand.specs.declared.sign.Sign.{Sign}
 use Rattle.proc_expand.specs.declared.sign.Sign.TheVariants.{Other}
-use Rattle.proc_expand.specs.Words.{signs, sign_of, at, some, first, or_here, earliest}
+use Rattle.proc_expand.specs.Words.{signs, sign_of, at, some, first, or_here}
+use Rattle.proc_expand.specs.steps.Looking.{earliest}
 
 -- within a list what stands for no element does not matter
 pub index_any : {A : Type 0} (xs : List A) (k : ℕ) (d e : A) → k < length xs → slice_index_or xs k d ≡ slice_index_or xs k e
@@ -130,11 +131,6 @@ first_either zero p q = refl
 first_either (suc n) p q =
     ap (λ t. or_here t (p n || q n) n) (first_either n p q)
     ∙ join n (first n p) (first n q) (p n) (q n) (first_below n p) (first_below n q)
-
--- with a test before it
-pub first_if : (n : ℕ) (b : Bool) (p : ℕ → Bool) → first n (λ k. b && p k) ≡ (if b then first n p else None)
-first_if n true p = refl
-first_if n false p = first_none n (λ k. false) (λ k l. refl)
 
 pub earliest_none : (a : Option ℕ) → earliest a None ≡ a
 earliest_none None = refl

@@ -1,16 +1,16 @@
 -- Free numbers, and the digits of their names.
-use Rattle.std.proofs.Common.{◌≡◌, ℕ, zero, suc, ◌+◌, ◌-◌, ◌*◌, ◌/◌, ◌%◌, ◌^◌, ◌<◌, ◌≤◌, ◌==◌, Bool, true, false, cond, ◌&&◌, List, [], ◌∷◌, ◌++◌, length, refl, sym, ap, ◌∙◌, subst, arith}
-use Rattle.std.specs.Prelude.{slice_index_or, nat_lt, nat_eq, if◌then◌else◌}
+use Rattle.std.proofs.Common.{◌≡◌, ℕ, zero, suc, ◌+◌, ◌*◌, ◌/◌, ◌%◌, ◌^◌, ◌<◌, ◌≤◌, ◌==◌, Bool, true, false, cond, List, [], ◌∷◌, ◌++◌, length, refl, sym, ap, ◌∙◌, subst, arith}
+use Rattle.std.specs.Prelude.{slice_index_or, nat_eq, if◌then◌else◌}
 use Rattle.std.proofs.lemmas.Fmt.{length-decimal-le}
 use Rattle.std.specs.Fmt.{digits_onto, digits, decimal, digit_glyph}
 use Rattle.jade_syntax.specs.Abstract.{Name}
 use Rattle.proc_expand.specs.Names.{is_among}
 use Rattle.proc_expand.specs.Written.{numeral, numbered_name, next_free, free_number}
-use Rattle.proc_expand.specs.Replaced.{AreFree}
+use Rattle.proc_expand.specs.steps.Replaced.{AreFree}
 use Rattle.std.proofs.lemmas.List.{length-append}
 use Rattle.std.proofs.Math.Seq.{get_or-append_seam}
 use Rattle.std.proofs.Math.ListN.{get_or-append}
-use Rattle.proc_expand.proofs.First.{by_case, eq_true, eq_false, lt_is, both_right}
+use Rattle.proc_expand.proofs.First.{by_case, eq_true, eq_false}
 
 -- the digits of a number do not depend on how many may be written, where these are enough
 enough : (j k n : ℕ) (acc : List ℕ) → n < 10 ^ j → n < 10 ^ k → digits_onto (suc j) 10 false n acc ≡ digits_onto (suc k) 10 false n acc
@@ -37,24 +37,6 @@ is_numeral n h = enough 63 n n [] (let big : 2 ^ 64 < 10 ^ 63 = omega arith in o
 
 -- ---- numbers that are tried
 
-pub tried_on : (left n : ℕ) (names : List Name) → (nat_lt 0 left && is_among names (numbered_name n)) ≡ true
-    → next_free left names n ≡ next_free (left - 1) names (n + 1)
-tried_on zero n names h = absurd (cc)
-tried_on (suc left) n names h =
-    let a : left ≡ suc left - 1 = omega arith in let b : suc n ≡ n + 1 = omega arith in
-    ap (λ t. if t then next_free left names (suc n) else n) (both_right (nat_lt 0 (suc left)) (is_among names (numbered_name n)) h)
-    ∙ ap (λ i. next_free i names (suc n)) a ∙ ap (next_free (suc left - 1) names) b
-
-pub tried_out : (left n : ℕ) (names : List Name) → (nat_lt 0 left && is_among names (numbered_name n)) ≡ false → next_free left names n ≡ n
-tried_out zero n names h = refl
-tried_out (suc left) n names h =
-    let e : is_among names (numbered_name n) ≡ false = ap (λ t. t && is_among names (numbered_name n)) (sym (lt_is 0 (suc left) (omega arith))) ∙ h in
-    ap (λ t. if t then next_free left names (suc n) else n) e
-
-pub tries_left : (left n : ℕ) (names : List Name) → (nat_lt 0 left && is_among names (numbered_name n)) ≡ true → 0 < left
-tries_left zero n names h = absurd (cc)
-tries_left (suc left) n names h = omega arith
-
 pub next_most : (tries n : ℕ) (names : List Name) → next_free tries names n ≤ n + tries
 next_most zero n names = omega arith
 next_most (suc tries) n names = by (is_among names (numbered_name n)) (next_most tries (suc n) names)
@@ -74,17 +56,6 @@ free_most names (suc i) =
 
 pub none_free : (names : List Name) → AreFree names []
 none_free names = record { each = λ i h. absurd (omega (arith, h)) }
-
-pub first_free : (names : List Name) (numbers : List ℕ) → length numbers ≡ 0 → next_free (length names) names 0 ≡ free_number names (length numbers)
-first_free names numbers h = ap (free_number names) (sym h)
-
-pub free_after : (names : List Name) (numbers : List ℕ) (i : ℕ) → length numbers ≡ suc i → AreFree names numbers
-    → next_free (length names) names (slice_index_or numbers i 0 + 1) ≡ free_number names (length numbers)
-free_after names numbers i h f =
-    ap (next_free (length names) names) (ap (λ n. n + 1) (f.each i (omega (arith, h))) ∙ one (free_number names i)) ∙ ap (free_number names) (sym h)
-  where
-    one : (n : ℕ) → n + 1 ≡ suc n
-    one n = omega arith
 
 pub free_more : (names : List Name) (numbers : List ℕ) (n : ℕ) → AreFree names numbers → n ≡ free_number names (length numbers)
     → AreFree names (numbers ++ n ∷ [])

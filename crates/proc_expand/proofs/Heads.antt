@@ -11,7 +11,9 @@ use Rattle.proc_expand.specs.declared.sign.Sign.TheVariants.{Proc, Main, Else, K
 use Rattle.proc_expand.specs.declared.sign.End.{End}
 use Rattle.proc_expand.specs.declared.sign.End.TheVariants.{Closed, Wrong, Never}
 use Rattle.proc_expand.specs.declared.procedures.Head.{Head}
-use Rattle.proc_expand.specs.Words.{at, bytes_at, is_kind, is_called, is_comma, opens_round, closes_round, opens_curly, closing, fails_at, first, tests, AreEndsFrom, EndsWithin}
+use Rattle.proc_expand.specs.Words.{at, bytes_at, is_kind, is_called, is_comma, opens_round, opens_curly, closing, fails_at, first}
+use Rattle.proc_expand.specs.steps.Brackets.{AreEndsFrom, EndsWithin}
+use Rattle.proc_expand.specs.steps.Looking.{tests}
 use Rattle.proc_expand.specs.Refusals.{head, with_params, after_params, params_from, body_end, proc_fails}
 use Rattle.proc_expand.proofs.First.{drop_at, by_case, index_any, first_none, first_place, eq_true, eq_false}
 use Rattle.proc_expand.proofs.Nested.{closed_in, wrong_in, known_end}
@@ -109,23 +111,6 @@ opens_is Semicolon h = absurd (cc)
 opens_is Comma h = absurd (cc)
 opens_is Other h = absurd (cc)
 
-pub closes_is : (s : Sign) → closes_round s ≡ true → s ≡ Closes Round
-closes_is Proc h = absurd (cc)
-closes_is Main h = absurd (cc)
-closes_is Else h = absurd (cc)
-closes_is Kind h = absurd (cc)
-closes_is ItemWord h = absurd (cc)
-closes_is Called h = absurd (cc)
-closes_is (Opens Round) h = absurd (cc)
-closes_is (Opens Square) h = absurd (cc)
-closes_is (Opens Curly) h = absurd (cc)
-closes_is (Closes Round) h = refl
-closes_is (Closes Square) h = absurd (cc)
-closes_is (Closes Curly) h = absurd (cc)
-closes_is Semicolon h = absurd (cc)
-closes_is Comma h = absurd (cc)
-closes_is Other h = absurd (cc)
-
 -- what the signs from a place on begin with
 pub first_of : (ss : List Sign) (k : ℕ) → slice_index_or (drop k ss) 0 Other ≡ at ss k
 first_of [] zero = refl
@@ -145,81 +130,8 @@ made n f k = record { params = n; fits = f; stop = k }
 none_more : (n : ℕ) → n ≡ n + 0
 none_more n = omega arith
 
-pub after_signs : (n k : ℕ) (us : List Sign) → made n (opens_curly (slice_index_or us 0 Other)) k ≡ with_params n (after_params k us)
-after_signs n k [] = ap (λ i. made i false k) (none_more n)
-after_signs n k (Proc ∷ us) = ap (λ i. made i false k) (none_more n)
-after_signs n k (Main ∷ us) = ap (λ i. made i false k) (none_more n)
-after_signs n k (Else ∷ us) = ap (λ i. made i false k) (none_more n)
-after_signs n k (Kind ∷ us) = ap (λ i. made i false k) (none_more n)
-after_signs n k (ItemWord ∷ us) = ap (λ i. made i false k) (none_more n)
-after_signs n k (Called ∷ us) = ap (λ i. made i false k) (none_more n)
-after_signs n k (Opens Round ∷ us) = ap (λ i. made i false k) (none_more n)
-after_signs n k (Opens Square ∷ us) = ap (λ i. made i false k) (none_more n)
-after_signs n k (Opens Curly ∷ us) = ap (λ i. made i true k) (none_more n)
-after_signs n k (Closes Round ∷ us) = ap (λ i. made i false k) (none_more n)
-after_signs n k (Closes Square ∷ us) = ap (λ i. made i false k) (none_more n)
-after_signs n k (Closes Curly ∷ us) = ap (λ i. made i false k) (none_more n)
-after_signs n k (Semicolon ∷ us) = ap (λ i. made i false k) (none_more n)
-after_signs n k (Comma ∷ us) = ap (λ i. made i false k) (none_more n)
-after_signs n k (Other ∷ us) = ap (λ i. made i false k) (none_more n)
-
-pub not_kind : (n k : ℕ) (us : List Sign) → is_kind (slice_index_or us 0 Other) ≡ false → made n false k ≡ with_params n (params_from k us)
-not_kind n k [] h = ap (λ i. made i false k) (none_more n)
-not_kind n k (Proc ∷ us) h = ap (λ i. made i false k) (none_more n)
-not_kind n k (Main ∷ us) h = ap (λ i. made i false k) (none_more n)
-not_kind n k (Else ∷ us) h = ap (λ i. made i false k) (none_more n)
-not_kind n k (Kind ∷ us) h = absurd (cc)
-not_kind n k (ItemWord ∷ us) h = ap (λ i. made i false k) (none_more n)
-not_kind n k (Called ∷ us) h = ap (λ i. made i false k) (none_more n)
-not_kind n k (Opens Round ∷ us) h = ap (λ i. made i false k) (none_more n)
-not_kind n k (Opens Square ∷ us) h = ap (λ i. made i false k) (none_more n)
-not_kind n k (Opens Curly ∷ us) h = ap (λ i. made i false k) (none_more n)
-not_kind n k (Closes Round ∷ us) h = ap (λ i. made i false k) (none_more n)
-not_kind n k (Closes Square ∷ us) h = ap (λ i. made i false k) (none_more n)
-not_kind n k (Closes Curly ∷ us) h = ap (λ i. made i false k) (none_more n)
-not_kind n k (Semicolon ∷ us) h = ap (λ i. made i false k) (none_more n)
-not_kind n k (Comma ∷ us) h = ap (λ i. made i false k) (none_more n)
-not_kind n k (Other ∷ us) h = ap (λ i. made i false k) (none_more n)
-
-pub not_called : (n k : ℕ) (us : List Sign) → is_called (slice_index_or us 0 Other) ≡ false → made n false (k + 1) ≡ with_params n (params_from k (Kind ∷ us))
-not_called n k [] h = ap (λ i. made i false (k + 1)) (none_more n)
-not_called n k (Proc ∷ us) h = ap (λ i. made i false (k + 1)) (none_more n)
-not_called n k (Main ∷ us) h = ap (λ i. made i false (k + 1)) (none_more n)
-not_called n k (Else ∷ us) h = ap (λ i. made i false (k + 1)) (none_more n)
-not_called n k (Kind ∷ us) h = ap (λ i. made i false (k + 1)) (none_more n)
-not_called n k (ItemWord ∷ us) h = ap (λ i. made i false (k + 1)) (none_more n)
-not_called n k (Called ∷ us) h = absurd (cc)
-not_called n k (Opens Round ∷ us) h = ap (λ i. made i false (k + 1)) (none_more n)
-not_called n k (Opens Square ∷ us) h = ap (λ i. made i false (k + 1)) (none_more n)
-not_called n k (Opens Curly ∷ us) h = ap (λ i. made i false (k + 1)) (none_more n)
-not_called n k (Closes Round ∷ us) h = ap (λ i. made i false (k + 1)) (none_more n)
-not_called n k (Closes Square ∷ us) h = ap (λ i. made i false (k + 1)) (none_more n)
-not_called n k (Closes Curly ∷ us) h = ap (λ i. made i false (k + 1)) (none_more n)
-not_called n k (Semicolon ∷ us) h = ap (λ i. made i false (k + 1)) (none_more n)
-not_called n k (Comma ∷ us) h = ap (λ i. made i false (k + 1)) (none_more n)
-not_called n k (Other ∷ us) h = ap (λ i. made i false (k + 1)) (none_more n)
-
 one_more : (n : ℕ) → n + 1 ≡ n + (1 + 0)
 one_more n = omega arith
-
-pub not_ended : (n k : ℕ) (us : List Sign) → is_comma (slice_index_or us 0 Other) ≡ false → closes_round (slice_index_or us 0 Other) ≡ false
-    → made (n + 1) false (k + 2) ≡ with_params n (params_from k (Kind ∷ Called ∷ us))
-not_ended n k [] g h = ap (λ i. made i false (k + 2)) (one_more n)
-not_ended n k (Proc ∷ us) g h = ap (λ i. made i false (k + 2)) (one_more n)
-not_ended n k (Main ∷ us) g h = ap (λ i. made i false (k + 2)) (one_more n)
-not_ended n k (Else ∷ us) g h = ap (λ i. made i false (k + 2)) (one_more n)
-not_ended n k (Kind ∷ us) g h = ap (λ i. made i false (k + 2)) (one_more n)
-not_ended n k (ItemWord ∷ us) g h = ap (λ i. made i false (k + 2)) (one_more n)
-not_ended n k (Called ∷ us) g h = ap (λ i. made i false (k + 2)) (one_more n)
-not_ended n k (Opens Round ∷ us) g h = ap (λ i. made i false (k + 2)) (one_more n)
-not_ended n k (Opens Square ∷ us) g h = ap (λ i. made i false (k + 2)) (one_more n)
-not_ended n k (Opens Curly ∷ us) g h = ap (λ i. made i false (k + 2)) (one_more n)
-not_ended n k (Closes Round ∷ us) g h = absurd (cc)
-not_ended n k (Closes Square ∷ us) g h = ap (λ i. made i false (k + 2)) (one_more n)
-not_ended n k (Closes Curly ∷ us) g h = ap (λ i. made i false (k + 2)) (one_more n)
-not_ended n k (Semicolon ∷ us) g h = ap (λ i. made i false (k + 2)) (one_more n)
-not_ended n k (Comma ∷ us) g h = absurd (cc)
-not_ended n k (Other ∷ us) g h = ap (λ i. made i false (k + 2)) (one_more n)
 
 twice_more : (n : ℕ) (h : Head) → with_params (n + 1) h ≡ with_params n (with_params 1 h)
 twice_more n h = let e : n + 1 + h.params ≡ n + (1 + h.params) = omega arith in ap (λ i. made i h.fits h.stop) e
@@ -248,38 +160,13 @@ module _ (ss : List Sign) (k : ℕ) where
   pub at_comma : is_comma (at ss (k + 2)) ≡ true → drop (k + 2) ss ≡ Comma ∷ drop (k + 3) ss
   at_comma h = starts ss (k + 2) Comma is_comma comma_is refl h ∙ ap (λ i. Comma ∷ drop i ss) (next_two k)
 
-  pub at_round : closes_round (at ss (k + 2)) ≡ true → drop (k + 2) ss ≡ Closes Round ∷ drop (k + 3) ss
-  at_round h = starts ss (k + 2) (Closes Round) closes_round closes_is refl h ∙ ap (λ i. Closes Round ∷ drop i ss) (next_two k)
-
-  pub place_not_kind : (n : ℕ) → is_kind (at ss k) ≡ false → made n false k ≡ with_params n (params_from k (drop k ss))
-  place_not_kind n h = not_kind n k (drop k ss) (ap is_kind (first_of ss k) ∙ h)
-
-  pub place_not_called : (n : ℕ) → is_kind (at ss k) ≡ true → is_called (at ss (k + 1)) ≡ false
-      → made n false (k + 1) ≡ with_params n (params_from k (drop k ss))
-  place_not_called n g h =
-      not_called n k (drop (k + 1) ss) (ap is_called (first_of ss (k + 1)) ∙ h) ∙ ap (λ us. with_params n (params_from k us)) (sym (at_kind g))
-
   two : is_kind (at ss k) ≡ true → is_called (at ss (k + 1)) ≡ true → drop k ss ≡ Kind ∷ Called ∷ drop (k + 2) ss
   two g h = at_kind g ∙ ap (λ us. Kind ∷ us) (at_called h)
-
-  pub place_not_ended : (n : ℕ) → is_kind (at ss k) ≡ true → is_called (at ss (k + 1)) ≡ true → is_comma (at ss (k + 2)) ≡ false
-      → closes_round (at ss (k + 2)) ≡ false → made (n + 1) false (k + 2) ≡ with_params n (params_from k (drop k ss))
-  place_not_ended n f g h i =
-      not_ended n k (drop (k + 2) ss) (ap is_comma (first_of ss (k + 2)) ∙ h) (ap closes_round (first_of ss (k + 2)) ∙ i)
-      ∙ ap (λ us. with_params n (params_from k us)) (sym (two f g))
-
-  pub place_ended : (n : ℕ) → is_kind (at ss k) ≡ true → is_called (at ss (k + 1)) ≡ true → closes_round (at ss (k + 2)) ≡ true
-      → with_params (n + 1) (after_params (k + 3) (drop (k + 3) ss)) ≡ with_params n (params_from k (drop k ss))
-  place_ended n f g h =
-      ended n k (drop (k + 3) ss) ∙ ap (λ us. with_params n (params_from k us)) (sym (two f g ∙ ap (λ us. Kind ∷ Called ∷ us) (at_round h)))
 
   pub place_listed : (n : ℕ) → is_kind (at ss k) ≡ true → is_called (at ss (k + 1)) ≡ true → is_comma (at ss (k + 2)) ≡ true
       → with_params (n + 1) (params_from (k + 3) (drop (k + 3) ss)) ≡ with_params n (params_from k (drop k ss))
   place_listed n f g h =
       listed n k (drop (k + 3) ss) ∙ ap (λ us. with_params n (params_from k us)) (sym (two f g ∙ ap (λ us. Kind ∷ Called ∷ us) (at_comma h)))
-
-pub place_after : (ss : List Sign) (n k : ℕ) → made n (opens_curly (at ss k)) k ≡ with_params n (after_params k (drop k ss))
-place_after ss n k = ap (λ s. made n (opens_curly s) k) (sym (first_of ss k)) ∙ after_signs n k (drop k ss)
 
 -- ---- the `{` of a head
 

@@ -7,8 +7,10 @@ use Rattle.proc_expand.specs.declared.refusal.Reason.{Reason}
 use Rattle.proc_expand.specs.declared.refusal.Reason.TheVariants.{Shape, Unknown, Count, Twice}
 use Rattle.proc_expand.specs.declared.refusal.Refusal.{Refusal}
 use Rattle.proc_expand.specs.declared.sign.Sign.{Sign}
-use Rattle.proc_expand.specs.Words.{signs, sign_of, first, some, or_here, earliest}
-use Rattle.proc_expand.specs.Refusals.{begins, proc_fails, misplaced, within, is_call, call_fails, is_shape, is_unknown, is_count, is_twice, reason, or_reason, first_reason, refusal, refused, earlier}
+use Rattle.proc_expand.specs.Words.{signs, sign_of, first, some, or_here}
+use Rattle.proc_expand.specs.steps.Looking.{earliest}
+use Rattle.proc_expand.specs.Refusals.{begins, proc_fails, misplaced, within, is_call, call_fails, is_shape, is_unknown, is_count, is_twice, reason, or_reason, first_reason, refusal}
+use Rattle.proc_expand.specs.steps.Looking.{refused, earlier}
 use Rattle.proc_expand.proofs.First.{lt_is, lt_not, first_either}
 
 -- the first of two reasons at a place

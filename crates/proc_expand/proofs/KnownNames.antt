@@ -1,5 +1,5 @@
 -- What is known of procedures by their names, place by place.
-use Rattle.std.proofs.Common.{◌≡◌, ℕ, ◌+◌, ◌<◌, Bool, true, false, cond, ◌&&◌, List, [], ◌∷◌, length, Option, Some, None, refl, sym, ap, ◌∙◌, arith}
+use Rattle.std.proofs.Common.{◌≡◌, ℕ, ◌+◌, ◌<◌, Bool, true, false, cond, ◌&&◌, List, ◌∷◌, length, Option, Some, None, refl, sym, ap, ◌∙◌, arith}
 use Rattle.std.specs.Prelude.{slice_index_or, if◌then◌else◌}
 use Rattle.std.specs.Map.{lookup}
 use Rattle.std.proofs.lemmas.List.{length-map}
@@ -10,7 +10,8 @@ use Rattle.name_scope.proofs.Kept.{same_from}
 use Rattle.proc_expand.specs.declared.procedures.Procedure.{Procedure}
 use Rattle.proc_expand.specs.declared.scan.Scan.{Scan}
 use Rattle.proc_expand.specs.Words.{signs, sign_of, at, bytes_at, is_called, first, or_here, closes_before, is_closed}
-use Rattle.proc_expand.specs.Refusals.{begins, is_named, procedure, procedure_of, body_end, if_before, is_none, is_unknown, is_count, call_end, counts_other, count, is_other, meant, IsScan, Knows}
+use Rattle.proc_expand.specs.Refusals.{begins, is_named, procedure, body_end, if_before, is_none, is_unknown, is_count, call_end, counts_other, count, meant}
+use Rattle.proc_expand.specs.steps.Looking.{procedure_of, is_other, IsScan, Knows}
 use Rattle.proc_expand.proofs.First.{plus_one, by_case}
 use Rattle.proc_expand.proofs.Heads.{length_tests, test_at}
 use Rattle.proc_expand.proofs.CallFacts.{no_call}
@@ -51,9 +52,6 @@ not_here (Some j) n = refl
 module _ (ts : List TokenAt) where
   abbrev pub Pairs : Type 0
   Pairs = List (Name × Procedure)
-
-  pub none_known : Knows ts 0 []
-  none_known = record { first_of = λ x. refl }
 
   -- no procedure of that name begins at this place
   skipped : (n : ℕ) (x : Name) → is_named ts x n ≡ false → first (n + 1) (is_named ts x) ≡ first n (is_named ts x)

@@ -19,3 +19,4 @@ mod PenFacts
 mod OpenBodies
 mod Writing
 mod Origins
+pub mod FewTokens

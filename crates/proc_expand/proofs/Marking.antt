@@ -1,6 +1,6 @@
 -- The names of one procedure after the other are numbered.
-use Rattle.std.proofs.Common.{◌≡◌, ℕ, zero, suc, ◌+◌, ◌-◌, ◌*◌, ◌<◌, ◌≤◌, Bool, true, false, List, [], ◌∷◌, ◌++◌, length, nat_eq, Option, Some, None, refl, sym, ap, ◌∙◌, subst, arith}
-use Rattle.std.specs.Prelude.{map, slice_index_or}
+use Rattle.std.proofs.Common.{◌≡◌, ℕ, ◌+◌, ◌-◌, ◌*◌, ◌<◌, ◌≤◌, true, false, List, [], ◌∷◌, ◌++◌, length, nat_eq, Option, None, sym, ap, ◌∙◌, subst, arith}
+use Rattle.std.specs.Prelude.{slice_index_or}
 use Rattle.std.proofs.lemmas.List.{length-append}
 use Rattle.std.proofs.Math.Seq.{get_or-append_seam}
 use Rattle.std.proofs.Math.ListN.{get_or-append}
@@ -10,12 +10,12 @@ use Rattle.jade_syntax.specs.Abstract.{Name}
 use Rattle.proc_expand.specs.Words.{signs, bytes_at}
 use Rattle.proc_expand.specs.Refusals.{begins, head, body_end, procedure, param_place, refusal}
 use Rattle.proc_expand.specs.Written.{items, closed_at, replaced_at, names_at, from}
-use Rattle.proc_expand.specs.Replaced.{with_names, IsNumber, IsMark}
-use Rattle.proc_expand.specs.Marks.{AreMarked, AreMarks}
+use Rattle.proc_expand.specs.steps.Replaced.{with_names, IsNumber, IsMark}
+use Rattle.proc_expand.specs.steps.Marks.{AreMarked, AreMarks}
 use Rattle.proc_expand.proofs.First.{by_case, eq_true, eq_false}
 use Rattle.proc_expand.proofs.NameLists.{numbers_stay}
 use Rattle.proc_expand.proofs.BodyNames.{heads_names, all_replaced}
-use Rattle.proc_expand.proofs.Wholes.{stop_of, end_of_body, apart, params_long, body_in}
+use Rattle.proc_expand.proofs.Wholes.{apart, params_long, body_in}
 
 module _ (ts : List TokenAt) (end : Pos) where
   module _ (p start stop n : ℕ) (own mid all : List Name) (is_own : own ≡ items ts end) (is_n : n ≡ (head (signs ts) p).params)
@@ -46,14 +46,6 @@ module _ (ts : List TokenAt) (end : Pos) where
           let c = subst (λ ns. IsMark ts end own ns k (slice_index_or later k None)) are_all m in
           subst (λ ns. IsMark ts end ns (replaced_at ts end (procedure (signs ts) p)) k (slice_index_or later k None)) is_own c;
     }
-
-  pub no_marks : (numbers : List (Option ℕ)) (counts : List ℕ) → length numbers ≡ length ts → counts ≡ [] → AreMarks ts end 0 numbers counts
-  no_marks numbers counts a b = record {
-    as_many = a;
-    counted = ap length b;
-    marked = λ p l t. absurd (omega (arith, l));
-    count = λ p l t. absurd (omega (arith, l));
-  }
 
   module _ (n m : ℕ) (numbers : List (Option ℕ)) (counts : List ℕ) (h : AreMarks ts end n numbers counts) where
     longer : length (counts ++ m ∷ []) ≡ n + 1

@@ -1,5 +1,5 @@
 -- Lists of names, as they grow by one.
-use Rattle.std.proofs.Common.{◌≡◌, ℕ, zero, suc, ◌+◌, ◌<◌, ◌≤◌, Bool, true, false, cond, ◌||◌, List, [], ◌∷◌, ◌++◌, ◌-◌, ◌≢◌, length, drop, slice_set, take, get_or, not, Option, Some, None, refl, sym, ap, ◌∙◌, subst, arith}
+use Rattle.std.proofs.Common.{◌≡◌, ℕ, zero, suc, ◌+◌, ◌<◌, ◌≤◌, Bool, true, false, cond, ◌||◌, List, [], ◌∷◌, ◌++◌, ◌-◌, ◌≢◌, length, slice_set, take, get_or, not, Option, Some, None, refl, sym, ap, ◌∙◌, subst, arith}
 use Rattle.std.specs.Prelude.{map, slice_index_or, ◌&&◌, if◌then◌else◌}
 use Rattle.std.specs.Map.{lookup}
 use Rattle.std.specs.List.{filter}
@@ -15,7 +15,7 @@ use Rattle.proc_expand.specs.Words.{signs, at, bytes_at, those, one_if, is_calle
 use Rattle.proc_expand.specs.Names.{is_among, first_places, place_among}
 use Rattle.proc_expand.specs.Refusals.{param_place}
 use Rattle.proc_expand.specs.Written.{items as item_names, from, is_variable, names_at, in_procedure}
-use Rattle.proc_expand.specs.Replaced.{names_of, with_name, with_names, found_among, AreNumbered, IsNumber, IsMark}
+use Rattle.proc_expand.specs.steps.Replaced.{names_of, with_name, with_names, found_among, AreNumbered, IsNumber, IsMark}
 use Rattle.proc_expand.proofs.First.{plus_one}
 use Rattle.proc_expand.proofs.Outside.{those_filter}
 
@@ -133,40 +133,12 @@ or_right : (a b : Bool) → b ≡ true → (a || b) ≡ true
 or_right true b h = refl
 or_right false b h = h
 
-pub met_item : (items names : List Name) (x : Name) → is_among items x ≡ true → IsNumber items (with_name items names x) x None
-met_item items names x h = record {
-  met = or_left (is_among items x) (is_among (with_name items names x) x) h;
-  value = ap (λ b. if b then None else Some (place_among (with_name items names x) x)) (sym h);
-}
-
-pub item_changes_nothing : (items names : List Name) (x : Name) → is_among items x ≡ true → names ≡ with_name items names x
-item_changes_nothing items names x h = ap (λ b. if b then names else names ++ x ∷ []) (sym (or_left (is_among items x) (is_among names x) h))
-
-pub seen_changes_nothing : (items names : List Name) (x : Name) → is_among names x ≡ true → names ≡ with_name items names x
-seen_changes_nothing items names x h = ap (λ b. if b then names else names ++ x ∷ []) (sym (or_right (is_among items x) (is_among names x) h))
-
-pub new_joins : (items names : List Name) (x : Name) → is_among items x ≡ false → is_among names x ≡ false → names ++ x ∷ [] ≡ with_name items names x
-new_joins items names x h g = ap (λ b. if b then names else names ++ x ∷ []) (sym (ap (λ a. a || is_among names x) h ∙ g))
-
 pub is_number : (items names : List Name) (x : Name) (n : ℕ) → is_among items x ≡ false → is_among names x ≡ true → n ≡ place_among names x
     → IsNumber items names x (Some n)
 is_number items names x n h g e = record {
   met = or_right (is_among items x) (is_among names x) g;
   value = ap Some e ∙ ap (λ b. if b then None else Some (place_among names x)) (sym h);
 }
-
-found_place : (names : List Name) (x : Name) (n : ℕ) (b : Bool) → is_among names x ≡ b → Some n ≡ found_among names x → (b ≡ true) × (n ≡ place_among names x)
-found_place names x n true e h = (refl, ap (get n) (h ∙ ap (λ t. if t then Some (place_among names x) else None) e))
-  where
-    get : ℕ → Option ℕ → ℕ
-    get d None = d
-    get d (Some m) = m
-found_place names x n false e h = absurd (let g = h ∙ ap (λ t. if t then Some (place_among names x) else None) e in cc)
-
-pub seen_number : (items : List Name) (es : List (Name × ℕ)) (x : Name) (n : ℕ) → is_among items x ≡ false → AreNumbered es
-    → Some n ≡ lookup (same_name x) es → IsNumber items (names_of es) x (Some n)
-seen_number items es x n h k g =
-    let f = found_place (names_of es) x n (is_among (names_of es) x) refl (g ∙ k.found x) in is_number items (names_of es) x n h f.0 f.1
 
 pub new_number : (items : List Name) (es : List (Name × ℕ)) (x : Name) (n : ℕ) → is_among items x ≡ false → n ≡ length es
     → is_among (names_of es) x ≡ false → IsNumber items (names_of es ++ x ∷ []) x (Some n)
@@ -300,10 +272,6 @@ pub all_items : (ts : List TokenAt) (end : Pos) (ss : List Sign) (ks : List ℕ)
 all_items ts end ss ks e h =
     ap (λ u. items_among ts u ks) e ∙ ap (items_among ts (signs ts)) h
     ∙ ap (map (λ k. bytes_at ts (suc k))) (those_filter (length ts) (stands (signs ts)) (λ k. not (in_procedure ts end k)))
-
-pub those_more : (ts : List TokenAt) (k : ℕ) (is : ℕ → Bool)
-    → map (bytes_at ts) (those (suc k) is) ≡ map (bytes_at ts) (those k is) ++ map (bytes_at ts) (one_if (is k) k)
-those_more ts k is = map-append (bytes_at ts) (those k is) (one_if (is k) k)
 
 pub not_added : (ts : List TokenAt) (es : List (Name × ℕ)) (b : Bool) (k : ℕ) → b ≡ false
     → names_of es ≡ names_of es ++ map (bytes_at ts) (one_if b k)

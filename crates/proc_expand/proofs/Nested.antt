@@ -1,14 +1,15 @@
 -- Brackets inside others: what is open around them waits until they are closed.
-use Rattle.std.proofs.Common.{◌≡◌, ℕ, suc, ◌+◌, ◌<◌, ◌≤◌, Bool, true, false, List, [], ◌∷◌, ◌++◌, length, drop, set, nat_eq, refl, sym, ap, ◌∙◌, arith}
+use Rattle.std.proofs.Common.{◌≡◌, ℕ, suc, ◌+◌, ◌<◌, ◌≤◌, Bool, true, false, List, [], ◌∷◌, ◌++◌, length, drop, refl, sym, ap, ◌∙◌, arith}
 use Rattle.std.specs.Prelude.{Some, None, slice_index_or, if◌then◌else◌}
-use Rattle.std.proofs.lemmas.List.{drop_all, length-drop, length-set, get_or-set_same, get_or-set_other}
+use Rattle.std.proofs.lemmas.List.{length-drop}
 use Rattle.proc_expand.specs.declared.sign.Bracket.{Bracket}
 use Rattle.proc_expand.specs.declared.sign.Sign.{Sign}
 use Rattle.proc_expand.specs.declared.sign.Sign.TheVariants.{Proc, Main, Else, Kind, ItemWord, Called, Opens, Closes, Semicolon, Comma, Other}
 use Rattle.proc_expand.specs.declared.sign.End.{End}
 use Rattle.proc_expand.specs.declared.sign.End.TheVariants.{Closed, Wrong, Never}
-use Rattle.proc_expand.specs.Words.{at, opens, same_bracket, closing, closing_from, closed_by, next_place, after_sign, after_end, AreEndsFrom}
-use Rattle.proc_expand.proofs.First.{index_any, drop_at, drop_tail, by_case, eq_true, eq_false}
+use Rattle.proc_expand.specs.Words.{at, same_bracket, closing, closing_from, closed_by}
+use Rattle.proc_expand.specs.steps.Brackets.{opens, next_place, after_sign, after_end, AreEndsFrom}
+use Rattle.proc_expand.proofs.First.{index_any, drop_at, drop_tail}
 
 -- what is found of an open bracket once those inside it are closed
 abbrev pub resumed : List Sign → Bracket → End → End
@@ -168,11 +169,6 @@ later Other k n next e l f h = let is : k + 1 ≡ next = cc in (omega (arith, is
 pub next_later : (ss : List Sign) (k next : ℕ) → k < length ss → next_place ss k ≡ Some next → (k < next) × (next ≤ length ss)
 next_later ss k next l h = later (at ss k) k (length ss) next (closing ss k) l (λ j e. closed_in ss k j l e) h
 
--- where nothing is inside any more
-pub closes_here : (ss : List Sign) (k : ℕ) (b d : Bracket) → k < length ss → at ss k ≡ Closes d
-    → closing_from (b ∷ []) k (drop k ss) ≡ (if same_bracket b d then Closed k else Wrong k)
-closes_here ss k b d l e = ap (closing_from (b ∷ []) k) (drop_at ss k l) ∙ ap (λ s. closing_from (b ∷ []) k (s ∷ drop (k + 1) ss)) e
-
 pub opens_here : (ss : List Sign) (k : ℕ) (b c : Bracket) → k < length ss → at ss k ≡ Opens c → next_place ss k ≡ None
     → closing ss k ≡ closing_from (b ∷ []) k (drop k ss)
 opens_here ss k b c l e h =
@@ -186,9 +182,6 @@ opens_here ss k b c l e h =
     by (Wrong j) f g = ap (resumed ss b) f
     by Never f g = ap (resumed ss b) f
 
-pub never_past : (ss : List Sign) (k : ℕ) (b : Bracket) → length ss ≤ k → Never ≡ closing_from (b ∷ []) k (drop k ss)
-never_past ss k b h = ap (closing_from (b ∷ []) k) (sym (drop_all k ss h))
-
 -- ---- what is known of ends
 
 pub at_index : (ss : List Sign) (k : ℕ) (s : Sign) → k < length ss → slice_index_or ss k Proc ≡ s → at ss k ≡ s
@@ -198,43 +191,3 @@ pub known_end : (ss : List Sign) (es : List End) (n k : ℕ) (b : Bracket) → A
     → slice_index_or ss k Proc ≡ Opens b → slice_index_or es k (Closed 0) ≡ closing ss k
 known_end ss es n k b h a l e =
     index_any es k (Closed 0) Never (let m = h.as_many in omega (arith, l, m)) ∙ h.closed k a l (ap opens (at_index ss k (Opens b) l e))
-
-pub no_ends : (ss : List Sign) (es : List End) → length es ≡ length ss → AreEndsFrom ss es (length ss)
-no_ends ss es h = record { as_many = h; closed = λ k a l o. absurd (omega (arith, a, l)) }
-
-pub fewer_known : (ss : List Sign) (es : List End) (m n : ℕ) → m ≤ n → AreEndsFrom ss es m → AreEndsFrom ss es n
-fewer_known ss es m n le h = record { as_many = h.as_many; closed = λ k a l o. h.closed k (omega (arith, le, a)) l o }
-
--- one place more before them
-pub one_known : (ss : List Sign) (es : List End) (k : ℕ) (e : End) → k < length ss → AreEndsFrom ss es (k + 1) → e ≡ closing ss k
-    → AreEndsFrom ss (set es k e) k
-one_known ss es k e l h is = record { as_many = length-set es k e ∙ h.as_many; closed = λ i a b o. by_case (nat_eq i k) (here i) (there i a b o) }
-  where
-    here : (i : ℕ) → nat_eq i k ≡ true → slice_index_or (set es k e) i Never ≡ closing ss i
-    here i t = let at : i ≡ k = eq_true i k t in
-        ap (λ j. slice_index_or (set es k e) j Never) at ∙ get_or-set_same es k e Never (let m = h.as_many in omega (arith, l, m))
-        ∙ is ∙ ap (closing ss) (sym at)
-
-    there : (i : ℕ) → k ≤ i → i < length ss → opens (at ss i) ≡ true → nat_eq i k ≡ false → slice_index_or (set es k e) i Never ≡ closing ss i
-    there i a b o f = let d = eq_false i k f in get_or-set_other es k i e Never d ∙ h.closed i (omega (arith, a, d)) b o
-
-pub none_opens : (ss : List Sign) (es : List End) (k : ℕ) → k < length ss → AreEndsFrom ss es (k + 1) → ((b : Bracket) → slice_index_or ss k Proc ≡ Opens b → ⊥)
-    → AreEndsFrom ss es k
-none_opens ss es k l h never = record { as_many = h.as_many; closed = λ i a b o. by_case (nat_eq i k) (here i o) (λ f. h.closed i (let d = eq_false i k f in omega (arith, a, d)) b o) }
-  where
-    opener : (s : Sign) → opens s ≡ true → ((b : Bracket) → s ≡ Opens b → ⊥) → ⊥
-    opener (Opens b) o f = f b refl
-    opener (Closes b) o f = absurd (cc)
-    opener Proc o f = absurd (cc)
-    opener Main o f = absurd (cc)
-    opener Else o f = absurd (cc)
-    opener Kind o f = absurd (cc)
-    opener ItemWord o f = absurd (cc)
-    opener Called o f = absurd (cc)
-    opener Semicolon o f = absurd (cc)
-    opener Comma o f = absurd (cc)
-    opener Other o f = absurd (cc)
-
-    here : (i : ℕ) → opens (at ss i) ≡ true → nat_eq i k ≡ true → slice_index_or es i Never ≡ closing ss i
-    here i o t = let is : i ≡ k = eq_true i k t in
-        absurd (opener (slice_index_or ss k Proc) (ap opens (index_any ss k Proc Other l) ∙ ap (λ j. opens (at ss j)) (sym is) ∙ o) never)

@@ -1,5 +1,5 @@
 -- Names in open bodies, and where bodies lie.
-use Rattle.std.proofs.Common.{◌≡◌, ℕ, zero, suc, ◌+◌, ◌*◌, ◌<◌, ◌≤◌, Bool, true, false, List, [], ◌∷◌, ◌++◌, length, Option, Some, None, refl, sym, ap, ◌∙◌, subst, arith}
+use Rattle.std.proofs.Common.{◌≡◌, ℕ, zero, suc, ◌+◌, ◌<◌, ◌≤◌, Bool, true, false, List, [], ◌∷◌, ◌++◌, length, Option, Some, None, refl, sym, ap, ◌∙◌, subst, arith}
 use Rattle.std.specs.Prelude.{slice_index_or, slice_get, if◌then◌else◌}
 use Rattle.std.proofs.lemmas.List.{length-map, length-append}
 use Rattle.jade_base.specs.declared.place.Pos.{Pos}
@@ -13,11 +13,10 @@ use Rattle.proc_expand.specs.Words.{signs, bytes_at, those, one_if, is_called, a
 use Rattle.proc_expand.specs.Names.{is_among, place_among}
 use Rattle.proc_expand.specs.Refusals.{head, procedure, param_place}
 use Rattle.proc_expand.specs.Written.{MadeToken, items, text_names, replaced_at, replaced_by, fresh_name, is_variable, token_at, pos_at}
-use Rattle.proc_expand.specs.Replaced.{names_of, IsNumber, IsMark}
-use Rattle.proc_expand.specs.Marks.{IsMarked}
-use Rattle.proc_expand.specs.Frames.{names_in}
-use Rattle.proc_expand.specs.Pens.{name_by, number_in, IsSmall, IsPen, Wrote, IsTooLong}
-use Rattle.proc_expand.specs.Sources.{IsSource, IsOpen, IsInside, StandsIn, param_token}
+use Rattle.proc_expand.specs.steps.Replaced.{names_of, IsNumber, IsMark}
+use Rattle.proc_expand.specs.steps.Frames.{names_in}
+use Rattle.proc_expand.specs.steps.Pens.{name_by, number_in, IsSmall, IsPen, Wrote, IsTooLong}
+use Rattle.proc_expand.specs.steps.Sources.{IsSource, IsOpen, IsInside, StandsIn, param_token}
 use Rattle.proc_expand.proofs.NameLists.{names_count}
 use Rattle.proc_expand.proofs.Wholes.{params_long, stop_within}
 

@@ -1,20 +1,20 @@
 -- An expanded text that is handed out, and where its tokens come from.
-use Rattle.std.proofs.Common.{◌≡◌, ℕ, zero, suc, ◌+◌, ◌-◌, ◌<◌, ◌≤◌, ◌≢◌, Bool, true, false, ◌&&◌, List, [], ◌∷◌, ◌++◌, length, take, drop, nat_eq, nat_lt, Option, Some, None, refl, sym, ap, ◌∙◌, subst, arith}
-use Rattle.std.specs.Prelude.{map, slice_index_or, Result, Ok, Err, if◌then◌else◌}
+use Rattle.std.proofs.Common.{◌≡◌, ℕ, zero, suc, ◌+◌, ◌-◌, ◌<◌, ◌≤◌, ◌≢◌, ◌&&◌, List, [], ◌∷◌, ◌++◌, length, take, drop, nat_eq, None, refl, sym, ap, ◌∙◌, subst, arith}
+use Rattle.std.specs.Prelude.{map, slice_index_or, Ok, Err, if◌then◌else◌}
 use Rattle.std.proofs.lemmas.List.{append_assoc, length-append, length-take, length-drop}
 use Rattle.std.proofs.Math.Seq.{take-append_seam}
 use Rattle.jade_base.specs.declared.place.Pos.{Pos}
-use Rattle.jade_lexer.specs.Lexemes.{TokenAt, TokenList}
-use Rattle.proc_expand.specs.declared.error.ExpandError.{ExpandError}
+use Rattle.jade_lexer.specs.Lexemes.{TokenList}
 use Rattle.proc_expand.specs.declared.error.ExpandError.TheVariants.{Grown}
 use Rattle.proc_expand.specs.declared.sheet.Piece.{Piece}
 use Rattle.proc_expand.specs.declared.sheet.Sheet.{Sheet}
 use Rattle.proc_expand.specs.Refusals.{refusal}
 use Rattle.proc_expand.specs.Written.{MadeToken, spaced, expansion, expanded_text}
-use Rattle.proc_expand.specs.Sheets.{spaced_out, piece_token, tokens_of, AreLaid, Begins, IsSheet}
-use Rattle.proc_expand.specs.Expanded.{ExpandedText, origin_from, origin_among, outcome, unless_refused, unless_grown, tokens_in, laid_to, IsExpanded}
+use Rattle.proc_expand.specs.steps.Sheets.{spaced_out, piece_token, tokens_of, AreLaid, IsSheet}
+use Rattle.proc_expand.specs.Expanded.{origin_from, outcome, unless_refused, unless_grown}
+use Rattle.proc_expand.specs.steps.Kept.{origin_among, tokens_in, laid_to, IsExpanded, Ascend}
 use Rattle.proc_expand.proofs.First.{eq_not, eq_same, lt_is, lt_not}
-use Rattle.proc_expand.proofs.SheetFacts.{laid_up, same_piece}
+use Rattle.proc_expand.proofs.SheetFacts.{laid_up, same_pieces}
 
 -- ---- the text, with a line feed in place of the last space
 
@@ -35,15 +35,6 @@ not_longer (u ∷ us) h =
     let a = length-append (spaced (u ∷ us)) (10 ∷ []) in let b = length-append (spaced (u ∷ us)) (32 ∷ []) in
     let c = ap length (spaced_last u us) in omega (arith, a, b, c, h)
 
--- pieces that stop before a last byte do not see it
-same_before : (text more : List ℕ) (n : ℕ) (ps : List Piece) (m : ℕ) → AreLaid n ps m → m ≤ length text + 1
-    → map (piece_token (text ++ more)) ps ≡ map (piece_token text) ps
-same_before text more n [] m h l = refl
-same_before text more n (p ∷ ps) m h l =
-    let at = h.0.at in let up = h.0.up in let end = laid_up (p.stop + 1) ps m h.1 in
-    ap (λ t. t ∷ map (piece_token (text ++ more)) ps) (same_piece text more p (omega (arith, at, up)) (omega (arith, end, l)))
-    ∙ ap (λ ts. piece_token text p ∷ ts) (same_before text more (p.stop + 1) ps m h.1 l)
-
 cut : (xs ys : List ℕ) (a b : ℕ) → xs ++ a ∷ [] ≡ ys ++ b ∷ [] → xs ≡ ys
 cut [] [] a b h = refl
 cut [] (y ∷ []) a b h = absurd (cc)
@@ -58,7 +49,7 @@ pub is_expanded : (s : Sheet) (xs : List ℕ) → IsSheet s → s.text.items ≡
 is_expanded s xs is e = by s.pieces.items refl
   where
     same : (more : List ℕ) → map (piece_token (xs ++ more)) s.pieces.items ≡ map (piece_token xs) s.pieces.items
-    same more = same_before xs more 0 s.pieces.items (length s.text.items) is.laid
+    same more = same_pieces xs more 0 s.pieces.items (length s.text.items) is.laid
         (let l = ap length e in let m = length-append xs (32 ∷ []) in omega (arith, l, m))
 
     tokens : tokens_in (xs ++ 10 ∷ []) s.pieces.items ≡ tokens_of s
@@ -175,6 +166,27 @@ miss end column [] d h = refl
 miss end column (p ∷ ps) d h =
     miss end column ps d (λ j k. h (suc j) (omega (arith, k)))
     ∙ ap (λ b. if b then p.origin else origin_among end column ps) (sym (eq_not (p.start + 1) column (h 0 (omega arith))))
+
+-- pieces of an expanded text
+
+laid_within : (text : List ℕ) (ps : List Piece) → laid_to text ps ≤ length text
+laid_within text [] = omega arith
+laid_within text (p ∷ ps) = omega arith
+
+pub ascends : (text : List ℕ) (ps : List Piece) → IsExpanded text ps → Ascend ps
+ascends text ps is = record { up = λ i j d k l. sorted 0 ps (laid_to text ps) i j d is.laid k l }
+
+pub by_pieces : (text : List ℕ) (end pos : Pos) (ps : List Piece) → IsExpanded text ps → pos.line ≡ 1
+    → origin_from end 1 (tokens_in text ps) pos ≡ origin_among end pos.column ps
+by_pieces text end pos ps is e = in_pieces text end pos 0 ps (laid_to text ps) is.laid (laid_within text ps) e
+
+-- what is finished
+
+pub finished_whole : (s : Sheet) (text : List ℕ) → IsSheet s → text ≡ finished_text s → IsExpanded text s.pieces.items
+finished_whole s text is e = subst (λ u. IsExpanded u s.pieces.items) (sym e) ((finished_is s is).0)
+
+pub finished_tokens : (s : Sheet) (text : List ℕ) → IsSheet s → text ≡ finished_text s → tokens_in text s.pieces.items ≡ tokens_of s
+finished_tokens s text is e = ap (λ u. tokens_in u s.pieces.items) e ∙ (finished_is s is).1
 
 -- ---- what is answered
 

@@ -1,8 +1,8 @@
 -- Places outside of procedures.
-use Rattle.std.proofs.Common.{◌≡◌, ℕ, zero, suc, ◌+◌, ◌-◌, ◌<◌, ◌≤◌, ◌≢◌, Bool, true, false, not, ◌&&◌, ◌||◌, List, [], ◌∷◌, ◌++◌, length, drop, nat_lt, nat_eq, refl, sym, ap, ◌∙◌, subst, arith}
+use Rattle.std.proofs.Common.{◌≡◌, ℕ, zero, suc, ◌+◌, ◌<◌, ◌≤◌, ◌≢◌, Bool, true, false, not, ◌&&◌, ◌||◌, List, [], ◌∷◌, ◌++◌, length, drop, nat_lt, nat_eq, refl, sym, ap, ◌∙◌, subst, arith}
 use Rattle.std.specs.Prelude.{map, nat_le, slice_index_or, if◌then◌else◌}
 use Rattle.std.specs.List.{list_any, filter}
-use Rattle.std.proofs.lemmas.List.{length-map, map-append, length-append, length-drop, append-nil}
+use Rattle.std.proofs.lemmas.List.{length-map, map-append, length-append, length-drop}
 use Rattle.std.proofs.lemmas.List.Folds.{list_any-append}
 use Rattle.std.proofs.lemmas.List.Elements.{filter-append}
 use Rattle.std.proofs.Math.Seq.{get_or-append_seam}
@@ -16,9 +16,10 @@ use Rattle.proc_expand.specs.declared.sign.Sign.{Sign}
 use Rattle.proc_expand.specs.declared.sign.End.{End}
 use Rattle.proc_expand.specs.declared.sign.End.TheVariants.{Closed, Wrong, Never}
 use Rattle.proc_expand.specs.Words.{signs, sign_of, those, one_if, some, end_place, closing}
-use Rattle.proc_expand.specs.Refusals.{begins, procedure, body_end, head, IsScan}
+use Rattle.proc_expand.specs.Refusals.{begins, procedure, body_end, head}
+use Rattle.proc_expand.specs.steps.Looking.{IsScan}
 use Rattle.proc_expand.specs.Written.{in_procedure}
-use Rattle.proc_expand.specs.Outside.{Reaches}
+use Rattle.proc_expand.specs.steps.Outside.{Reaches}
 use Rattle.proc_expand.proofs.First.{plus_one, by_case, eq_true, eq_false, lt_true, lt_is, lt_false}
 use Rattle.proc_expand.proofs.Nested.{closed_within, wrong_within}
 use Rattle.proc_expand.proofs.KnownNames.{as_long}
@@ -69,12 +70,6 @@ module _ (ts : List TokenAt) where
   last_of p = end_place (length ts) (body_end (signs ts) p)
 
   -- ---- how far procedures reach
-
-  pub none_reach : Reaches ts 0 0
-  none_reach = record { so_far = λ j. sym (none j) }
-    where
-      none : (j : ℕ) → nat_lt j 0 ≡ false
-      none j = by_case (nat_lt j 0) (λ e. absurd (let l = lt_true j 0 e in omega (arith, l))) (λ e. e)
 
   pub reach_same : (n r : ℕ) → begins (signs ts) n ≡ false → Reaches ts n r → Reaches ts (n + 1) r
   reach_same n r b h = record {

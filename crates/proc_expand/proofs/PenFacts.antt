@@ -1,5 +1,5 @@
 -- What is written in several steps.
-use Rattle.std.proofs.Common.{◌≡◌, ℕ, zero, suc, ◌+◌, ◌*◌, ◌<◌, ◌≤◌, List, [], ◌∷◌, ◌++◌, length, refl, sym, ap, ◌∙◌, subst, arith}
+use Rattle.std.proofs.Common.{◌≡◌, ◌+◌, ◌<◌, ◌≤◌, List, [], ◌∷◌, ◌++◌, length, refl, sym, ap, ◌∙◌, subst, arith}
 use Rattle.std.specs.Prelude.{Result, Ok, Err, OnOk}
 use Rattle.std.specs.Result.{IsErrAnd}
 use Rattle.std.proofs.lemmas.List.{append_assoc, append-nil, length-append}
@@ -8,8 +8,8 @@ use Rattle.proc_expand.specs.declared.pen.Pen.{Pen}
 use Rattle.proc_expand.specs.declared.sheet.Stop.{Stop}
 use Rattle.proc_expand.specs.declared.sheet.Stop.TheVariants.{Grown}
 use Rattle.proc_expand.specs.Written.{MadeToken}
-use Rattle.proc_expand.specs.Sheets.{spaced_out, tokens_of, IsSheet}
-use Rattle.proc_expand.specs.Pens.{written, IsPen, Wrote, IsTooLong}
+use Rattle.proc_expand.specs.steps.Sheets.{spaced_out}
+use Rattle.proc_expand.specs.steps.Pens.{written, IsPen, Wrote, IsTooLong}
 
 -- ---- how long texts are
 
@@ -50,9 +50,6 @@ pub long_before : (us vs : List MadeToken) (p : Pen) → IsTooLong p us → IsTo
 long_before us vs p h = record {
   long = let a = h.long in let e = ap (λ x. length (spaced_out x)) (append_assoc (written p) us vs) in let l = long_both (written p ++ us) vs in omega (arith, a, e, l);
 }
-
-pub same_long : (us vs : List MadeToken) (p : Pen) → us ≡ vs → IsTooLong p us → IsTooLong p vs
-same_long us vs p e h = subst (IsTooLong p) e h
 
 -- ---- how much is written
 

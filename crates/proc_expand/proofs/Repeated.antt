@@ -7,8 +7,10 @@ use Rattle.jade_lexer.specs.Lexemes.{TokenAt}
 use Rattle.jade_syntax.specs.Abstract.{Name}
 use Rattle.jade_syntax.specs.Numbering.{same_name}
 use Rattle.proc_expand.specs.declared.procedures.Procedure.{Procedure}
-use Rattle.proc_expand.specs.Words.{signs, at, bytes_at, is_called, first, some, or_here, earliest}
-use Rattle.proc_expand.specs.Refusals.{begins, head, is_named, procedure_of, param_place, repeats_param, repeats_name}
+use Rattle.proc_expand.specs.Words.{signs, at, bytes_at, is_called, first, some, or_here}
+use Rattle.proc_expand.specs.steps.Looking.{earliest}
+use Rattle.proc_expand.specs.Refusals.{begins, head, is_named, param_place, repeats_param, repeats_name}
+use Rattle.proc_expand.specs.steps.Looking.{procedure_of}
 use Rattle.proc_expand.proofs.First.{plus_one, by_case, eq_true, eq_false, lt_is, lt_not, first_same, first_none, first_one, first_below, first_either, first_some, earliest_none}
 
 -- ---- some place before another has a property

@@ -6,7 +6,7 @@ use Rattle.std.proofs.Math.Seq.{drop-append_seam, take-append_seam}
 use Rattle.proc_expand.specs.declared.sheet.Piece.{Piece}
 use Rattle.proc_expand.specs.declared.sheet.Sheet.{Sheet}
 use Rattle.proc_expand.specs.Written.{MadeToken}
-use Rattle.proc_expand.specs.Sheets.{spaced_out, piece_token, tokens_of, AreLaid, IsSheet}
+use Rattle.proc_expand.specs.steps.Sheets.{spaced_out, piece_token, tokens_of, AreLaid, IsSheet}
 
 pub laid_up : (n : ℕ) (ps : List Piece) (m : ℕ) → AreLaid n ps m → n ≤ m
 laid_up n [] m h = omega (arith, h)
@@ -22,7 +22,8 @@ same_piece text more p h l =
     (ap (take (p.stop - p.start)) (drop-append-le p.start text more (omega (arith, h, l)))
     ∙ take-append-le (p.stop - p.start) (drop p.start text) more (let d = length-drop p.start text in omega (arith, d, l)))
 
-same_pieces : (text more : List ℕ) (n : ℕ) (ps : List Piece) (m : ℕ) → AreLaid n ps m → m ≤ length text
+-- pieces that end before a last byte do not see it
+pub same_pieces : (text more : List ℕ) (n : ℕ) (ps : List Piece) (m : ℕ) → AreLaid n ps m → m ≤ length text + 1
     → map (piece_token (text ++ more)) ps ≡ map (piece_token text) ps
 same_pieces text more n [] m h l = refl
 same_pieces text more n (p ∷ ps) m h l =

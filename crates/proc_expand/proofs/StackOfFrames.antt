@@ -11,7 +11,7 @@ use Rattle.proc_expand.specs.declared.procedures.Procedure.{Procedure}
 use Rattle.proc_expand.specs.Words.{signs, bytes_at, those, one_if}
 use Rattle.proc_expand.specs.Refusals.{begins, procedure, is_call, call_end}
 use Rattle.proc_expand.specs.Written.{MadeToken, Written, CallWriter, all_writers, and_writer, no_writer, write_one, write_places, write_call, replaced_at, replaced_by, made_at, given_at, param_places, body_places, token_at, arguments, closed_at, in_procedure, expansion, from}
-use Rattle.proc_expand.specs.Frames.{newest_named, writer_before, names_in, writer_in, places_left, end_of, left, call_start}
+use Rattle.proc_expand.specs.steps.Frames.{newest_named, writer_before, names_in, writer_in, places_left, end_of, left, call_start}
 
 some_same : (a b : ℕ) → Some a ≡ Some b → a ≡ b
 some_same a b h = ap (get a) h

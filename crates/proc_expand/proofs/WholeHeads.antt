@@ -5,7 +5,6 @@ use Rattle.std.proofs.lemmas.List.{length-drop, drop-drop}
 use Rattle.proc_expand.specs.declared.sign.Bracket.TheVariants.{Round, Square, Curly}
 use Rattle.proc_expand.specs.declared.sign.Sign.{Sign}
 use Rattle.proc_expand.specs.declared.sign.Sign.TheVariants.{Proc, Main, Else, Kind, ItemWord, Called, Opens, Closes, Semicolon, Comma, Other}
-use Rattle.proc_expand.specs.declared.procedures.Head.{Head}
 use Rattle.proc_expand.specs.Words.{at, is_called, opens_curly}
 use Rattle.proc_expand.specs.Refusals.{head, params_from, after_params, params_of, head_from}
 use Rattle.proc_expand.proofs.Heads.{first_of}

@@ -1,12 +1,11 @@
 -- A text without refusal: its procedures are whole and apart, and its calls mean them.
 use Rattle.std.proofs.Common.{◌≡◌, ℕ, zero, suc, ◌+◌, ◌-◌, ◌*◌, ◌<◌, ◌≤◌, Bool, true, false, not, ◌&&◌, ◌||◌, List, [], ◌∷◌, length, drop, Option, Some, None, nat_eq, nat_lt, refl, sym, ap, ◌∙◌, subst, arith}
-use Rattle.std.specs.Prelude.{slice_index_or, if◌then◌else◌}
-use Rattle.std.proofs.lemmas.List.{length-map, length-drop}
+use Rattle.std.specs.Prelude.{if◌then◌else◌}
+use Rattle.std.proofs.lemmas.List.{length-map}
 use Rattle.jade_base.specs.declared.place.Pos.{Pos}
 use Rattle.jade_lexer.specs.Lexemes.{TokenAt}
-use Rattle.jade_syntax.specs.Abstract.{Name}
 use Rattle.jade_syntax.specs.Numbering.{same_name}
-use Rattle.name_scope.proofs.Kept.{same_from, same_self}
+use Rattle.name_scope.proofs.Kept.{same_from}
 use Rattle.proc_expand.specs.declared.sign.Bracket.{Bracket}
 use Rattle.proc_expand.specs.declared.sign.Bracket.TheVariants.{Curly}
 use Rattle.proc_expand.specs.declared.sign.Sign.{Sign}
@@ -18,11 +17,11 @@ use Rattle.proc_expand.specs.declared.refusal.Reason.TheVariants.{Shape, Unknown
 use Rattle.proc_expand.specs.declared.refusal.Refusal.{Refusal}
 use Rattle.proc_expand.specs.Words.{signs, sign_of, at, before, bytes_at, some, first, or_here, open_before, is_proc, is_called, is_comma, is_semicolon, is_else, is_after, ends_item, opens_curly, closing, is_closed, closes_before, fails_at, end_place}
 use Rattle.proc_expand.specs.Refusals.{begins, is_outer_main, head, body_end, proc_fails, is_call, call_end, call_fails, ends_empty, ending_fails, count, is_shape, misplaced, within, is_named, if_before, meant, is_none, is_unknown, counts_other, is_count, repeats_name, repeats_param, is_twice, reason, or_reason, first_reason, refusal}
-use Rattle.proc_expand.specs.Frames.{newest_named}
-use Rattle.proc_expand.proofs.First.{plus_one, by_case, eq_true, eq_false, eq_same, lt_true, lt_false, first_below, both_left, both_right, both_true}
+use Rattle.proc_expand.specs.steps.Frames.{newest_named}
+use Rattle.proc_expand.proofs.First.{by_case, eq_true, eq_false, eq_same, lt_true, lt_false, first_below, both_left, both_right, both_true}
 use Rattle.proc_expand.proofs.Nested.{closed_within, closed_in, closing_opens}
 use Rattle.proc_expand.proofs.Heads.{curly_is, lies_within}
-use Rattle.proc_expand.proofs.Depths.{nth, head_ok, within_brackets, closed_inside}
+use Rattle.proc_expand.proofs.Depths.{head_ok, within_brackets, closed_inside}
 use Rattle.proc_expand.proofs.WholeHeads.{nth_drop, head_up, head_long, head_named, head_opens}
 use Rattle.proc_expand.proofs.Outside.{end_up}
 

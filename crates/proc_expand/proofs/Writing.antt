@@ -2,30 +2,31 @@
 use Rattle.std.proofs.Common.{◌≡◌, ℕ, zero, suc, ◌+◌, ◌-◌, ◌*◌, ◌<◌, ◌≤◌, ◌≢◌, Bool, true, false, List, [], ◌∷◌, ◌++◌, length, drop, nat_eq, Option, Some, None, refl, sym, ap, ◌∙◌, subst, arith}
 use Rattle.std.specs.Prelude.{map, codes, not, reverse, slice_index_or, if◌then◌else◌}
 use Rattle.std.specs.List.{All, filter}
-use Rattle.std.proofs.lemmas.List.{map-append, append_assoc, append-nil, length-append, length-map, drop-drop, drop_all, reverse-append}
+use Rattle.std.proofs.lemmas.List.{append_assoc, length-append, length-map, drop-drop, drop_all, reverse-append}
 use Rattle.std.proofs.lemmas.List.Elements.{All-append}
 use Rattle.std.proofs.Math.Seq.{drop-cons, get_or-append_seam}
 use Rattle.std.proofs.Math.ListN.{get_or-append}
 use Rattle.jade_base.specs.declared.place.Pos.{Pos}
 use Rattle.jade_lexer.specs.Lexemes.{TokenAt}
 use Rattle.jade_syntax.specs.Abstract.{Name}
-use Rattle.proc_expand.specs.declared.sign.Bracket.TheVariants.{Round, Curly}
+use Rattle.proc_expand.specs.declared.sign.Bracket.TheVariants.{Round}
 use Rattle.proc_expand.specs.declared.sign.Sign.{Sign}
-use Rattle.proc_expand.specs.declared.sign.End.{End}
-use Rattle.proc_expand.specs.declared.sign.End.TheVariants.{Closed, Wrong, Never}
+use Rattle.proc_expand.specs.declared.sign.End.TheVariants.{Closed}
 use Rattle.proc_expand.specs.declared.procedures.Procedure.{Procedure}
 use Rattle.proc_expand.specs.declared.frame.Call.{Call}
 use Rattle.proc_expand.specs.declared.frame.Frame.{Frame}
 use Rattle.proc_expand.specs.declared.pen.Pen.{Pen}
 use Rattle.proc_expand.specs.declared.source.Source.{Source}
-use Rattle.proc_expand.specs.Words.{signs, sign_of, at, bytes_at, is_comma, those, next_place, after_sign, closing, closing_from, is_after, end_place}
+use Rattle.proc_expand.specs.Words.{signs, sign_of, at, bytes_at, is_comma, closing, closing_from, is_after, end_place}
+use Rattle.proc_expand.specs.steps.Brackets.{next_place, after_sign}
 use Rattle.proc_expand.specs.Names.{is_among, first_places}
-use Rattle.proc_expand.specs.Refusals.{begins, head, body_end, procedure, procedure_of, param_place, is_call, call_end, commas, count, meant, is_none, refusal}
+use Rattle.proc_expand.specs.Refusals.{begins, head, body_end, procedure, param_place, is_call, call_end, commas, count, meant, is_none, refusal}
+use Rattle.proc_expand.specs.steps.Looking.{procedure_of}
 use Rattle.proc_expand.specs.Written.{MadeToken, items, text_names, in_procedure, closed_at, replaced_at, replaced_by, names_at, param_places, body_places, is_variable, from, spans, arguments, given_at, made_at, token_at, expansion}
-use Rattle.proc_expand.specs.Frames.{newest_named, writer_before, names_in, writer_in, places_left, end_of, left, call_start}
-use Rattle.proc_expand.specs.Sheets.{spaced_out}
-use Rattle.proc_expand.specs.Pens.{written, IsPen, Wrote, IsTooLong}
-use Rattle.proc_expand.specs.Sources.{IsSource, IsOpen, IsInside, StandsIn, StandIn, commas_after, InBrackets, EndsArgument, param_token, given_one, given_from, given_all, start_tokens, IsBody, IsFrame, IsNext, IsWriting, whole, room, GoesOn, IsWholeTooLong}
+use Rattle.proc_expand.specs.steps.Frames.{newest_named, names_in, writer_in, places_left, end_of, left}
+use Rattle.proc_expand.specs.steps.Sheets.{spaced_out}
+use Rattle.proc_expand.specs.steps.Pens.{written, IsPen, Wrote, IsTooLong}
+use Rattle.proc_expand.specs.steps.Sources.{IsSource, IsOpen, IsInside, StandsIn, StandIn, commas_after, InBrackets, EndsArgument, param_token, given_one, given_from, given_all, start_tokens, IsBody, IsFrame, IsNext, IsWriting, whole, GoesOn, IsWholeTooLong}
 use Rattle.proc_expand.proofs.First.{plus_one, by_case, eq_true, eq_false}
 use Rattle.proc_expand.proofs.Nested.{closed_within, closed_in, closing_opens, step_inside}
 use Rattle.proc_expand.proofs.Heads.{comma_is}
@@ -592,7 +593,3 @@ module _ (ts : List TokenAt) (end : Pos) (s : Source) (is : IsSource ts end s) w
     ap (λ x. x ++ left ts end outer (reverse hs) 0) none ∙ ap (λ r. left ts end outer (reverse r) 0) e
         ∙ left_all ts end outer f is.outer u c,
   )
-
-  -- nothing is left
-  pub all_done : (p : Pen) (hs : List Frame) (n : ℕ) → hs ≡ [] → whole ts end outer p hs n ≡ expansion ts end → written p ≡ expansion ts end
-  all_done p hs n e h = sym (append-nil (written p)) ∙ ap (λ r. written p ++ left ts end outer (reverse r) n) (sym e) ∙ h

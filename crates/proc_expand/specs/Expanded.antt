@@ -1,17 +1,15 @@
 -- An expanded text as it is handed out: its tokens, and where each of them comes from.
-use Rattle.std.specs.Prelude.{◌≡◌, ℕ, ◌+◌, ◌&&◌, Bool, true, false, nat_eq, nat_lt, List, [], ◌∷◌, ◌++◌, map, length, Option, Some, None, Result, Ok, Err, if◌then◌else◌}
+use Rattle.std.specs.Prelude.{ℕ, ◌+◌, ◌&&◌, Bool, true, false, nat_eq, nat_lt, List, [], ◌∷◌, ◌++◌, length, Option, Some, None, Result, Ok, Err, if◌then◌else◌}
 use Rattle.jade_base.specs.declared.place.Pos.{Pos}
-use Rattle.jade_lexer.specs.Lexemes.{TokenAt, TokenList}
+use Rattle.jade_lexer.specs.Lexemes.{TokenList}
 use Rattle.proc_expand.specs.declared.refusal.Reason.{Reason}
 use Rattle.proc_expand.specs.declared.refusal.Reason.TheVariants.{Shape, Unknown, Count, Twice}
 use Rattle.proc_expand.specs.declared.refusal.Refusal.{Refusal}
-use Rattle.proc_expand.specs.declared.sheet.Piece.{Piece}
 use Rattle.proc_expand.specs.declared.error.ExpandError.{ExpandError}
 use Rattle.proc_expand.specs.declared.error.ExpandError.TheVariants.{Grown}
 use Rattle.proc_expand.specs.declared.error.ExpandError.TheVariants as error
 use Rattle.proc_expand.specs.Refusals.{refusal}
 use Rattle.proc_expand.specs.Written.{MadeToken, pos_at, spaced, expansion, expanded_text}
-use Rattle.proc_expand.specs.Sheets.{AreLaid, piece_token}
 
 -- an expanded text: its tokens in order, and where the source ends
 pub record ExpandedText : Type 0 where
@@ -53,23 +51,3 @@ origin_from end column (t ∷ ts) pos =
 -- where the token that stands at a position comes from; where none does, it is the source's end
 abbrev pub origin_of : ExpandedText → Pos → Pos
 origin_of t pos = origin_from t.end 1 t.tokens pos
-
--- the origin of the piece that begins in a column, counted from 1
-abbrev pub origin_among : Pos → (column : ℕ) → List Piece → Pos
-origin_among end column [] = end
-origin_among end column (p ∷ ps) = if nat_eq (p.start + 1) column then p.origin else origin_among end column ps
-
--- ---- how it is kept
-
-abbrev pub tokens_in : List ℕ → List Piece → List MadeToken
-tokens_in text ps = map (piece_token text) ps
-
--- where the pieces of a text end
-abbrev pub laid_to : List ℕ → List Piece → ℕ
-laid_to text [] = 0
-laid_to text (p ∷ ps) = length text
-
--- pieces follow one another, a space after each and a line feed after the last
-pub record IsExpanded (text : List ℕ) (ps : List Piece) : Type 0 where
-  pub laid : AreLaid 0 ps (laid_to text ps)
-  pub bytes : text ≡ spaced (tokens_in text ps) ++ 10 ∷ []

@@ -2,11 +2,5 @@ pub mod Words
 pub mod Names
 pub mod Refusals
 pub mod Written
-pub mod Outside
-pub mod Replaced
-pub mod Marks
-pub mod Frames
-pub mod Sheets
-pub mod Pens
-pub mod Sources
 pub mod Expanded
+pub mod steps

@@ -1,7 +1,8 @@
 -- What the tokens of a text are to procedures and calls, and where they stand. A place is the number of a token, counted from 0; the
 -- place of the end is the number of tokens.
-use Rattle.std.specs.Prelude.{◌≡◌, ℕ, zero, suc, ◌+◌, ◌-◌, ◌<◌, ◌≤◌, Bool, true, false, ◌||◌, nat_eq, nat_lt, List, [], ◌∷◌, ◌++◌, map, drop, length, codes}
+use Rattle.std.specs.Prelude.{ℕ, zero, suc, ◌+◌, ◌-◌, Bool, true, false, ◌||◌, nat_eq, nat_lt, List, [], ◌∷◌, ◌++◌, map, drop, codes}
 use Rattle.std.specs.Prelude.{Option, Some, None, slice_index_or, if◌then◌else◌}
+use Rattle.std.specs.List.{list_any}
 use Rattle.jade_lexer.specs.Lexemes.{TokenAt}
 use Rattle.jade_syntax.specs.Names.{is_name}
 use Rattle.jade_syntax.specs.Numbering.{same_name}
@@ -52,6 +53,10 @@ sign_of bytes =
 -- what the tokens of a text are
 abbrev pub signs : List TokenAt → List Sign
 signs ts = map (λ (t : TokenAt). sign_of t.bytes) ts
+
+-- a text has a token `proc`
+abbrev pub has_proc : List TokenAt → Bool
+has_proc ts = list_any (λ (t : TokenAt). same_name t.bytes (codes "proc")) ts
 
 abbrev pub is_proc : Sign → Bool
 is_proc Proc = true
@@ -143,11 +148,6 @@ abbrev pub those : (n : ℕ) → (ℕ → Bool) → List ℕ
 those zero is = []
 those (suc k) is = those k is ++ one_if (is k) k
 
--- which of the places before n have it
-abbrev pub tests : (n : ℕ) → (ℕ → Bool) → List Bool
-tests zero is = []
-tests (suc k) is = tests k is ++ is k ∷ []
-
 -- a place before n has it
 abbrev pub some : (n : ℕ) → (ℕ → Bool) → Bool
 some zero is = false
@@ -162,12 +162,6 @@ or_here None false k = None
 abbrev pub first : (n : ℕ) → (ℕ → Bool) → Option ℕ
 first zero is = None
 first (suc k) is = or_here (first k is) (is k) k
-
--- the first of two places that may be there
-abbrev pub earliest : Option ℕ → Option ℕ → Option ℕ
-earliest None b = b
-earliest (Some j) None = Some j
-earliest (Some j) (Some k) = Some (if nat_lt k j then k else j)
 
 -- ---- brackets
 
@@ -228,32 +222,3 @@ abbrev pub end_place : ℕ → End → ℕ
 end_place n (Closed j) = j
 end_place n (Wrong j) = j
 end_place n Never = n
-
-abbrev pub opens : Sign → Bool
-opens (Opens b) = true
-opens _ = false
-
--- the place after the brackets that are closed so
-abbrev pub after_end : End → Option ℕ
-after_end (Closed j) = Some (j + 1)
-after_end (Wrong j) = None
-after_end Never = None
-
--- the place after a sign, or after the brackets that it opens, if these are closed; there is none after a closing bracket
-abbrev pub after_sign : Sign → ℕ → End → Option ℕ
-after_sign (Opens b) k e = after_end e
-after_sign (Closes b) k e = None
-after_sign _ k e = Some (k + 1)
-
-abbrev pub next_place : List Sign → ℕ → Option ℕ
-next_place ss k = after_sign (at ss k) k (closing ss k)
-
--- what is known of the brackets that open at a place or after it: where each is closed
-pub record AreEndsFrom (ss : List Sign) (es : List End) (n : ℕ) : Type 0 where
-  pub as_many : length es ≡ length ss
-  pub closed : (k : ℕ) → n ≤ k → k < length ss → opens (at ss k) ≡ true → slice_index_or es k Never ≡ closing ss k
-
--- such an end lies within a text of n signs
-pub record EndsWithin (n : ℕ) (e : End) : Type 0 where
-  pub closed : (j : ℕ) → e ≡ Closed j → j < n
-  pub wrong : (j : ℕ) → e ≡ Wrong j → j < n

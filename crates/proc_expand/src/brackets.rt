@@ -1,7 +1,8 @@
 //! Where brackets are closed.
 
-ghost use Rattle.std.specs.Prelude.{◌≡◌, ◌<◌, ◌≤◌, ◌+◌, ◌∷◌, [], length, drop, None, IfOk};
-ghost use Rattle.proc_expand.specs.Words.{at, closing, next_place, closing_from, AreEndsFrom};
+ghost use Rattle.std.specs.Prelude.{◌≡◌, ◌<◌, ◌+◌, ◌∷◌, [], length, drop, None, IfOk};
+ghost use Rattle.proc_expand.specs.Words.{at, closing, closing_from};
+ghost use Rattle.proc_expand.specs.steps.Brackets.{next_place, AreEndsFrom};
 ghost use Rattle.proc_expand.specs.declared.sign.Sign.TheVariants.{Opens};
 
 use crate::sign::{Bracket, End, Sign, same_bracket};

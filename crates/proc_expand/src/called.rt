@@ -2,7 +2,8 @@
 
 ghost use Rattle.std.specs.Prelude.{◌≡◌, ◌<◌, length, suc};
 ghost use Rattle.proc_expand.specs.Words.{first};
-ghost use Rattle.proc_expand.specs.Refusals.{is_unknown, is_count, is_other, IsScan, Knows};
+ghost use Rattle.proc_expand.specs.Refusals.{is_unknown, is_count};
+ghost use Rattle.proc_expand.specs.steps.Looking.{is_other, IsScan, Knows};
 
 use crate::calls::{call_end, count, is_call};
 use crate::known::meant;

@@ -1,9 +1,10 @@
 //! The calls of a text.
 
 ghost use Rattle.std.specs.Prelude.{◌≡◌, ◌+◌, ◌<◌, ◌≤◌, ◌&&◌, ◌||◌, suc, length, not, true, nat_eq, nat_lt, Some, if◌then◌else◌};
-ghost use Rattle.std.specs.List.{list_any};
 ghost use Rattle.proc_expand.specs.Words.{at, before, is_comma, is_semicolon, is_else, first, some};
-ghost use Rattle.proc_expand.specs.Words.{earliest, end_place, AreEndsFrom, EndsWithin};
+ghost use Rattle.proc_expand.specs.Words.{end_place};
+ghost use Rattle.proc_expand.specs.steps.Brackets.{AreEndsFrom, EndsWithin};
+ghost use Rattle.proc_expand.specs.steps.Looking.{earliest};
 ghost use Rattle.proc_expand.specs.Refusals.{is_call, call_end, commas, count, misplaced, within, ends_empty};
 ghost use Rattle.proc_expand.specs.Refusals.{ending_fails, call_fails};
 ghost use Rattle.proc_expand.specs.declared.sign.End.TheVariants.{Closed};

@@ -1,9 +1,9 @@
 //! Names that a text does not have.
 
-ghost use Rattle.std.specs.Prelude.{◌≡◌, ◌+◌, ◌*◌, ◌^◌, ◌<◌, ◌≤◌, ◌&&◌, length, drop, nat_lt, IfOk, OnOk};
+ghost use Rattle.std.specs.Prelude.{◌≡◌, ◌+◌, ◌*◌, ◌^◌, ◌<◌, ◌&&◌, length, drop, nat_lt, IfOk, OnOk};
 ghost use Rattle.proc_expand.specs.Names.{is_among};
 ghost use Rattle.proc_expand.specs.Written.{numbered_name, next_free as next_from, free_number as number_free};
-ghost use Rattle.proc_expand.specs.Replaced.{names_of, AreFree};
+ghost use Rattle.proc_expand.specs.steps.Replaced.{names_of, AreFree};
 
 use crate::naming::is_item;
 use itoa::write_digits;

@@ -2,7 +2,8 @@
 
 ghost use Rattle.std.specs.Prelude.{◌≡◌, ◌+◌, ◌<◌, length, Some, None, if◌then◌else◌, IfOk, OnOk};
 ghost use Rattle.proc_expand.specs.Words.{signs, closes_before};
-ghost use Rattle.proc_expand.specs.Refusals.{meant, procedure_of, IsScan, Knows};
+ghost use Rattle.proc_expand.specs.Refusals.{meant};
+ghost use Rattle.proc_expand.specs.steps.Looking.{procedure_of, IsScan, Knows};
 
 use crate::procedures::{Procedure, procedure_at};
 use crate::scan::{Scan, has_name};

@@ -1,4 +1,5 @@
-//! Procedures: what refuses a text with them, and on the way to the text without them the names that it has.
+//! Procedures: what refuses a text with them, and the text without them, each token with the place from
+//! which it comes.
 //!
 //! Floor `text`, over `jade_alphabet`, `jade_base`, `jade_lexer`, `jade_list`, `jade_syntax` and
 //! `name_scope`, with `itoa` of the kit.
@@ -7,7 +8,8 @@
 mod brackets;
 mod called;
 mod calls;
-pub mod error;
+mod error;
+mod expanding;
 mod frame;
 mod fresh;
 mod known;
@@ -25,3 +27,7 @@ mod source;
 #[cfg(test)]
 mod tests;
 mod twice;
+mod write;
+
+pub use error::ExpandError;
+pub use expanding::{Expanded, expand, has_proc};

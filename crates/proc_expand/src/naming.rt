@@ -6,7 +6,7 @@ ghost use Rattle.proc_expand.specs.Names.{is_among};
 ghost use Rattle.proc_expand.specs.Words.{at, bytes_at, is_called, is_item_word, those, one_if, signs as signs_of};
 ghost use Rattle.proc_expand.specs.Refusals.{param_place, is_call};
 ghost use Rattle.proc_expand.specs.Written.{items, text_names, is_variable, names_at, from, in_procedure};
-ghost use Rattle.proc_expand.specs.Replaced.{names_of, with_name, with_names, number_among, AreNumbered, IsNumber, IsMark};
+ghost use Rattle.proc_expand.specs.steps.Replaced.{names_of, with_name, with_names, AreNumbered, IsNumber, IsMark};
 
 use crate::calls::is_call;
 use crate::sign::{Sign, bytes_at, is_called, sign_at};

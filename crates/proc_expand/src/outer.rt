@@ -2,9 +2,9 @@
 
 ghost use Rattle.std.specs.Prelude.{◌≡◌, ◌+◌, ◌++◌, ◌<◌, length, nat_lt, not, IfOk, OnOk};
 ghost use Rattle.proc_expand.specs.Words.{those, one_if};
-ghost use Rattle.proc_expand.specs.Refusals.{IsScan};
+ghost use Rattle.proc_expand.specs.steps.Looking.{IsScan};
 ghost use Rattle.proc_expand.specs.Written.{in_procedure};
-ghost use Rattle.proc_expand.specs.Outside.{Reaches};
+ghost use Rattle.proc_expand.specs.steps.Outside.{Reaches};
 
 use crate::calls::end_place;
 use crate::procedures::procedure_at;

@@ -1,7 +1,7 @@
 //! Places of a text, of which the first is looked for.
 
 ghost use Rattle.std.specs.Prelude.{◌≡◌, if◌then◌else◌, Some};
-ghost use Rattle.proc_expand.specs.Words.{earliest};
+ghost use Rattle.proc_expand.specs.steps.Looking.{earliest};
 
 /// The first of two places that may be there.
 pub(crate) fn earliest(first: Option<usize>, second: Option<usize>) -> Option<usize>

@@ -1,10 +1,11 @@
 //! The procedures of a text.
 
-ghost use Rattle.std.specs.Prelude.{◌≡◌, ◌+◌, ◌*◌, ◌^◌, ◌<◌, ◌≤◌, ◌&&◌, ◌||◌, ◌++◌, drop, length, suc, true, false, not, nat_eq};
+ghost use Rattle.std.specs.Prelude.{◌≡◌, ◌+◌, ◌*◌, ◌^◌, ◌<◌, ◌≤◌, ◌&&◌, ◌||◌, drop, length, suc, true, false, not, nat_eq};
 ghost use Rattle.std.specs.Prelude.{IfOk};
 ghost use Rattle.proc_expand.specs.Words.{is_called, is_kind, is_comma, opens_curly, closes_round, at, before};
-ghost use Rattle.proc_expand.specs.Words.{is_proc, is_main, ends_item, open_after, tests, closing, first, some, fails_at};
-ghost use Rattle.proc_expand.specs.Words.{AreEndsFrom, EndsWithin};
+ghost use Rattle.proc_expand.specs.Words.{is_proc, is_main, ends_item, open_after, closing, first, some, fails_at};
+ghost use Rattle.proc_expand.specs.steps.Looking.{tests};
+ghost use Rattle.proc_expand.specs.steps.Brackets.{AreEndsFrom, EndsWithin};
 ghost use Rattle.proc_expand.specs.Refusals.{begins, begins as begins_at, proc_fails, head, procedure, misfit, with_params, after_params, params_from};
 
 use crate::places::earliest;

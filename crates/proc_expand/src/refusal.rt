@@ -2,14 +2,14 @@
 
 ghost use Rattle.std.specs.Prelude.{◌≡◌, length, suc, IfOk};
 ghost use Rattle.proc_expand.specs.Words.{signs, first};
-ghost use Rattle.proc_expand.specs.Refusals.{is_shape, refused, earlier, refusal, IsScan, Knows};
+ghost use Rattle.proc_expand.specs.Refusals.{is_shape, refusal};
+ghost use Rattle.proc_expand.specs.steps.Looking.{refused, earlier, IsScan, Knows};
 
 use crate::called::{first_count, first_unknown};
 use crate::calls::{first_misplaced, first_within};
-use crate::known::procedures_by_name;
 use crate::places::earliest;
 use crate::procedures::Procedure;
-use crate::scan::{Scan, scan_of};
+use crate::scan::Scan;
 use crate::twice::first_twice;
 use crate::{calls, procedures};
 use jade_base::Memory;
@@ -39,15 +39,6 @@ pub struct Refusal {
 
 /// The first refusal of the procedures and calls of a text, if there is one: the first place with a
 /// reason, and there the first reason.
-pub fn refusal_of(alloc: Global, tokens: &Tokens<'_>) -> Result<Option<Refusal>, Memory>
-    ensures { IfOk result (λ found. found ≡ refusal tokens.now.lexemes) }
-{
-    let scan = scan_of(alloc, tokens)?;
-    let known = procedures_by_name(alloc, tokens, &scan)?;
-    first_refusal(alloc, tokens, &scan, &known)
-}
-
-/// The first refusal, where a text was looked at and its procedures are known.
 #[tactic(auto, using(crate::proofs::Joined::joined))]
 pub(crate) fn first_refusal(
     alloc: Global,

@@ -2,7 +2,8 @@
 
 ghost use Rattle.std.specs.Prelude.{◌≡◌, ◌+◌, ◌<◌, ◌&&◌, length, IfOk};
 ghost use Rattle.proc_expand.specs.Words.{signs, at, is_called};
-ghost use Rattle.proc_expand.specs.Refusals.{begins, IsScan};
+ghost use Rattle.proc_expand.specs.Refusals.{begins};
+ghost use Rattle.proc_expand.specs.steps.Looking.{IsScan};
 
 use crate::brackets::ends;
 use crate::procedures::beginnings;

@@ -1,8 +1,7 @@
 //! Text that is written token by token.
 
-ghost use Rattle.std.specs.Prelude.{◌≡◌, ◌++◌, ◌∷◌, ◌<◌, [], length, OnOk, OnErr, Err, IfErr};
-ghost use Rattle.proc_expand.specs.Sheets.{tokens_of, spaced_out, IsSheet};
-ghost use Rattle.proc_expand.specs.Written.{MadeToken};
+ghost use Rattle.std.specs.Prelude.{◌≡◌, ◌++◌, ◌∷◌, ◌<◌, [], length, OnOk, Err};
+ghost use Rattle.proc_expand.specs.steps.Sheets.{tokens_of, spaced_out, IsSheet};
 ghost use Rattle.proc_expand.specs.declared.sheet.Stop.TheVariants.{Grown, Memory};
 
 use jade_base::Pos;

@@ -1,6 +1,6 @@
 //! What tokens are to procedures and calls.
 
-ghost use Rattle.std.specs.Prelude.{◌≡◌, ◌∷◌, take, IfOk};
+ghost use Rattle.std.specs.Prelude.{◌≡◌, IfOk};
 ghost use Rattle.proc_expand.specs.Words.{sign_of, word_of, signs, at, before, bytes_at, is_proc, is_main, is_else};
 ghost use Rattle.proc_expand.specs.Words.{is_kind, is_semicolon, is_comma, is_called, opens_round};
 ghost use Rattle.proc_expand.specs.Words.{ends_statement, ends_item, same_bracket};

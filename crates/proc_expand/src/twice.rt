@@ -5,7 +5,8 @@ ghost use Rattle.std.specs.Map.{lookup};
 ghost use Rattle.std.specs.Option.{is_some};
 ghost use Rattle.jade_syntax.specs.Numbering.{same_name};
 ghost use Rattle.proc_expand.specs.Words.{signs, first};
-ghost use Rattle.proc_expand.specs.Refusals.{begins, head, repeats_name, repeats_param, is_twice, IsScan, Knows};
+ghost use Rattle.proc_expand.specs.Refusals.{begins, head, repeats_name, repeats_param, is_twice};
+ghost use Rattle.proc_expand.specs.steps.Looking.{IsScan, Knows};
 
 use crate::places::earliest;
 use crate::procedures::{Head, Procedure, read_head};

@@ -28,6 +28,12 @@ mod PiecesInText
 mod WrittenTree
 mod WrittenNames
 mod WrittenMeaning
+mod MovedRuns
+mod MovedAnswers
+mod WrittenAnswers
+mod AnswerExamples
 mod ProperTree
 mod TextRead
+mod AllTokens
+mod TextPlaces
 mod ProgramTokens

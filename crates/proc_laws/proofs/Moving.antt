@@ -57,7 +57,7 @@ module _ (f : Pos → Pos) where
       let here : Range = record { first = o; count = amount count.value; size = amount size.value } in
       ap (λ u. if same_name x y then here else u) (range_moved its (o + amount count.value) x)
 
-  sizes_moved : (its : List Item) → sizes (map (moved_item f) its) ≡ sizes its
+  pub sizes_moved : (its : List Item) → sizes (map (moved_item f) its) ≡ sizes its
   sizes_moved [] = refl
   sizes_moved (Input y at ∷ its) = sizes_moved its
   sizes_moved (Single y at size ∷ its) = ap (λ u. amount size.value ∷ u) (sizes_moved its)

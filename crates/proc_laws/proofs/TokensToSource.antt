@@ -10,6 +10,7 @@ use Rattle.jade_syntax.specs.Abstract as plain
 use Rattle.jade_syntax.specs.Abstract.{Name, Expression, AbstractProgram}
 use Rattle.jade_syntax.specs.Erased.{erased, erased_links, erased_object, erased_mention, erased_phrase, erased_phrases, erased_program}
 use Rattle.jade_syntax.specs.Image.{program}
+use Rattle.jade_syntax.specs.Objects.{sizes}
 use Rattle.jade_syntax.specs.Placed.{Term, Whole, Truth, Variable, Group, Signed, Chain, Cell, Links, Last, Link, Object, Alone, Member, Mention}
 use Rattle.jade_syntax.specs.Placed.{Phrase, Local, Assign, Store, If, IfElse, For, Withonly, With, Declare, Phrases, Done, Then, PlacedProgram}
 use Rattle.jade_syntax.specs.PlacedImage.{placed_program}
@@ -28,6 +29,7 @@ use Rattle.proc_laws.specs.Moved.{moved_course, moved_expression, moved_links, m
 use Rattle.proc_laws.specs.SourceMeaning.{source_course}
 use Rattle.proc_laws.specs.SourceTree.{SourceText, source_of}
 use Rattle.proc_laws.proofs.Accepted.{accepted_same}
+use Rattle.proc_laws.proofs.Moving.{sizes_moved}
 use Rattle.proc_laws.proofs.TreeImages.{expanded_seen}
 
 -- ---- places are replaced with all of them there, or with those that a meaning needs
@@ -95,6 +97,13 @@ module _ (whole : (p : Program) → erased_program (placed_program p) ≡ progra
       sym (program_moves origin (placed_program p)) ∙ ap erased_program (sym (program_seen origin p))
       ∙ ap erased_program (one (tokens_moved origin after) (tree_moved origin p) (expanded_tree fresh q) (reading_moves origin after p read) made)
       ∙ whole (expanded_tree fresh q) ∙ expanded_seen whole fresh q
+
+  -- its objects are those of the source
+  pub sizes_same : (origin : Pos → Pos) (fresh : ℕ → Name) (q : SourceText) (after : TokenList)
+      → IsReading (tokens_moved origin after) (expanded_tree fresh q) → (p : Program) → IsReading after p
+      → sizes (program p).items ≡ sizes (source_of q).items
+  sizes_same origin fresh q after made p read =
+      sym (sizes_moved origin p.items) ∙ ap (λ (r : AbstractProgram). sizes r.items) (tree_same origin fresh q after made p read)
 
   pub tokens_do : (origin : Pos → Pos) (names : List Name) (q : SourceText)
       → ((x : Name) → is_among (map item_name (source_of q).items) x ≡ true → is_among names x ≡ true)

@@ -22,6 +22,7 @@ use Rattle.jade_parser.specs.Kinds.{token_bytes, sign_bytes}
 use Rattle.jade_parser.specs.Programs.{program_parts}
 use Rattle.jade_parser.specs.Grammar.{IsReading, bytes_of, texts, positions}
 use Rattle.jade_meaning.specs.Course.{root_course}
+use Rattle.proc_expand.specs.Expanded.{origin_of}
 use Rattle.proc_expand.specs.Refusals.{refusal}
 use Rattle.proc_expand.specs.Written.{MadeToken, text_names, fresh_name, expansion, expanded_text}
 use Rattle.replaced_trees.specs.MovedTree.{token_moved, tokens_moved}
@@ -33,6 +34,7 @@ use Rattle.proc_laws.specs.SourceReading.{IsSourceReading, made_token, expanded_
 use Rattle.proc_laws.proofs.TokensToSource.{tokens_do}
 use Rattle.jade_lexer.specs.Reading.{reading, Whole}
 use Rattle.proc_laws.proofs.TextRead.{text_read}
+use Rattle.proc_laws.proofs.TextPlaces.{places_come}
 use Rattle.proc_laws.proofs.WrittenTree.{written_reads, all_tokens}
 use Rattle.proc_laws.proofs.WrittenNames.{items_listed, main_listed}
 
@@ -89,6 +91,16 @@ read_alike : (a b : TokenList) (p : Program) → texts a ≡ texts b → positio
 read_alike a b p e f r =
     record { spelled = r.spelled ∙ e; placed = subst (λ (ps : List Pos). Agrees ps 0 (program_parts p)) f r.placed; sound = r.sound; short = r.short }
 
+-- what reads as a program, each token at its origin, reads as the expanded tree
+pub there_reads : (origin : Pos → Pos) (l : TokenList) (q : SourceText) → IsSourceReading l q → refusal l.lexemes ≡ None
+    → (there : TokenList) → texts there ≡ texts (expanded_tokens l) → map origin (positions there) ≡ positions (expanded_tokens l)
+    → (p : Program) → IsReading there p → IsReading (tokens_moved origin there) (expanded_tree (fresh_name (text_names l.lexemes l.end)) q)
+there_reads origin l q r none_refused there e f p read =
+    read_alike (expanded_tokens l) (tokens_moved origin there) (expanded_tree (fresh_name (text_names l.lexemes l.end)) q)
+    (sym e ∙ texts_stay origin there.lexemes) (sym f ∙ places_move origin there.lexemes)
+    (written_reads l q r none_refused
+    (record { each = are_short (expansion l.lexemes l.end) (program_parts p) (read.spelled ∙ e) read.sound.valid.is }))
+
 module _ (whole : (p : Program) → erased_program (placed_program p) ≡ program p)
     (one : (tokens : TokenList) (p q : Program) → IsReading tokens p → IsReading tokens q → placed_program p ≡ placed_program q) where
   pub written_does : (origin : Pos → Pos) (l : TokenList) (q : SourceText) → IsSourceReading l q → refusal l.lexemes ≡ None
@@ -97,16 +109,15 @@ module _ (whole : (p : Program) → erased_program (placed_program p) ≡ progra
       → moved_course origin (root_course (program p) ns limit) ≡ source_course (source_of q) ns limit
   written_does origin l q r none_refused there e f p read faultless ns limit =
       tokens_do whole one origin (text_names l.lexemes l.end) q (items_listed l q r none_refused) (main_listed l q r none_refused) there
-      (read_alike (expanded_tokens l) (tokens_moved origin there) (expanded_tree (fresh_name (text_names l.lexemes l.end)) q)
-      (sym e ∙ texts_stay origin there.lexemes) (sym f ∙ places_move origin there.lexemes)
-      (written_reads l q r none_refused
-      (record { each = are_short (expansion l.lexemes l.end) (program_parts p) (read.spelled ∙ e) read.sound.valid.is })))
-      p read faultless ns limit
+      (there_reads origin l q r none_refused there e f p read) p read faultless ns limit
 
   -- the text that is written, where it reads as tokens
-  pub text_does : (origin : Pos → Pos) (l : TokenList) (q : SourceText) → IsSourceReading l q → refusal l.lexemes ≡ None
-      → (there : TokenList) → reading (expanded_text l) ≡ Whole there → map origin (positions there) ≡ positions (expanded_tokens l)
+  pub text_does : (l : TokenList) (q : SourceText) → IsSourceReading l q → refusal l.lexemes ≡ None
+      → (there : TokenList) → reading (expanded_text l) ≡ Whole there
       → (p : Program) → IsReading there p → static_faults (placed_program p) ≡ [] → (ns : List ℤ) (limit : ℕ)
-      → moved_course origin (root_course (program p) ns limit) ≡ source_course (source_of q) ns limit
-  text_does origin l q r none_refused there e f p read faultless ns limit =
-      written_does origin l q r none_refused there (text_read l there (all_tokens l q r none_refused) e) f p read faultless ns limit
+      → moved_course (origin_of (record { tokens = expansion l.lexemes l.end; end = l.end })) (root_course (program p) ns limit)
+      ≡ source_course (source_of q) ns limit
+  text_does l q r none_refused there e p read faultless ns limit =
+      let h = all_tokens l q r none_refused in
+      written_does (origin_of (record { tokens = expansion l.lexemes l.end; end = l.end })) l q r none_refused there (text_read l there h e) (places_come l there h e)
+      p read faultless ns limit

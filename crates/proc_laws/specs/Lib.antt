@@ -1,5 +1,6 @@
 pub mod Source
 pub mod SourceMeaning
+pub mod SourceAnswer
 pub mod Expansion
 pub mod Moved
 pub mod SourceTree

@@ -11,9 +11,10 @@ ghost use Rattle.replaced_trees.specs.MovedTree.{tokens_moved};
 ghost use Rattle.jade_syntax.specs.Erased.{erased_program};
 ghost use Rattle.jade_syntax.specs.Placed.{PlacedProgram};
 ghost use Rattle.jade_syntax.specs.StaticFaults.{static_faults};
-ghost use Rattle.proc_laws.specs.Moved.{moved_course, moved_program};
+ghost use Rattle.proc_laws.specs.Moved.{moved_answer, moved_course, moved_program};
 ghost use Rattle.proc_expand.specs.Refusals.{refusal};
-ghost use Rattle.proc_expand.specs.Written.{expanded_text, fresh_name, text_names};
+ghost use Rattle.proc_expand.specs.Expanded.{origin_of};
+ghost use Rattle.proc_expand.specs.Written.{expanded_text, expansion, fresh_name, text_names};
 ghost use Rattle.jade_meaning.specs.Course.{root_course};
 ghost use Rattle.jade_syntax.specs.Abstract.{Name};
 ghost use Rattle.proc_laws.specs.Source.{SourceProgram};
@@ -21,11 +22,15 @@ ghost use Rattle.proc_laws.specs.SourceTree.{SourceText, source_of};
 ghost use Rattle.proc_laws.specs.ExpandedTree.{expanded_tree};
 ghost use Rattle.proc_laws.specs.SourceReading.{IsSourceReading, AreWords, expanded_tokens};
 ghost use Rattle.jade_syntax.specs.Image.{program};
+ghost use Rattle.jade_meaning.specs.Answer.{answer};
+ghost use Rattle.jade_meaning.specs.Serial.{Path};
 ghost use Rattle.proc_laws.specs.SourceMeaning.{source_course};
+ghost use Rattle.proc_laws.specs.SourceAnswer.{source_answer};
 ghost use Rattle.proc_laws.specs.Expansion.{AreFresh, Each, block_names, expanded_program, sets_all, item_name};
 ghost use Rattle.proc_expand.specs.Names.{is_among};
 
 use erased_places::laws::erased_is_program;
+use jade_lexer::laws::reading_is_cut;
 use jade_reading::laws::one_tree;
 
 /// A law of programs with procedures, which does nothing: where the expanded program declares, hands
@@ -98,15 +103,58 @@ pub fn written_does_as_its_source()
     one_tree();
 }
 
-/// A law of programs with procedures, which does nothing: where tokens read as a source and are not
-/// refused, then any program without static faults that the text that is written for them reads as
-/// does what the source does, with its faults at their origins.
+/// A law of programs with procedures, which does nothing. Let the text that is written for the tokens
+/// of a text read as tokens. Where each of these stands, the origin that is told is that of the token
+/// that was written there; where they end, it is where the source ends.
+pub fn places_come_from_origins()
+    ensures tokens { (text : List ℕ) → (l : TokenList) → reading text ≡ Whole l → (there : TokenList) → reading (expanded_text l) ≡ Whole there
+        → map (origin_of (record { tokens = expansion l.lexemes l.end; end = l.end })) (positions there) ≡ positions (expanded_tokens l) }
+    ensures end { (l there : TokenList) → reading (expanded_text l) ≡ Whole there
+        → origin_of (record { tokens = expansion l.lexemes l.end; end = l.end }) there.end ≡ l.end }
+{
+    reading_is_cut();
+}
+
+/// A law of programs with procedures, which does nothing. Let tokens read as a source and not be
+/// refused. If the text that is written for them reads as a program without static faults, then that
+/// program does what the source does, with its faults at their origins.
 pub fn text_does_as_its_source()
-    ensures { (origin : Pos → Pos) → (l : TokenList) → (q : SourceText) → IsSourceReading l q → refusal l.lexemes ≡ None
-        → (there : TokenList) → reading (expanded_text l) ≡ Whole there → map origin (positions there) ≡ positions (expanded_tokens l)
+    ensures { (l : TokenList) → (q : SourceText) → IsSourceReading l q → refusal l.lexemes ≡ None
+        → (there : TokenList) → reading (expanded_text l) ≡ Whole there
         → (p : Program) → IsReading there p → static_faults (placed_program p) ≡ []
         → (numbers : List ℤ) → (limit : ℕ)
-        → moved_course origin (root_course (program p) numbers limit) ≡ source_course (source_of q) numbers limit }
+        → moved_course (origin_of (record { tokens = expansion l.lexemes l.end; end = l.end })) (root_course (program p) numbers limit)
+        ≡ source_course (source_of q) numbers limit }
+{
+    erased_is_program();
+    one_tree();
+}
+
+/// A law of programs with procedures, which does nothing. Let tokens read as a source and not be
+/// refused. If the tokens that are written for them, wherever these stand, read as a program without
+/// static faults, then that program answers by turn lists what the source answers by them, with its
+/// fault at its origin.
+pub fn answers_as_its_source()
+    ensures { (origin : Pos → Pos) → (l : TokenList) → (q : SourceText) → IsSourceReading l q → refusal l.lexemes ≡ None
+        → (there : TokenList) → texts there ≡ texts (expanded_tokens l) → map origin (positions there) ≡ positions (expanded_tokens l)
+        → (p : Program) → IsReading there p → static_faults (placed_program p) ≡ []
+        → (numbers : List ℤ) → (limit : ℕ) → (turns : ℕ → List Path)
+        → moved_answer origin (answer (program p) numbers limit turns) ≡ source_answer (source_of q) numbers limit turns }
+{
+    erased_is_program();
+    one_tree();
+}
+
+/// A law of programs with procedures, which does nothing. Let tokens read as a source and not be
+/// refused. If the text that is written for them reads as a program without static faults, then that
+/// program answers by turn lists what the source answers by them, with its fault at its origin.
+pub fn text_answers_as_its_source()
+    ensures { (l : TokenList) → (q : SourceText) → IsSourceReading l q → refusal l.lexemes ≡ None
+        → (there : TokenList) → reading (expanded_text l) ≡ Whole there
+        → (p : Program) → IsReading there p → static_faults (placed_program p) ≡ []
+        → (numbers : List ℤ) → (limit : ℕ) → (turns : ℕ → List Path)
+        → moved_answer (origin_of (record { tokens = expansion l.lexemes l.end; end = l.end })) (answer (program p) numbers limit turns)
+        ≡ source_answer (source_of q) numbers limit turns }
 {
     erased_is_program();
     one_tree();

@@ -1,5 +1,5 @@
 use Rattle.std.proofs.Common.{◌≤◌, length}
-use Rattle.proc_expand.specs.Words.{AreEndsFrom}
+use Rattle.proc_expand.specs.steps.Brackets.{AreEndsFrom}
 use Rattle.proc_expand.proofs.brackets.ends.Given as goal
 
 abbrev pub invariant-opening : goal.invariant-opening

@@ -1,5 +1,6 @@
 use Rattle.std.proofs.Common.{◌+◌, ◌&&◌, suc, length, nat_eq, ap, sym, ◌∙◌}
-use Rattle.proc_expand.specs.Words.{first, earliest, is_comma, before}
+use Rattle.proc_expand.specs.Words.{first, is_comma, before}
+use Rattle.proc_expand.specs.steps.Looking.{earliest}
 use Rattle.proc_expand.specs.Refusals.{ending_fails}
 use Rattle.proc_expand.proofs.CallFacts.{closed_failure, wrong_failure, never_failure}
 use Rattle.proc_expand.proofs.calls.ending_failure.Goals as goal

@@ -1,5 +1,6 @@
 use Rattle.std.proofs.Common.{suc, length, ap, sym, ◌∙◌}
-use Rattle.proc_expand.specs.Words.{first, earliest}
+use Rattle.proc_expand.specs.Words.{first}
+use Rattle.proc_expand.specs.steps.Looking.{earliest}
 use Rattle.proc_expand.specs.Refusals.{ends_empty, ending_fails}
 use Rattle.proc_expand.proofs.CallFacts.{call_failure, no_failure}
 use Rattle.proc_expand.proofs.calls.failure_at.Goals as goal

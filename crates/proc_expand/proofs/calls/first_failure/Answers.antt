@@ -1,6 +1,7 @@
 use Rattle.std.proofs.Common.{◌&&◌, suc, length, ap, sym, refl, ◌∙◌, arith}
 use Rattle.std.proofs.Common.{◌≡◌}
-use Rattle.proc_expand.specs.Words.{first, some, earliest}
+use Rattle.proc_expand.specs.Words.{first, some}
+use Rattle.proc_expand.specs.steps.Looking.{earliest}
 use Rattle.proc_expand.specs.Refusals.{is_call, call_fails}
 use Rattle.proc_expand.proofs.First.{first_none, first_some}
 use Rattle.proc_expand.proofs.calls.first_failure.Goals as goal

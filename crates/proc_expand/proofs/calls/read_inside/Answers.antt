@@ -1,6 +1,7 @@
 use Rattle.std.proofs.Common.{◌≡◌, ◌+◌, ◌&&◌, length, Some, refl, ap, sym, ◌∙◌, arith}
 use Rattle.std.specs.Prelude.{if◌then◌else◌}
-use Rattle.proc_expand.specs.Words.{earliest, is_comma, at}
+use Rattle.proc_expand.specs.Words.{is_comma, at}
+use Rattle.proc_expand.specs.steps.Looking.{earliest}
 use Rattle.proc_expand.specs.Refusals.{commas}
 use Rattle.proc_expand.proofs.First.{earliest_none}
 use Rattle.proc_expand.proofs.Nested.{next_later}

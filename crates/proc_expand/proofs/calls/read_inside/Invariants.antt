@@ -1,5 +1,6 @@
 use Rattle.std.proofs.Common.{◌≡◌, ◌+◌, ◌-◌, ◌≤◌, length, suc}
-use Rattle.proc_expand.specs.Words.{first, earliest}
+use Rattle.proc_expand.specs.Words.{first}
+use Rattle.proc_expand.specs.steps.Looking.{earliest}
 use Rattle.proc_expand.specs.Refusals.{commas, ends_empty}
 use Rattle.proc_expand.proofs.CallFacts.{rest, empties}
 use Rattle.proc_expand.proofs.calls.read_inside.Given as goal

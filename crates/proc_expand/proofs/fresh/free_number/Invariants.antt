@@ -1,5 +1,5 @@
 use Rattle.std.proofs.Common.{◌-◌, length, suc}
-use Rattle.proc_expand.specs.Replaced.{names_of, AreFree}
+use Rattle.proc_expand.specs.steps.Replaced.{names_of, AreFree}
 use Rattle.proc_expand.proofs.fresh.free_number.Given as goal
 
 abbrev pub invariant-growing : goal.invariant-growing

@@ -1,6 +1,6 @@
 use Rattle.std.proofs.Common.{ap, sym, ◌∙◌, arith}
 use Rattle.proc_expand.specs.Written.{next_free}
-use Rattle.proc_expand.specs.Replaced.{names_of}
+use Rattle.proc_expand.specs.steps.Replaced.{names_of}
 use Rattle.proc_expand.proofs.NameLists.{names_count}
 use Rattle.proc_expand.proofs.fresh.next_free.Goals as goal
 

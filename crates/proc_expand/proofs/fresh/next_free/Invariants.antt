@@ -1,6 +1,6 @@
 use Rattle.std.proofs.Common.{◌≡◌, ◌+◌, length}
 use Rattle.proc_expand.specs.Written.{next_free}
-use Rattle.proc_expand.specs.Replaced.{names_of}
+use Rattle.proc_expand.specs.steps.Replaced.{names_of}
 use Rattle.proc_expand.proofs.fresh.next_free.Given as goal
 
 abbrev pub invariant-trying : goal.invariant-trying

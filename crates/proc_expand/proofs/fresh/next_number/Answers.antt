@@ -1,5 +1,5 @@
 use Rattle.std.proofs.Common.{◌≡◌, ◌-◌, suc, length, sym, arith}
-use Rattle.proc_expand.specs.Replaced.{names_of}
+use Rattle.proc_expand.specs.steps.Replaced.{names_of}
 use Rattle.proc_expand.proofs.NameLists.{names_count}
 use Rattle.proc_expand.proofs.FreeNumbers.{free_fits}
 use Rattle.proc_expand.proofs.fresh.next_number.Goals as goal

@@ -1,4 +1,4 @@
-use Rattle.proc_expand.specs.Refusals.{Knows}
+use Rattle.proc_expand.specs.steps.Looking.{Knows}
 use Rattle.proc_expand.proofs.known.procedures_by_name.Given as goal
 
 abbrev pub invariant-loop-place : goal.invariant-loop-place

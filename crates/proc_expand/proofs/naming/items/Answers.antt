@@ -1,6 +1,6 @@
-use Rattle.std.proofs.Common.{◌≡◌, ◌<◌, ◌++◌, length, take, map, suc, slice_index_or, sym, ap, ◌∙◌, subst, arith}
-use Rattle.std.proofs.lemmas.List.{take_all, length-map}
-use Rattle.proc_expand.specs.Words.{signs, sign_of, bytes_at, one_if}
+use Rattle.std.proofs.Common.{◌++◌, map, suc, slice_index_or, ap, ◌∙◌, arith}
+use Rattle.std.proofs.lemmas.List.{take_all}
+use Rattle.proc_expand.specs.Words.{bytes_at, one_if}
 use Rattle.proc_expand.proofs.NameLists.{stands, items_among, items_more, all_items}
 use Rattle.proc_expand.proofs.Outside.{outer_below}
 use Rattle.proc_expand.proofs.naming.items.Goals as goal

@@ -1,5 +1,5 @@
 use Rattle.std.proofs.Common.{◌≡◌, take}
-use Rattle.proc_expand.specs.Replaced.{names_of}
+use Rattle.proc_expand.specs.steps.Replaced.{names_of}
 use Rattle.proc_expand.proofs.NameLists.{items_among}
 use Rattle.proc_expand.proofs.naming.items.Given as goal
 

@@ -2,7 +2,7 @@ use Rattle.std.proofs.Common.{◌≡◌, ◌-◌, List, nat_eq, [], ◌∷◌, N
 use Rattle.std.proofs.lemmas.List.{get_or-set_other, length-set}
 use Rattle.jade_syntax.specs.Abstract.{Name}
 use Rattle.proc_expand.specs.Written.{names_at, from}
-use Rattle.proc_expand.specs.Replaced.{names_of, with_names, IsMark}
+use Rattle.proc_expand.specs.steps.Replaced.{names_of, with_names, IsMark}
 use Rattle.proc_expand.proofs.First.{by_case, eq_true, eq_false}
 use Rattle.proc_expand.proofs.NameLists.{body_step, mark_stays, set_mark, other_mark}
 use Rattle.proc_expand.proofs.naming.number_body.Goals as goal

@@ -1,7 +1,7 @@
 use Rattle.std.proofs.Common.{◌≡◌, ℕ, ◌-◌, ◌<◌, ◌≤◌, length, None}
 use Rattle.std.specs.Prelude.{slice_index_or}
 use Rattle.proc_expand.specs.Written.{from, names_at}
-use Rattle.proc_expand.specs.Replaced.{names_of, with_names, AreNumbered, IsMark}
+use Rattle.proc_expand.specs.steps.Replaced.{names_of, with_names, AreNumbered, IsMark}
 use Rattle.proc_expand.proofs.naming.number_body.Given as goal
 
 abbrev pub invariant-loop-place : goal.invariant-loop-place

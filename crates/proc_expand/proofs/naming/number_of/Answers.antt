@@ -1,6 +1,6 @@
 use Rattle.std.proofs.Common.{List, ℕ, Some, subst, sym, ◌∙◌}
 use Rattle.jade_syntax.specs.Abstract.{Name}
-use Rattle.proc_expand.specs.Replaced.{names_of, AreNumbered, IsNumber}
+use Rattle.proc_expand.specs.steps.Replaced.{names_of, AreNumbered, IsNumber}
 use Rattle.proc_expand.proofs.NameLists.{not_there, numbered_more, new_number}
 use Rattle.proc_expand.proofs.naming.number_of.Goals as goal
 

@@ -3,7 +3,7 @@ use Rattle.std.proofs.lemmas.List.{get_or-set_other, length-set}
 use Rattle.jade_syntax.specs.Abstract.{Name}
 use Rattle.proc_expand.specs.Words.{bytes_at}
 use Rattle.proc_expand.specs.Refusals.{param_place}
-use Rattle.proc_expand.specs.Replaced.{names_of, IsNumber}
+use Rattle.proc_expand.specs.steps.Replaced.{names_of, IsNumber}
 use Rattle.proc_expand.proofs.First.{by_case, eq_true, eq_false}
 use Rattle.proc_expand.proofs.NameLists.{params_step, number_stays, set_number, other_number}
 use Rattle.proc_expand.proofs.naming.number_params.Goals as goal

@@ -3,7 +3,7 @@ use Rattle.std.specs.Prelude.{map, slice_index_or}
 use Rattle.proc_expand.specs.Words.{bytes_at}
 use Rattle.proc_expand.specs.Refusals.{param_place}
 use Rattle.proc_expand.specs.Written.{from}
-use Rattle.proc_expand.specs.Replaced.{names_of, with_names, AreNumbered, IsNumber}
+use Rattle.proc_expand.specs.steps.Replaced.{names_of, with_names, AreNumbered, IsNumber}
 use Rattle.proc_expand.proofs.naming.number_params.Given as goal
 
 abbrev pub invariant-loop-i : goal.invariant-loop-i

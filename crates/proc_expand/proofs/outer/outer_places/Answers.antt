@@ -1,9 +1,7 @@
-use Rattle.std.proofs.Common.{◌≡◌, ◌+◌, ◌++◌, length, not, nat_lt, sym, ap, ◌∙◌, arith}
-use Rattle.proc_expand.specs.Words.{those, one_if}
-use Rattle.proc_expand.specs.Written.{in_procedure}
+use Rattle.std.proofs.Common.{◌++◌, not, nat_lt, ap, ◌∙◌, arith}
+use Rattle.proc_expand.specs.Words.{one_if}
 use Rattle.proc_expand.proofs.KnownNames.{lies_in}
-use Rattle.proc_expand.proofs.Outside.{none_reach, outer_more}
-use Rattle.proc_expand.proofs.KnownNames.{as_long}
+use Rattle.proc_expand.proofs.Outside.{outer_more}
 use Rattle.proc_expand.proofs.outer.outer_places.Goals as goal
 
 pub loop-place-preserved : goal.loop-place-preserved

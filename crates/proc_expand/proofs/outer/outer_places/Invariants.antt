@@ -1,7 +1,7 @@
 use Rattle.std.proofs.Common.{◌≡◌, not}
 use Rattle.proc_expand.specs.Words.{those}
 use Rattle.proc_expand.specs.Written.{in_procedure}
-use Rattle.proc_expand.specs.Outside.{Reaches}
+use Rattle.proc_expand.specs.steps.Outside.{Reaches}
 use Rattle.proc_expand.proofs.outer.outer_places.Given as goal
 
 abbrev pub invariant-loop-place : goal.invariant-loop-place

@@ -1,4 +1,4 @@
-use Rattle.std.proofs.Common.{◌≡◌, ◌+◌, length, refl, sym, ◌∙◌, arith}
+use Rattle.std.proofs.Common.{◌+◌, refl, sym, ◌∙◌, arith}
 use Rattle.proc_expand.proofs.KnownNames.{as_long}
 use Rattle.proc_expand.proofs.Outside.{end_is, last_up, reach_same, reach_on}
 use Rattle.proc_expand.proofs.outer.reach_after.Goals as goal

@@ -1,5 +1,6 @@
 use Rattle.std.proofs.Common.{[], ◌∷◌, ◌++◌, ◌&&◌, ◌||◌, not, nat_eq, ap, sym, ◌∙◌}
-use Rattle.proc_expand.specs.Words.{tests, some, open_before, open_after, at, before, is_proc, is_main, ends_item}
+use Rattle.proc_expand.specs.Words.{some, open_before, open_after, at, before, is_proc, is_main, ends_item}
+use Rattle.proc_expand.specs.steps.Looking.{tests}
 use Rattle.proc_expand.specs.Refusals.{begins, is_outer_main}
 use Rattle.proc_expand.proofs.First.{plus_one}
 use Rattle.proc_expand.proofs.procedures.beginnings.Goals as goal

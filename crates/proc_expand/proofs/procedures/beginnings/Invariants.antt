@@ -1,5 +1,6 @@
 use Rattle.std.proofs.Common.{◌≡◌, ◌≤◌}
-use Rattle.proc_expand.specs.Words.{tests, some, open_before}
+use Rattle.proc_expand.specs.Words.{some, open_before}
+use Rattle.proc_expand.specs.steps.Looking.{tests}
 use Rattle.proc_expand.specs.Refusals.{begins, is_outer_main}
 use Rattle.proc_expand.proofs.procedures.beginnings.Given as goal
 

@@ -1,6 +1,7 @@
 use Rattle.std.proofs.Common.{◌≡◌, ◌&&◌, suc, false, length, ap, sym, refl, ◌∙◌, arith}
 use Rattle.std.specs.Prelude.{slice_index_or}
-use Rattle.proc_expand.specs.Words.{first, some, earliest}
+use Rattle.proc_expand.specs.Words.{first, some}
+use Rattle.proc_expand.specs.steps.Looking.{earliest}
 use Rattle.proc_expand.specs.Refusals.{begins, proc_fails}
 use Rattle.proc_expand.proofs.First.{first_none, first_some}
 use Rattle.proc_expand.proofs.Heads.{test_at, length_tests}

@@ -1,5 +1,6 @@
 use Rattle.std.proofs.Common.{◌&&◌, suc, length, ap, ◌∙◌}
-use Rattle.proc_expand.specs.Words.{first, some, earliest}
+use Rattle.proc_expand.specs.Words.{first, some}
+use Rattle.proc_expand.specs.steps.Looking.{earliest}
 use Rattle.proc_expand.specs.Refusals.{begins, proc_fails, misplaced, within, is_call, call_fails}
 use Rattle.proc_expand.proofs.Joined.{shape_first}
 use Rattle.proc_expand.proofs.refusal.first_shape.Goals as goal

@@ -1,5 +1,5 @@
 use Rattle.std.proofs.Common.{length, ap, ◌∙◌, arith, ◌≡◌}
-use Rattle.proc_expand.specs.Words.{earliest}
+use Rattle.proc_expand.specs.steps.Looking.{earliest}
 use Rattle.proc_expand.proofs.KnownNames.{as_long}
 use Rattle.proc_expand.proofs.Repeated.{twice_before, none_twice, twice_more}
 use Rattle.proc_expand.proofs.twice.first_twice.Goals as goal

@@ -1,14 +1,11 @@
 -- What is written so far, and what is more.
-use Rattle.std.specs.Prelude.{◌≡◌, ℕ, ◌+◌, ◌<◌, List, ◌∷◌, ◌++◌, length, Option, Some, None}
-use Rattle.jade_base.specs.declared.place.Pos.{Pos}
-use Rattle.jade_lexer.specs.Lexemes.{TokenAt}
+use Rattle.std.specs.Prelude.{◌≡◌, ℕ, ◌+◌, ◌<◌, List, ◌++◌, length, Option, Some, None}
 use Rattle.jade_syntax.specs.Abstract.{Name}
 use Rattle.proc_expand.specs.declared.frame.Call.{Call}
 use Rattle.proc_expand.specs.declared.pen.Pen.{Pen}
-use Rattle.proc_expand.specs.Words.{bytes_at}
 use Rattle.proc_expand.specs.Written.{MadeToken, fresh_name}
-use Rattle.proc_expand.specs.Replaced.{AreFree}
-use Rattle.proc_expand.specs.Sheets.{spaced_out, tokens_of, IsSheet}
+use Rattle.proc_expand.specs.steps.Replaced.{AreFree}
+use Rattle.proc_expand.specs.steps.Sheets.{spaced_out, tokens_of, IsSheet}
 
 -- the tokens that are written
 abbrev pub written : Pen → List MadeToken

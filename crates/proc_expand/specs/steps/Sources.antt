@@ -1,26 +1,25 @@
 -- What is known while the tokens of an expanded text are written.
-use Rattle.std.specs.Prelude.{◌≡◌, ℕ, suc, ◌+◌, ◌-◌, ◌*◌, ◌<◌, ◌≤◌, true, not, List, [], ◌∷◌, ◌++◌, map, drop, length, codes, Option, Some, None}
+use Rattle.std.specs.Prelude.{◌≡◌, ℕ, ◌+◌, ◌-◌, ◌*◌, ◌<◌, ◌≤◌, true, not, List, [], ◌∷◌, ◌++◌, map, drop, length, codes, Option, Some, None}
 use Rattle.std.specs.Prelude.{reverse}
 use Rattle.std.specs.List.{All}
 use Rattle.jade_base.specs.declared.place.Pos.{Pos}
 use Rattle.jade_lexer.specs.Lexemes.{TokenAt}
-use Rattle.jade_syntax.specs.Abstract.{Name}
 use Rattle.proc_expand.specs.declared.sign.Bracket.TheVariants.{Round}
 use Rattle.proc_expand.specs.declared.sign.Sign.{Sign}
 use Rattle.proc_expand.specs.declared.sign.End.TheVariants.{Closed}
 use Rattle.proc_expand.specs.declared.frame.Call.{Call}
 use Rattle.proc_expand.specs.declared.frame.Frame.{Frame}
-use Rattle.proc_expand.specs.declared.procedures.Procedure.{Procedure}
 use Rattle.proc_expand.specs.declared.pen.Pen.{Pen}
 use Rattle.proc_expand.specs.declared.source.Source.{Source}
 use Rattle.proc_expand.specs.Words.{signs, bytes_at, those, closing_from}
-use Rattle.proc_expand.specs.Refusals.{begins, head, body_end, procedure, param_place, commas_from, meant, refusal, IsScan, Knows}
+use Rattle.proc_expand.specs.Refusals.{begins, head, body_end, procedure, param_place, commas_from, refusal}
+use Rattle.proc_expand.specs.steps.Looking.{IsScan, Knows}
 use Rattle.proc_expand.specs.Written.{MadeToken, text_names, in_procedure, closed_at, replaced_at, replaced_by, from, spans, token_at, given_at, made_at, param_places, arguments}
-use Rattle.proc_expand.specs.Replaced.{names_of}
-use Rattle.proc_expand.specs.Marks.{IsMarked}
-use Rattle.proc_expand.specs.Frames.{names_in, places_left, left}
-use Rattle.proc_expand.specs.Sheets.{spaced_out}
-use Rattle.proc_expand.specs.Pens.{written, IsPen}
+use Rattle.proc_expand.specs.steps.Replaced.{names_of}
+use Rattle.proc_expand.specs.steps.Marks.{IsMarked}
+use Rattle.proc_expand.specs.steps.Frames.{names_in, places_left, left}
+use Rattle.proc_expand.specs.steps.Sheets.{spaced_out}
+use Rattle.proc_expand.specs.steps.Pens.{written, IsPen}
 
 -- the text is looked at, is not refused, and its names are numbered
 pub record IsSource (ts : List TokenAt) (end : Pos) (s : Source) : Type 0 where

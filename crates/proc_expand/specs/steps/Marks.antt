@@ -2,12 +2,11 @@
 use Rattle.std.specs.Prelude.{◌≡◌, ℕ, ◌<◌, true, List, length, Option, None, slice_index_or}
 use Rattle.jade_base.specs.declared.place.Pos.{Pos}
 use Rattle.jade_lexer.specs.Lexemes.{TokenAt}
-use Rattle.jade_syntax.specs.Abstract.{Name}
 use Rattle.proc_expand.specs.declared.marks.Marks.{Marks}
 use Rattle.proc_expand.specs.Words.{signs, bytes_at}
 use Rattle.proc_expand.specs.Refusals.{begins, head, body_end, procedure, param_place}
 use Rattle.proc_expand.specs.Written.{items, closed_at, replaced_at}
-use Rattle.proc_expand.specs.Replaced.{IsNumber, IsMark}
+use Rattle.proc_expand.specs.steps.Replaced.{IsNumber, IsMark}
 
 -- those of the procedure at a place stand at its parameters and in its body
 pub record AreMarked (ts : List TokenAt) (end : Pos) (p : ℕ) (numbers : List (Option ℕ)) : Type 0 where

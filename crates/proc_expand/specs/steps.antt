@@ -1,0 +1,10 @@
+pub mod Brackets
+pub mod Looking
+pub mod Outside
+pub mod Replaced
+pub mod Marks
+pub mod Frames
+pub mod Sheets
+pub mod Pens
+pub mod Sources
+pub mod Kept
