@@ -7,7 +7,7 @@ use Rattle.jade_run.specs.declared.status.Status.{Status}
 use Rattle.jade_run.specs.declared.status.Status.TheVariants.{Good, Fault, Refused, Words, Numbers, Reading, Writing, Memory, Replay}
 use Rattle.jade_run.specs.Headline.{Answers, Headline, Moment, Stops}
 use Rattle.jade_run.specs.declared.words.Command.{Command}
-use Rattle.jade_run.specs.declared.words.Command.TheVariants.{Run, Serial, Check, Show, Drill, Record, Replay as ToReplay}
+use Rattle.jade_run.specs.declared.words.Command.TheVariants.{Run, Serial, Check, Show, Drill, Record, Replay as ToReplay, Expand}
 use Rattle.jade_run.specs.declared.words.Execution.{Execution}
 use Rattle.jade_run.specs.declared.words.WordsError.{WordsError}
 use Rattle.jade_run.specs.declared.words.WordsError.TheVariants.{Usage}
@@ -18,36 +18,10 @@ use Rattle.jade_syntax.specs.declared.tree.Program.{Program}
 use denote.Bor.{Bor}
 use Rattle.jade_run.specs.declared.answer.Answer.{Answer as AnswerOf}
 use Rattle.jade_run.specs.declared.answer.ReadError.{ReadError}
-use Rattle.jade_run.specs.declared.answer.ReadError.TheVariants.{Refused as NotRead, Memory as Unread}
+use Rattle.jade_run.specs.declared.answer.ReadError.TheVariants.{Refused as RefusedAt, Memory as Unread}
 use Rattle.jade_meaning.specs.Turns.{in_order}
-use Rattle.jade_run.specs.Answered.{
-  TurnLists,
-  BySomeTurns,
-  IsAnswered,
-  IsGood,
-  Shows,
-  IsShown,
-  IsTested,
-  IsDrilled,
-  IsNotRead,
-  OnRefused,
-  RefusedAs,
-  RefusedFor,
-  refused,
-  answered,
-  miscounted,
-  good,
-  not_good,
-  shown,
-  not_shown,
-  summed,
-  not_summed,
-  unread,
-  first_place,
-  answer_status,
-  input_count,
-}
-use Rattle.jade_run.specs.Outcome.{IsOutcome, IsCommanded, IsAllowed, IsLimited, usage, too_long, run, serial, check, show, drill, keep, replay}
+use Rattle.jade_run.specs.Answered.{TurnLists, BySomeTurns, IsAnswered, IsExpanded, IsGood, Shows, IsShown, IsTested, IsDrilled, IsNotRead, NotRead, OnRefused, RefusedFor, refused, answered, miscounted, good, not_good, shown, not_shown, expanded, not_expanded, summed, not_summed, no_program, answer_status, input_count}
+use Rattle.jade_run.specs.Outcome.{IsOutcome, IsCommanded, IsAllowed, IsLimited, usage, too_long, run, serial, check, show, drill, keep, replay, expand}
 use Rattle.jade_run.specs.Recordings.{
   IsKept,
   IsReplayed,
@@ -61,8 +35,9 @@ use Rattle.jade_run.specs.Recordings.{
   differs,
   same,
 }
+use Rattle.jade_run.specs.Standing.{NotExpanded, first_place, traced}
 use Rattle.jade_run.specs.Texts.{usage_text, refused_text, ok_text}
-use Rattle.jade_run.specs.Words.{SpellsExecution, NeedsText, RefusesWords, Asks, IsUsage, to_run, to_serial, to_check, to_show, to_record, to_replay, on_text}
+use Rattle.jade_run.specs.Words.{SpellsExecution, NeedsText, RefusesWords, Asks, IsUsage, to_run, to_serial, to_check, to_show, to_record, to_replay, to_expand, on_text}
 use Rattle.jade_run.specs.Words.{works_on_text}
 use Rattle.jade_run.specs.Witnessed.{Carried, SeenRun, SawWords, of_none, of_drill, refuses}
 use Rattle.jade_run.proofs.Naming.{drill_only}
@@ -133,6 +108,7 @@ asks_text words Show h on = to_show h
 asks_text words (Drill n w) h on = absurd (cc)
 asks_text words (Record w e) h on = to_record w e.limit e.numbers h
 asks_text words ToReplay h on = to_replay h
+asks_text words Expand h on = to_expand h
 
 executed : (words : List (List ℕ)) (e : Execution) → SpellsExecution words e.limit e.numbers → IsLimited e
 executed words e h = (h.steps.some, h.given.few)
@@ -145,6 +121,7 @@ asks_allowed words Show h = tt
 asks_allowed words (Drill n w) h = ((h.drill.crew.some, h.drill.crew.within), (h.drill.amount.some, h.drill.amount.within))
 asks_allowed words (Record w e) h = ((h.run.crew.some, h.run.crew.within), executed h.run.more e h.run.execution)
 asks_allowed words ToReplay h = tt
+asks_allowed words Expand h = tt
 
 commanded : (words : List (List ℕ)) (c : Command) (bytes : List ℕ) (turns : TurnLists) (text : List ℕ) (status : Status) → Asks words c
     → length bytes ≤ 1048576 → IsCommanded c bytes turns text status → IsOutcome words bytes turns text status
@@ -155,6 +132,7 @@ commanded words Show bytes turns text status asked within h = show asked within 
 commanded words (Drill n w) bytes turns text status asked within h = drill n w asked h
 commanded words (Record w e) bytes turns text status asked within h = keep w e.limit e.numbers asked within h
 commanded words ToReplay bytes turns text status asked within h = replay asked within h
+commanded words Expand bytes turns text status asked within h = expand asked within h
 
 pub command_answers : (words : List (List ℕ)) (before after : Option (List ℕ)) (c : Command) (bytes read text : List ℕ) (status : Status)
     (old new : Option (List SeenRun)) → Asks words c → works_on_text c ≡ true → WholeText before after bytes → read ≡ bytes →
@@ -185,6 +163,7 @@ drilled_answers words left Check text status old new asked off h = absurd (cc)
 drilled_answers words left Show text status old new asked off h = absurd (cc)
 drilled_answers words left (Record w e) text status old new asked off h = absurd (cc)
 drilled_answers words left ToReplay text status old new asked off h = absurd (cc)
+drilled_answers words left Expand text status old new asked off h = absurd (cc)
 drilled_answers words left (Drill n w) text status old new asked off h = record {
   comes = record {
     bytes = bytes_of left;
@@ -225,40 +204,45 @@ answer_written (Cells store) = tt
 answered_written : (bytes : List ℕ) (numbers : List ℤ) (limit : ℕ) (turns : TurnLists) (text : List ℕ) (status : Status)
     → IsAnswered bytes numbers limit turns text status → Written status
 unfolding Written
-answered_written bytes numbers limit turns text status (answered tree is_good n shows) = subst Written (sym shows.ended) (answer_written _)
-answered_written bytes numbers limit turns text status (miscounted tree is_good n t s) = subst Written (sym s) tt
+answered_written bytes numbers limit turns text status (answered tree home is_good n shows) = subst Written (sym shows.ended) (answer_written _)
+answered_written bytes numbers limit turns text status (miscounted tree home is_good n t s) = subst Written (sym s) tt
 answered_written bytes numbers limit turns text status (refused place why for t s) = subst Written (sym s) tt
 
 tested_written : (bytes text : List ℕ) (status : Status) → IsTested bytes text status → Written status
 unfolding Written
-tested_written bytes text status (good tree is_good t s) = subst Written (sym s) tt
+tested_written bytes text status (good tree home is_good t s) = subst Written (sym s) tt
 tested_written bytes text status (not_good place why for t s) = subst Written (sym s) tt
 
 shown_written : (bytes text : List ℕ) (status : Status) → IsShown bytes text status → Written status
 unfolding Written
-shown_written bytes text status (shown tree reads t s) = subst Written (sym s) tt
+shown_written bytes text status (shown tree home reads t s) = subst Written (sym s) tt
 shown_written bytes text status (not_shown place why as_one t s) = subst Written (sym s) tt
 
 drilled_written : (tasks : ℕ) (text : List ℕ) (status : Status) → IsDrilled tasks text status → Written status
 unfolding Written
-drilled_written tasks text status (summed tree g n store e t s) = subst Written (sym s) tt
+drilled_written tasks text status (summed tree home g n store e t s) = subst Written (sym s) tt
 drilled_written tasks text status (not_summed h bad) = answered_written _ _ _ _ _ _ h
 
 kept_written : (bytes : List ℕ) (numbers : List ℤ) (limit : ℕ) (turns : TurnLists) (text : List ℕ) (status : Status)
     → IsKept bytes numbers limit turns text status → Written status
 unfolding Written
-kept_written bytes numbers limit turns text status (kept tree g n r h within t s) = subst Written (sym s) tt
-kept_written bytes numbers limit turns text status (overlong tree g n r h over t s) = subst Written (sym s) tt
+kept_written bytes numbers limit turns text status (kept tree home g n r h within t s) = subst Written (sym s) tt
+kept_written bytes numbers limit turns text status (overlong tree home g n r h over t s) = subst Written (sym s) tt
 kept_written bytes numbers limit turns text status (not_run h x y) = answered_written _ _ _ _ _ _ h
 
 replayed_written : (bytes text : List ℕ) (status : Status) → IsReplayed bytes text status → Written status
 unfolding Written
 replayed_written bytes text status (formless line b t s) = subst Written (sym s) tt
 replayed_written bytes text status (unfit r h place why for t s) = subst Written (sym s) tt
-replayed_written bytes text status (uncounted r h tree g n t s) = subst Written (sym s) tt
-replayed_written bytes text status (turnless r tree p none t s) = subst Written (sym s) tt
-replayed_written bytes text status (differs r tree p lists h not_told t s) = subst Written (sym s) tt
-replayed_written bytes text status (same r tree lists h t s) = subst Written (sym s) tt
+replayed_written bytes text status (uncounted r h tree home g n t s) = subst Written (sym s) tt
+replayed_written bytes text status (turnless r tree home p none t s) = subst Written (sym s) tt
+replayed_written bytes text status (differs r tree home p lists h not_told t s) = subst Written (sym s) tt
+replayed_written bytes text status (same r tree home lists h t s) = subst Written (sym s) tt
+
+expanded_written : (bytes text : List ℕ) (status : Status) → IsExpanded bytes text status → Written status
+unfolding Written
+expanded_written bytes text status (expanded home h s) = subst Written (sym s) tt
+expanded_written bytes text status (not_expanded place why h t s) = subst Written (sym s) tt
 
 pub outcome_written : (words : List (List ℕ)) (bytes : List ℕ) (turns : TurnLists) (text : List ℕ) (status : Status) → IsOutcome words bytes turns text status → Written status
 unfolding Written
@@ -271,6 +255,7 @@ outcome_written words bytes turns text status (show named within h) = shown_writ
 outcome_written words bytes turns text status (drill n w named h) = drilled_written _ _ _ h
 outcome_written words bytes turns text status (keep w l ns named within h) = kept_written _ _ _ _ _ _ h
 outcome_written words bytes turns text status (replay named within h) = replayed_written _ _ _ h
+outcome_written words bytes turns text status (expand named within h) = expanded_written _ _ _ h
 
 written_headline : (words : List (List ℕ)) (status : Status) (before after : Moment) (text : List ℕ) → Written status →
     Answers words before.left after.left text status before.seen after.seen → after.taken ≡ taken_with before.taken text → Headline words status before after
@@ -315,29 +300,36 @@ not_reading words before after text status old new a e = no_reading status (outc
 
 -- what a text that was not read comes to
 pub refused_shown : (bytes : List ℕ) (e : ReadError) (r : Result AnswerOf NoMemory) → IfOk r (λ a. IsNotRead e a.text.items a.status) →
-    OnRefused e (RefusedAs bytes) → IfOk r (λ a. IsShown bytes a.text.items a.status)
-refused_shown bytes (NotRead place why) (Ok a) n h = not_shown place why.now h n.0 n.1
+    OnRefused e (NotRead bytes) → IfOk r (λ a. IsShown bytes a.text.items a.status)
+refused_shown bytes (RefusedAt place why) (Ok a) n h = not_shown place why.now h n.0 n.1
 refused_shown bytes Unread (Ok a) n h = absurd n
 refused_shown bytes e (Err m) n h = tt
 
 pub refused_tested : (bytes : List ℕ) (e : ReadError) (r : Result AnswerOf NoMemory) → IfOk r (λ a. IsNotRead e a.text.items a.status) →
     OnRefused e (RefusedFor bytes) → IfOk r (λ a. IsTested bytes a.text.items a.status)
-refused_tested bytes (NotRead place why) (Ok a) n h = not_good place why.now h n.0 n.1
+refused_tested bytes (RefusedAt place why) (Ok a) n h = not_good place why.now h n.0 n.1
 refused_tested bytes Unread (Ok a) n h = absurd n
 refused_tested bytes e (Err m) n h = tt
 
-pub unread_for : (bytes : List ℕ) (e : ReadError) → OnRefused e (RefusedAs bytes) → OnRefused e (RefusedFor bytes)
-unread_for bytes (NotRead place why) h = unread h
+pub unread_for : (bytes : List ℕ) (e : ReadError) → OnRefused e (NotRead bytes) → OnRefused e (RefusedFor bytes)
+unread_for bytes (RefusedAt place why) h = no_program h
 unread_for bytes Unread h = tt
 
-pub good_tested : (bytes : List ℕ) (tree : Program) (text : List ℕ) → IsGood bytes tree → text ≡ ok_text → IsTested bytes text Good
-good_tested bytes tree text g t = good tree g t refl
+pub refused_expanded : (bytes : List ℕ) (e : ReadError) (r : Result AnswerOf NoMemory) → IfOk r (λ a. IsNotRead e a.text.items a.status) →
+    OnRefused e (NotExpanded bytes) → IfOk r (λ a. IsExpanded bytes a.text.items a.status)
+refused_expanded bytes (RefusedAt place why) (Ok a) n h = not_expanded place why.now h n.0 n.1
+refused_expanded bytes Unread (Ok a) n h = absurd n
+refused_expanded bytes e (Err m) n h = tt
 
-pub answered_in : (bytes : List ℕ) (numbers : List ℤ) (limit : ℕ) (turns : TurnLists) (tree : Program) (r : Result AnswerOf NoMemory) → IsGood bytes tree →
-    length numbers ≡ input_count tree → IfOk r (λ a. Shows (program tree) (answer (program tree) numbers limit turns) a.text.items a.status) →
+pub good_tested : (bytes : List ℕ) (tree : Program) (home : Pos → Pos) (text : List ℕ) → IsGood bytes tree home → text ≡ ok_text → IsTested bytes text Good
+good_tested bytes tree home text g t = good tree home g t refl
+
+pub answered_in : (bytes : List ℕ) (numbers : List ℤ) (limit : ℕ) (turns : TurnLists) (tree : Program) (home : Pos → Pos)
+    (r : Result AnswerOf NoMemory) → IsGood bytes tree home →
+    length numbers ≡ input_count tree → IfOk r (λ a. Shows (program tree) (traced home (answer (program tree) numbers limit turns)) a.text.items a.status) →
     IfOk r (λ a. IsAnswered bytes numbers limit turns a.text.items a.status)
-answered_in bytes numbers limit turns tree (Ok a) g n h = answered tree g n h
-answered_in bytes numbers limit turns tree (Err m) g n h = tt
+answered_in bytes numbers limit turns tree home (Ok a) g n h = answered tree home g n h
+answered_in bytes numbers limit turns tree home (Err m) g n h = tt
 
 -- what words are answered with that are no command's, and what stops the call where there is no memory
 pub no_command : (words : List (List ℕ)) (left : Option (List ℕ)) (before after : ℕ) (e : WordsError) (r : Result AnswerOf Status)
@@ -348,6 +340,6 @@ no_command words left before after e (Err s) seen h k m = subst (λ z. Stops z b
 
 -- the answer of a refusal
 pub not_read_is : (place : Pos) (why : Bor (List ℕ)) (r : Result AnswerOf NoMemory) → IfOk r (λ a. a.text.items ≡ refused_text place why.now) →
-    IfOk r (λ a. a.status ≡ Refused) → IfOk r (λ a. IsNotRead (NotRead place why) a.text.items a.status)
+    IfOk r (λ a. a.status ≡ Refused) → IfOk r (λ a. IsNotRead (RefusedAt place why) a.text.items a.status)
 not_read_is place why (Ok a) t s = (t, s)
 not_read_is place why (Err m) t s = tt

@@ -5,9 +5,9 @@ use Rattle.jade_base.specs.declared.failure.Memory.{Memory}
 use Rattle.jade_meaning.specs.Turns.{in_order}
 use Rattle.jade_run.specs.declared.answer.Answer.{Answer}
 use Rattle.jade_run.specs.declared.words.Command.{Command}
-use Rattle.jade_run.specs.declared.words.Command.TheVariants.{Run, Serial, Check, Show, Drill, Record, Replay}
+use Rattle.jade_run.specs.declared.words.Command.TheVariants.{Run, Serial, Check, Show, Drill, Record, Replay, Expand}
 use Rattle.jade_run.specs.declared.words.Execution.{Execution}
-use Rattle.jade_run.specs.Answered.{BySomeTurns, IsAnswered, IsShown, IsTested}
+use Rattle.jade_run.specs.Answered.{BySomeTurns, IsAnswered, IsExpanded, IsShown, IsTested}
 use Rattle.jade_run.specs.Outcome.{IsCommanded}
 use Rattle.jade_run.specs.Recordings.{IsReplayed}
 use Rattle.jade_run.specs.Witnessed.{Carried, SawCommand, SeenRun}
@@ -77,3 +77,9 @@ pub by_replay : (c : Command) (bytes : List ℕ) (r : Result Answer Memory) (see
     → IfOk r (λ a. BySomeTurns (λ turns. Carried c bytes turns a.text.items a.status seen seen))
 by_replay c bytes (Ok a) seen is h = unseen c Replay bytes a seen is h refl
 by_replay c bytes (Err m) seen is h = tt
+
+pub by_expand : (c : Command) (bytes : List ℕ) (r : Result Answer Memory) (seen : Option (List SeenRun)) → c ≡ Expand
+    → IfOk r (λ a. IsExpanded bytes a.text.items a.status)
+    → IfOk r (λ a. BySomeTurns (λ turns. Carried c bytes turns a.text.items a.status seen seen))
+by_expand c bytes (Ok a) seen is h = unseen c Expand bytes a seen is h refl
+by_expand c bytes (Err m) seen is h = tt

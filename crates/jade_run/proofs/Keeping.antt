@@ -45,6 +45,8 @@ use Rattle.jade_run.specs.Recordings.{AreAnswer, IsRecordingOf, kept, long, not_
 use Rattle.jade_run.specs.steps.Preparing.{IsSettled}
 use Rattle.jade_run.specs.steps.Recording.{IsKeptRun, IsKeptText, IsWrittenAs, whole, too_long}
 use Rattle.jade_run.specs.Witnessed.{SawKept, SawOne, SeenRun}
+use Rattle.jade_run.specs.Standing.{traced}
+use Rattle.jade_run.proofs.Standings.{stands_within}
 use Rattle.jade_run.proofs.Witnessing.{one}
 use Rattle.jade_run.specs.Answered.{answer_text, input_count, BySomeTurns, IsGood, Shows, TurnLists}
 use Rattle.jade_run.specs.Texts.{cells_text, fault_word, long_text, objects_text, path_text, place_before, place_text}
@@ -230,8 +232,9 @@ lines_asked p a text status read shaped within h e =
 
 -- a program that a text of at most 1,048,576 bytes reads as has its shape
 pub good_is_shaped : ((text : List ℕ) (tokens : TokenList) (p : Program) → length text ≤ 1048576 → reading text ≡ Whole tokens → IsReading tokens p → is_shaped p ≡ true)
-    → (bytes : List ℕ) (tree : Program) → length bytes ≤ 1048576 → IsGood bytes tree → is_shaped tree ≡ true
-good_is_shaped law bytes tree within g = law bytes g.reads.tokens tree within g.reads.whole g.reads.read
+    → (bytes : List ℕ) (tree : Program) (home : Pos → Pos) → length bytes ≤ 1048576 → IsGood bytes tree home → is_shaped tree ≡ true
+good_is_shaped law bytes tree home within g =
+    law g.read.text g.read.reads.tokens tree (stands_within bytes g.read.text home within g.read.stands) g.read.reads.whole g.read.reads.read
 
 length_numbers : (x n : ℕ) → length (numbers x n) ≡ n
 length_numbers x zero = refl
@@ -248,11 +251,12 @@ lists_counted r p ns limit turns e =
     ∙ length_numbers 0 (length (sizes p.items))
 
 -- the lines of the answer that a report tells are those of the program's
-pub lines_tell : (r : Report) (p : AbstractProgram) (ns : List ℤ) (limit : ℕ) (turns : TurnLists) (found : List (List ℕ))
-    → r ≡ report p ns limit turns → ReportTells p ns limit turns → AreLines found (answer_text p (report_answer limit r)) → AreAnswer found p ns limit turns
-lines_tell r p ns limit turns found e t are =
+pub lines_tell : (r : Report) (p : AbstractProgram) (home : Pos → Pos) (ns : List ℤ) (limit : ℕ) (turns : TurnLists) (found : List (List ℕ))
+    → r ≡ report p ns limit turns → ReportTells p ns limit turns → AreLines found (answer_text p (traced home (report_answer limit r)))
+    → AreAnswer found p home ns limit turns
+lines_tell r p home ns limit turns found e t are =
     let same : report_answer limit r ≡ answer p ns limit turns = ap (report_answer limit) e ∙ t.same in
-    subst (AreLines found) (ap (answer_text p) same) are
+    subst (AreLines found) (ap (λ a. answer_text p (traced home a)) same) are
 
 pub is_recorded : (limit : ℕ) (given copies : List ℤ) (turns : List LabelledTurn) (lines : List (List ℕ)) (text : List ℕ) → 1 ≤ limit → limit ≤ 4294967295 → copies ≡ given
     → list_all is_number given ≡ true → length given ≤ 64 → All IsTurn turns → length lines ≤ 4096 → All (Lacks 10) lines
@@ -285,8 +289,8 @@ written_long r text lt t = too_long lt t refl
 -- ---- a run of a program that was compiled
 
 -- the text of a program is that of the one that was compiled
-pub good_same : (bytes : List ℕ) (p q s : CheckedProgram) → q ≡ p → s ≡ q → IsGood bytes p.program → IsGood bytes s.program
-good_same bytes p q s f g h = subst (λ (x : CheckedProgram). IsGood bytes x.program) (sym (g ∙ f)) h
+pub good_same : (bytes : List ℕ) (home : Pos → Pos) (p q s : CheckedProgram) → q ≡ p → s ≡ q → IsGood bytes p.program home → IsGood bytes s.program home
+good_same bytes home p q s f g h = subst (λ (x : CheckedProgram). IsGood bytes x.program home) (sym (g ∙ f)) h
 
 -- the report of the run is that of the program, by its own turns
 pub reported_by_its_turns : (r own : Report) (plan : RunPlan) (q s : CheckedProgram) (ns : List ℤ) (limit : ℕ) → r ≡ own
@@ -307,30 +311,30 @@ full_by_its_turns r own plan q s ns limit e m f g =
     (subst (λ (x : Report). Full (program plan.program) plan.numbers plan.limit (turns_in x.turns)) (sym e) m))
 
 -- the recording of the run is that of the program
-pub recording_same : (bytes : List ℕ) (p q s : CheckedProgram) (ns : List ℤ) (limit : ℕ) (r own : Report) (run : Recorded) → q ≡ p → s ≡ q → r ≡ own
-    → IsRecordingOf bytes s.program ns limit (turns_in r.turns) run → IsRecordingOf bytes p.program ns limit (turns_in own.turns) run
-recording_same bytes p q s ns limit r own run f g e h =
-    subst (λ (x : Report). IsRecordingOf bytes p.program ns limit (turns_in x.turns) run) e
-    (subst (λ (x : CheckedProgram). IsRecordingOf bytes x.program ns limit (turns_in r.turns) run) (g ∙ f) h)
+pub recording_same : (bytes : List ℕ) (home : Pos → Pos) (p q s : CheckedProgram) (ns : List ℤ) (limit : ℕ) (r own : Report) (run : Recorded) → q ≡ p → s ≡ q → r ≡ own
+    → IsRecordingOf bytes s.program home ns limit (turns_in r.turns) run → IsRecordingOf bytes p.program home ns limit (turns_in own.turns) run
+recording_same bytes home p q s ns limit r own run f g e h =
+    subst (λ (x : Report). IsRecordingOf bytes p.program home ns limit (turns_in x.turns) run) e
+    (subst (λ (x : CheckedProgram). IsRecordingOf bytes x.program home ns limit (turns_in r.turns) run) (g ∙ f) h)
 
 -- ---- what a text comes to whose run is recorded
 
-written_text : (bytes : List ℕ) (ns : List ℤ) (limit : ℕ) (turns : TurnLists) (tree : Program) (run : Recorded) (text : List ℕ) (status : Status)
-    (before after : Option (List SeenRun)) → IsGood bytes tree → length ns ≡ input_count tree → IsRecordingOf bytes tree ns limit turns run
+written_text : (bytes : List ℕ) (ns : List ℤ) (limit : ℕ) (turns : TurnLists) (tree : Program) (home : Pos → Pos) (run : Recorded) (text : List ℕ) (status : Status)
+    (before after : Option (List SeenRun)) → IsGood bytes tree home → length ns ≡ input_count tree → IsRecordingOf bytes tree home ns limit turns run
     → SawOne bytes ns limit turns before after → IsWrittenAs run text status → IsKeptText bytes ns limit turns text status before after
-written_text bytes ns limit turns tree run text status before after g n r o (whole le t s) =
-    record { is = kept tree g n run r le t s; saw = subst (λ x. SawKept bytes ns limit turns x before after) (sym s) o }
-written_text bytes ns limit turns tree run text status before after g n r o (too_long lt t s) =
-    record { is = long tree g n run r lt t s; saw = subst (λ x. SawKept bytes ns limit turns x before after) (sym s) o }
+written_text bytes ns limit turns tree home run text status before after g n r o (whole le t s) =
+    record { is = kept tree home g n run r le t s; saw = subst (λ x. SawKept bytes ns limit turns x before after) (sym s) o }
+written_text bytes ns limit turns tree home run text status before after g n r o (too_long lt t s) =
+    record { is = long tree home g n run r lt t s; saw = subst (λ x. SawKept bytes ns limit turns x before after) (sym s) o }
 
 -- the run of a text's program is recorded
-pub program_kept : (bytes : List ℕ) (ns : List ℤ) (limit : ℕ) (tree : Program) (r : Result AnswerOf NoMemory) (before after : Option (List SeenRun))
-    → IsGood bytes tree → length ns ≡ input_count tree
-    → IfOk r (λ a. BySomeTurns (λ turns. IsKeptRun bytes tree ns limit turns a.text.items a.status before after))
+pub program_kept : (bytes : List ℕ) (ns : List ℤ) (limit : ℕ) (tree : Program) (home : Pos → Pos) (r : Result AnswerOf NoMemory)
+    (before after : Option (List SeenRun)) → IsGood bytes tree home → length ns ≡ input_count tree
+    → IfOk r (λ a. BySomeTurns (λ turns. IsKeptRun bytes tree home ns limit turns a.text.items a.status before after))
     → IfOk r (λ a. BySomeTurns (λ turns. IsKeptText bytes ns limit turns a.text.items a.status before after))
-program_kept bytes ns limit tree (Ok a) before after g n h =
-    (h.0, written_text bytes ns limit h.0 tree h.1.run a.text.items a.status before after g n h.1.of_run (one bytes ns limit h.0 tree before after g h.1.shown) h.1.written)
-program_kept bytes ns limit tree (Err m) before after g n h = tt
+program_kept bytes ns limit tree home (Ok a) before after g n h =
+    (h.0, written_text bytes ns limit h.0 tree home h.1.run a.text.items a.status before after g n h.1.of_run (one bytes ns limit h.0 tree home before after g h.1.shown) h.1.written)
+program_kept bytes ns limit tree home (Err m) before after g n h = tt
 
 unrun_is : (wanted status : Status) → (Refused ≡ wanted → ⊥) → (Numbers ≡ wanted → ⊥) → (status ≡ Refused) ⊎ (status ≡ Numbers) → status ≡ wanted → ⊥
 unrun_is wanted status f g (inl e) h = f (sym e ∙ h)

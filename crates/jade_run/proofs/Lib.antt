@@ -17,3 +17,6 @@ pub mod Plain
 pub mod Commanding
 pub mod Wordless
 pub mod Replaying
+pub mod Standings
+pub mod Given
+pub mod Right

@@ -2,7 +2,7 @@
 use Rattle.std.proofs.Common.{◌≡◌, ℕ, ◌+◌, ◌<◌, List, [], ◌∷◌, get_or, refl, ap, sym, ◌∙◌, subst, arith}
 use Rattle.std.specs.Prelude.{codes, ℤ}
 use Rattle.jade_run.specs.Words.{SpellsExecution, SpellsRun, AcceptsWords, NeedsText, DrillWords, SpellsDrill}
-use Rattle.jade_run.specs.Words.{to_run, to_serial, to_check, to_show, to_record, to_replay, on_text, to_drill, IsUsage, NoExecution, NoRun, NoDrill}
+use Rattle.jade_run.specs.Words.{to_run, to_serial, to_check, to_show, to_record, to_replay, to_expand, on_text, to_drill, IsUsage, NoExecution, NoRun, NoDrill}
 use Rattle.jade_run.specs.declared.words.WordsError.{WordsError}
 use Rattle.jade_run.specs.declared.words.WordsError.TheVariants.{Usage, Memory}
 
@@ -87,6 +87,28 @@ replay_drill e = other_third (codes "drill") (codes "replay") 105 112 refl refl 
 pub replay_record : codes "replay" ≡ codes "record" → ⊥
 replay_record e = other_third (codes "record") (codes "replay") 99 112 refl refl (omega arith) (sym e)
 
+pub expand_run : codes "expand" ≡ codes "run" → ⊥
+expand_run e = other_third (codes "run") (codes "expand") 110 112 refl refl (omega arith) (sym e)
+
+pub expand_serial : codes "expand" ≡ codes "serial" → ⊥
+expand_serial e = other_third (codes "expand") (codes "serial") 112 114 refl refl (omega arith) e
+
+pub expand_check : codes "expand" ≡ codes "check" → ⊥
+expand_check e = other_third (codes "check") (codes "expand") 101 112 refl refl (omega arith) (sym e)
+
+pub expand_show : codes "expand" ≡ codes "show" → ⊥
+expand_show e = other_third (codes "show") (codes "expand") 111 112 refl refl (omega arith) (sym e)
+
+pub expand_drill : codes "expand" ≡ codes "drill" → ⊥
+expand_drill e = other_third (codes "drill") (codes "expand") 105 112 refl refl (omega arith) (sym e)
+
+pub expand_record : codes "expand" ≡ codes "record" → ⊥
+expand_record e = other_third (codes "record") (codes "expand") 99 112 refl refl (omega arith) (sym e)
+
+-- these two have one third byte, and other first ones
+pub expand_replay : codes "expand" ≡ codes "replay" → ⊥
+expand_replay e = let same = ap (λ l. get_or l 0 0) e in absurd (omega (arith, same))
+
 -- a drill needs no text
 pub drill_only : (words : List (List ℕ)) (tasks workers : ℕ) → DrillWords words tasks workers → NeedsText words → ⊥
 drill_only words n v d (to_run w l ns h) = two_names words d.more h.more _ _ drill_run d.two h.two
@@ -95,6 +117,7 @@ drill_only words n v d (to_check h) = two_names words d.more [] _ _ drill_check 
 drill_only words n v d (to_show h) = two_names words d.more [] _ _ drill_show d.two h.spelled
 drill_only words n v d (to_record w l ns h) = two_names words h.more d.more _ _ record_drill h.two d.two
 drill_only words n v d (to_replay h) = two_names words [] d.more _ _ replay_drill h.spelled d.two
+drill_only words n v d (to_expand h) = two_names words [] d.more _ _ expand_drill h.spelled d.two
 
 pub swapped : {A : Type 0} {x y : A} → (x ≡ y → ⊥) → y ≡ x → ⊥
 swapped f e = f (sym e)
@@ -114,6 +137,7 @@ no_run_named name rest is never (on_text (to_check h)) = run_check (sym is ∙ f
 no_run_named name rest is never (on_text (to_show h)) = run_show (sym is ∙ firsts _ _ _ _ h.spelled)
 no_run_named name rest is never (on_text (to_record w l ns h)) = record_run (sym (firsts _ _ _ _ h.two) ∙ is)
 no_run_named name rest is never (on_text (to_replay h)) = replay_run (sym (firsts _ _ _ _ h.spelled) ∙ is)
+no_run_named name rest is never (on_text (to_expand h)) = expand_run (sym (firsts _ _ _ _ h.spelled) ∙ is)
 no_run_named name rest is never (to_drill n v h) = drill_run (sym (firsts _ _ _ _ h.two) ∙ is)
 
 pub not_run : (name : List ℕ) (rest : List (List ℕ)) (e : WordsError) → name ≡ codes "run" → NoRun rest e → IsUsage (name ∷ rest) e
@@ -129,6 +153,7 @@ no_record_named name rest is never (on_text (to_show h)) = record_show (sym is �
 no_record_named name rest is never (on_text (to_record w l ns h)) =
     let P : List (List ℕ) → Type 0 = λ ws. SpellsRun ws w l ns in never w l ns (subst P (sym (rests _ _ _ _ h.two)) h.run)
 no_record_named name rest is never (on_text (to_replay h)) = replay_record (sym (firsts _ _ _ _ h.spelled) ∙ is)
+no_record_named name rest is never (on_text (to_expand h)) = expand_record (sym (firsts _ _ _ _ h.spelled) ∙ is)
 no_record_named name rest is never (to_drill n v h) = record_drill (sym is ∙ firsts _ _ _ _ h.two)
 
 pub not_record : (name : List ℕ) (rest : List (List ℕ)) (e : WordsError) → name ≡ codes "record" → NoRun rest e → IsUsage (name ∷ rest) e
@@ -144,6 +169,7 @@ no_serial_named name rest is never (on_text (to_check h)) = serial_check (sym is
 no_serial_named name rest is never (on_text (to_show h)) = serial_show (sym is ∙ firsts _ _ _ _ h.spelled)
 no_serial_named name rest is never (on_text (to_record w l ns h)) = record_serial (sym (firsts _ _ _ _ h.two) ∙ is)
 no_serial_named name rest is never (on_text (to_replay h)) = replay_serial (sym (firsts _ _ _ _ h.spelled) ∙ is)
+no_serial_named name rest is never (on_text (to_expand h)) = expand_serial (sym (firsts _ _ _ _ h.spelled) ∙ is)
 no_serial_named name rest is never (to_drill n v h) = drill_serial (sym (firsts _ _ _ _ h.two) ∙ is)
 
 pub not_serial : (name : List ℕ) (rest : List (List ℕ)) (e : WordsError) → name ≡ codes "serial" → NoExecution rest e → IsUsage (name ∷ rest) e
@@ -157,5 +183,6 @@ not_drill name rest is never (on_text (to_check h)) = drill_check (sym is ∙ fi
 not_drill name rest is never (on_text (to_show h)) = drill_show (sym is ∙ firsts _ _ _ _ h.spelled)
 not_drill name rest is never (on_text (to_record w l ns h)) = record_drill (sym (firsts _ _ _ _ h.two) ∙ is)
 not_drill name rest is never (on_text (to_replay h)) = replay_drill (sym (firsts _ _ _ _ h.spelled) ∙ is)
+not_drill name rest is never (on_text (to_expand h)) = expand_drill (sym (firsts _ _ _ _ h.spelled) ∙ is)
 not_drill name rest is never (to_drill n v h) =
     let P : List (List ℕ) → Type 0 = λ ws. SpellsDrill ws n v in never n v (subst P (sym (rests _ _ _ _ h.two)) h.drill)

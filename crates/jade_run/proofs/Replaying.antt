@@ -4,6 +4,7 @@ use Rattle.std.specs.Prelude.{ℤ, ◌↔◌, IsTrue, Result, Ok, Err, IfOk}
 use Rattle.std.specs.List.{slice_get}
 use Rattle.jade_base.specs.Places.{same_path}
 use Rattle.jade_base.specs.declared.failure.Memory.{Memory as NoMemory}
+use Rattle.jade_base.specs.declared.place.Pos.{Pos}
 use Rattle.jade_base.specs.declared.report.Report.{Report}
 use Rattle.jade_syntax.specs.Abstract.{AbstractProgram}
 use Rattle.jade_syntax.specs.CheckedProgram.{CheckedProgram}
@@ -31,10 +32,12 @@ use Rattle.jade_run.specs.declared.status.Status.{Status}
 use Rattle.jade_run.specs.declared.status.Status.TheVariants.{Good, Refused, Numbers, Replay}
 use Rattle.jade_run.specs.Answered.{IsAnswered, Shows, answer_status, answer_text, answered, miscounted, refused}
 use Rattle.jade_run.specs.Recordings.{HasTurns, IsRecording, IsReplayed, ListsByObject, Plays, differs, formless, same, turnless, uncounted, unfit}
+use Rattle.jade_run.specs.Standing.{traced}
 use Rattle.jade_run.specs.steps.Preparing.{IsSettled}
 use Rattle.jade_run.specs.steps.Recording.{IsCompared, alike, unlike}
 use Rattle.jade_run.specs.Texts.{differs_text, form_text, no_turns_text, same_text}
 use Rattle.jade_run.proofs.Running.{reported}
+use Rattle.jade_run.proofs.Standings.{stands_within}
 
 -- one item more is the same
 pub same_more : {A : Type 0} (xs ys : List A) (i : ℕ) (x y : A) → slice_get xs i ≡ Some x → slice_get ys i ≡ Some y → x ≡ y → take i xs ≡ take i ys →
@@ -54,11 +57,11 @@ pub other_lists : (xs ys : List Path) (b : Bool) → IsTrue b ↔ (xs ≡ ys) �
 other_lists xs ys b h f s = let t : b ≡ true = h.1 s in absurd (cc)
 
 -- what is written of the answer that the report of a run tells
-pub told_text : (r : Report) (p : AbstractProgram) (ns : List ℤ) (limit own : ℕ) (lists : ListsByObject) (text : List ℕ) (status : Status) → own ≡ limit
-    → r ≡ report p ns limit (turns_in lists) → ReportTells p ns limit (turns_in lists) → Shows p (report_answer own r) text status
-    → text ≡ answer_text p (answer p ns limit (turns_in lists))
-told_text r p ns limit own lists text status l e t s =
-    s.shown ∙ ap (λ k. answer_text p (report_answer k r)) l ∙ ap (answer_text p) (ap (report_answer limit) e ∙ t.same)
+pub told_text : (r : Report) (p : AbstractProgram) (home : Pos → Pos) (ns : List ℤ) (limit own : ℕ) (lists : ListsByObject) (text : List ℕ) (status : Status) → own ≡ limit
+    → r ≡ report p ns limit (turns_in lists) → ReportTells p ns limit (turns_in lists)
+    → Shows p (traced home (report_answer own r)) text status → text ≡ answer_text p (traced home (answer p ns limit (turns_in lists)))
+told_text r p home ns limit own lists text status l e t s =
+    s.shown ∙ ap (λ k. answer_text p (traced home (report_answer k r))) l ∙ ap (λ a. answer_text p (traced home a)) (ap (report_answer limit) e ∙ t.same)
 
 -- lines that were found to be those of a text
 pub lines_are : (b : Bool) (own lines : List (List ℕ)) (told text : List ℕ) → IsTrue b ↔ AreLines own told → b ≡ true → own ≡ lines → told ≡ text
@@ -74,31 +77,32 @@ lines_are_not b own lines told text h n e f a =
     absurd (cc)
 
 -- a recording whose lines are those of its run's answer
-pub is_alike : (r : Recorded) (tree : Program) (lists : ListsByObject) (told text : List ℕ) (status : Status)
-    → told ≡ answer_text (program tree) (answer (program tree) r.numbers r.limit (turns_in lists)) → AreLines r.answer told → text ≡ same_text → status ≡ Good
-    → IsCompared r tree lists text status
-is_alike r tree lists told text status e a t s = alike (subst (AreLines r.answer) e a) t s
+pub is_alike : (r : Recorded) (tree : Program) (home : Pos → Pos) (lists : ListsByObject) (told text : List ℕ) (status : Status)
+    → told ≡ answer_text (program tree) (traced home (answer (program tree) r.numbers r.limit (turns_in lists))) → AreLines r.answer told → text ≡ same_text → status ≡ Good
+    → IsCompared r tree home lists text status
+is_alike r tree home lists told text status e a t s = alike (subst (AreLines r.answer) e a) t s
 
 -- a recording whose lines are not
-pub is_unlike : (r : Recorded) (tree : Program) (lists : ListsByObject) (told text : List ℕ) (status : Status)
-    → told ≡ answer_text (program tree) (answer (program tree) r.numbers r.limit (turns_in lists)) → (AreLines r.answer told → ⊥) → text ≡ differs_text
-    → status ≡ Replay → IsCompared r tree lists text status
-is_unlike r tree lists told text status e n t s = unlike (λ a. n (subst (AreLines r.answer) (sym e) a)) t s
+pub is_unlike : (r : Recorded) (tree : Program) (home : Pos → Pos) (lists : ListsByObject) (told text : List ℕ) (status : Status)
+    → told ≡ answer_text (program tree) (traced home (answer (program tree) r.numbers r.limit (turns_in lists))) → (AreLines r.answer told → ⊥) → text ≡ differs_text
+    → status ≡ Replay → IsCompared r tree home lists text status
+is_unlike r tree home lists told text status e n t s = unlike (λ a. n (subst (AreLines r.answer) (sym e) a)) t s
 
 -- what a recording comes to whose turns are those of the run that it was compared with
-compared_is : (bytes : List ℕ) (r : Recorded) (tree : Program) (lists : ListsByObject) (text : List ℕ) (status : Status) → Plays bytes r tree
-    → HasTurns r (program tree) lists → IsCompared r tree lists text status → IsReplayed bytes text status
-compared_is bytes r tree lists text status p h (alike a t s) = same r tree lists (record { plays = p; turned = h; told = a }) t s
-compared_is bytes r tree lists text status p h (unlike n t s) = differs r tree p lists h n t s
+compared_is : (bytes : List ℕ) (r : Recorded) (tree : Program) (home : Pos → Pos) (lists : ListsByObject) (text : List ℕ) (status : Status)
+    → Plays bytes r tree home
+    → HasTurns r (program tree) lists → IsCompared r tree home lists text status → IsReplayed bytes text status
+compared_is bytes r tree home lists text status p h (alike a t s) = same r tree home lists (record { plays = p; turned = h; told = a }) t s
+compared_is bytes r tree home lists text status p h (unlike n t s) = differs r tree home p lists h n t s
 
-pub compared_with : (bytes : List ℕ) (r : Recorded) (p q : CheckedProgram) (lists named : ListsByObject) (o : Result AnswerOf NoMemory)
-    → Plays bytes r p.program → q ≡ p → lists ≡ named → AreNamed p.program.items r.turns named → Full (program p.program) r.numbers r.limit (turns_in named)
-    → IfOk o (λ a. IsCompared r q.program lists a.text.items a.status) → IfOk o (λ a. IsReplayed bytes a.text.items a.status)
-compared_with bytes r p q lists named (Err m) plays e l n full h = tt
-compared_with bytes r p q lists named (Ok a) plays e l n full h =
-    let F : CheckedProgram → Type 0 = λ x. IsCompared r x.program lists a.text.items a.status in
-    let G : ListsByObject → Type 0 = λ x. IsCompared r p.program x a.text.items a.status in
-    compared_is bytes r p.program named a.text.items a.status plays (record { counted = n.counted; named = n.named; full = full }) (subst G l (subst F e h))
+pub compared_with : (bytes : List ℕ) (r : Recorded) (home : Pos → Pos) (p q : CheckedProgram) (lists named : ListsByObject) (o : Result AnswerOf NoMemory)
+    → Plays bytes r p.program home → q ≡ p → lists ≡ named → AreNamed p.program.items r.turns named → Full (program p.program) r.numbers r.limit (turns_in named)
+    → IfOk o (λ a. IsCompared r q.program home lists a.text.items a.status) → IfOk o (λ a. IsReplayed bytes a.text.items a.status)
+compared_with bytes r home p q lists named (Err m) plays e l n full h = tt
+compared_with bytes r home p q lists named (Ok a) plays e l n full h =
+    let F : CheckedProgram → Type 0 = λ x. IsCompared r x.program home lists a.text.items a.status in
+    let G : ListsByObject → Type 0 = λ x. IsCompared r p.program home x a.text.items a.status in
+    compared_is bytes r p.program home named a.text.items a.status plays (record { counted = n.counted; named = n.named; full = full }) (subst G l (subst F e h))
 
 -- lists of one length with the same items are the same
 by_places : (xs ys : ListsByObject) → length xs ≡ length ys → ((o : ℕ) → o < length xs → turns_in xs o ≡ turns_in ys o) → xs ≡ ys
@@ -120,22 +124,23 @@ none_turned : (r : Recorded) (tree : Program) (lists : ListsByObject) → AreNam
 none_turned r tree lists n off others h =
     off (subst (λ ls. Full (program tree) r.numbers r.limit (turns_in ls)) (only_these r tree lists others n h) h.full)
 
-turnless_is : (bytes : List ℕ) (r : Recorded) (tree : Program) (o : Result AnswerOf NoMemory) → Plays bytes r tree
+turnless_is : (bytes : List ℕ) (r : Recorded) (tree : Program) (home : Pos → Pos) (o : Result AnswerOf NoMemory) → Plays bytes r tree home
     → ((lists : ListsByObject) → HasTurns r (program tree) lists → ⊥) → IfOk o (λ a. (a.text.items ≡ no_turns_text) × (a.status ≡ Replay))
     → IfOk o (λ a. IsReplayed bytes a.text.items a.status)
-turnless_is bytes r tree (Ok a) p none h = turnless r tree p none h.0 h.1
-turnless_is bytes r tree (Err m) p none h = tt
+turnless_is bytes r tree home (Ok a) p none h = turnless r tree home p none h.0 h.1
+turnless_is bytes r tree home (Err m) p none h = tt
 
-pub off_is : (bytes : List ℕ) (r : Recorded) (p q : CheckedProgram) (lists : ListsByObject) (o : Result AnswerOf NoMemory) → Plays bytes r p.program → q ≡ p
+pub off_is : (bytes : List ℕ) (r : Recorded) (home : Pos → Pos) (p q : CheckedProgram) (lists : ListsByObject) (o : Result AnswerOf NoMemory)
+    → Plays bytes r p.program home → q ≡ p
     → AreNamed p.program.items r.turns lists → (Full (program q.program) r.numbers r.limit (turns_in lists) → ⊥)
     → IfOk o (λ a. (a.text.items ≡ no_turns_text) × (a.status ≡ Replay)) → IfOk o (λ a. IsReplayed bytes a.text.items a.status)
-off_is bytes r p q lists o plays e n off h =
+off_is bytes r home p q lists o plays e n off h =
     let F : CheckedProgram → Type 0 = λ x. Full (program x.program) r.numbers r.limit (turns_in lists) → ⊥ in
-    turnless_is bytes r p.program o plays (none_turned r p.program lists n (subst F e off)) h
+    turnless_is bytes r p.program home o plays (none_turned r p.program lists n (subst F e off)) h
 
-pub unnamed_is : (bytes : List ℕ) (r : Recorded) (tree : Program) (o : Result AnswerOf NoMemory) → Plays bytes r tree → NoneNamed tree.items r.turns
+pub unnamed_is : (bytes : List ℕ) (r : Recorded) (tree : Program) (home : Pos → Pos) (o : Result AnswerOf NoMemory) → Plays bytes r tree home → NoneNamed tree.items r.turns
     → IfOk o (λ a. (a.text.items ≡ no_turns_text) × (a.status ≡ Replay)) → IfOk o (λ a. IsReplayed bytes a.text.items a.status)
-unnamed_is bytes r tree o plays none h = turnless_is bytes r tree o plays (λ lists t. none (turns_in lists) t.named) h
+unnamed_is bytes r tree home o plays none h = turnless_is bytes r tree home o plays (λ lists t. none (turns_in lists) t.named) h
 
 -- the report of a run of the program that was compiled is that of the program, by its own turns
 pub run_report : (r told : Report) (plan : RunPlan) (q s : CheckedProgram) (ns : List ℤ) (limit : ℕ) → r ≡ told
@@ -187,11 +192,12 @@ pub text_few : (r : Recorded) (bytes : List ℕ) → recording r ≡ bytes → l
 text_few r bytes e h = let m = text_within r bytes e in omega (arith, m, h)
 
 -- a program that plays keeps the rules of shape
-pub plays_shaped : (bytes : List ℕ) (r : Recorded) (tree : Program) → length bytes ≤ 1048576 → Plays bytes r tree
+pub plays_shaped : (bytes : List ℕ) (r : Recorded) (tree : Program) (home : Pos → Pos) → length bytes ≤ 1048576 → Plays bytes r tree home
     → ((text : List ℕ) (tokens : TokenList) (p : Program) → length text ≤ 1048576 → reading text ≡ Whole tokens → IsReading tokens p → is_shaped p ≡ true)
     → is_shaped tree ≡ true
-plays_shaped bytes r tree within p shaped =
-    shaped r.text p.good.reads.tokens tree (text_few r bytes p.recorded.whole within) p.good.reads.whole p.good.reads.read
+plays_shaped bytes r tree home within p shaped =
+    let g = p.good.read in
+    shaped g.text g.reads.tokens tree (stands_within r.text g.text home (text_few r bytes p.recorded.whole within) g.stands) g.reads.whole g.reads.read
 
 -- a text is refused, or its count of numbers is, where it is not run
 not_run : (a : Answer) (status : Status) → status ≡ answer_status a → (status ≡ Refused) ⊎ (status ≡ Numbers) → ⊥
@@ -202,8 +208,8 @@ not_run (Cells store) status e (inr f) = absurd (cc)
 
 settled_as : (bytes : List ℕ) (r : Recorded) (text : List ℕ) (status : Status) → IsRecording bytes r → (status ≡ Refused) ⊎ (status ≡ Numbers)
     → IsAnswered r.text r.numbers r.limit in_order text status → IsReplayed bytes text status
-settled_as bytes r text status rec u (answered tree g n s) = absurd (not_run (answer (program tree) r.numbers r.limit in_order) status s.ended u)
-settled_as bytes r text status rec u (miscounted tree g n t s) = uncounted r rec tree g n t s
+settled_as bytes r text status rec u (answered tree home g n s) = absurd (not_run (traced home (answer (program tree) r.numbers r.limit in_order)) status s.ended u)
+settled_as bytes r text status rec u (miscounted tree home g n t s) = uncounted r rec tree home g n t s
 settled_as bytes r text status rec u (refused place why f t s) = unfit r rec place why f t s
 
 -- a recording whose text is answered without a run

@@ -2,6 +2,7 @@
 use Rattle.std.proofs.Common.{◌≡◌, ◌≢◌, ℕ, zero, suc, ◌+◌, ◌<◌, ◌≤◌, ◌⊎◌, inl, inr, List, [], ◌∷◌, ◌++◌, length, take, map, refl, ap, sym, ◌∙◌, subst, arith, append_assoc, length-append, All}
 use Rattle.std.specs.Prelude.{ℤ}
 use Rattle.std.proofs.lemmas.List.{take_all}
+use Rattle.jade_base.specs.declared.place.Pos.{Pos}
 use Rattle.jade_syntax.specs.Abstract.{AbstractProgram}
 use Rattle.jade_syntax.specs.declared.tree.Program.{Program}
 use Rattle.jade_syntax.specs.Image.{program}
@@ -10,7 +11,6 @@ use Rattle.jade_syntax.proofs.Limits.{labels_counted}
 use Rattle.jade_meaning.specs.Answer.{Answer, Faulted, Cells, answer}
 use Rattle.jade_meaning.specs.Serial.{Path}
 use Rattle.jade_meaning.specs.Turns.{in_order, turns_in}
-use Rattle.jade_reading.specs.Reading.{ReadsAs}
 use Rattle.run_record.specs.declared.turns.LabelledTurn.{LabelledTurn}
 use Rattle.run_record.specs.Form.{at_head, BreaksAt}
 use Rattle.run_record.specs.Recording.{Recorded, lines, ended, recording}
@@ -22,7 +22,7 @@ use Rattle.record_parts.proofs.Cutting.{lines_once}
 use Rattle.record_parts.proofs.Matching.{first_is, first_is_not}
 use Rattle.jade_run.specs.declared.status.Status.{Status}
 use Rattle.jade_run.specs.declared.status.Status.TheVariants.{Good, Fault, Refused, Numbers, Replay}
-use Rattle.jade_run.specs.Answered.{TurnLists, IsAnswered, IsGood, answered, miscounted, refused, answer_text, answer_status, input_count}
+use Rattle.jade_run.specs.Answered.{TurnLists, IsAnswered, IsGood, IsRead, answered, miscounted, refused, answer_text, answer_status, input_count}
 use Rattle.jade_run.specs.Outcome.{SameOutcome}
 use Rattle.jade_run.specs.Recordings.{
   AreAnswer,
@@ -42,8 +42,10 @@ use Rattle.jade_run.specs.Recordings.{
   differs,
   same,
 }
+use Rattle.jade_run.specs.Standing.{traced}
 use Rattle.jade_run.specs.Texts.{differs_text, form_text, no_turns_text, same_text}
-use Rattle.jade_run.proofs.Alike.{Parses, good_or_refused, same_answers, same_count, same_program}
+use Rattle.jade_run.proofs.Alike.{Parses, good_or_refused, same_answers, same_count, same_home, same_program}
+use Rattle.jade_run.proofs.Standings.{stands_within}
 
 -- ---- the first line that breaks the form
 
@@ -162,17 +164,17 @@ one_lists tree r a b apart h k =
 -- ---- a recording is replayed
 
 -- what the turns and the answer of a recording come to
-data Turned (r : Recorded) (p : AbstractProgram) (text : List ℕ) (status : Status) : Type 0 where
-  without : ((lists : ListsByObject) → HasTurns r p lists → ⊥) → text ≡ no_turns_text → status ≡ Replay → Turned r p text status
-  unlike : (lists : ListsByObject) → HasTurns r p lists → (AreAnswer r.answer p r.numbers r.limit (turns_in lists) → ⊥) → text ≡ differs_text → status ≡ Replay →
-      Turned r p text status
-  alike : (lists : ListsByObject) → HasTurns r p lists → AreAnswer r.answer p r.numbers r.limit (turns_in lists) → text ≡ same_text → status ≡ Good →
-      Turned r p text status
+data Turned (r : Recorded) (p : AbstractProgram) (home : Pos → Pos) (text : List ℕ) (status : Status) : Type 0 where
+  without : ((lists : ListsByObject) → HasTurns r p lists → ⊥) → text ≡ no_turns_text → status ≡ Replay → Turned r p home text status
+  unlike : (lists : ListsByObject) → HasTurns r p lists → (AreAnswer r.answer p home r.numbers r.limit (turns_in lists) → ⊥) → text ≡ differs_text → status ≡ Replay →
+      Turned r p home text status
+  alike : (lists : ListsByObject) → HasTurns r p lists → AreAnswer r.answer p home r.numbers r.limit (turns_in lists) → text ≡ same_text → status ≡ Good →
+      Turned r p home text status
 
 -- what the text of a recording comes to: it is not run, or its turns are looked at
 data Judged (r : Recorded) (text : List ℕ) (status : Status) : Type 0 where
   settled : IsAnswered r.text r.numbers r.limit in_order text status → (status ≡ Good → ⊥) → (status ≡ Fault → ⊥) → Judged r text status
-  played : (tree : Program) → IsGood r.text tree → length r.numbers ≡ input_count tree → Turned r (program tree) text status → Judged r text status
+  played : (tree : Program) (home : Pos → Pos) → IsGood r.text tree home → length r.numbers ≡ input_count tree → Turned r (program tree) home text status → Judged r text status
 
 -- what bytes come to that are replayed: they are no recording, or its text is looked at
 data Retold (bytes text : List ℕ) (status : Status) : Type 0 where
@@ -194,48 +196,52 @@ numbers_fault s e f = absurd (cc)
 retold : (bytes text : List ℕ) (status : Status) → IsReplayed bytes text status → Retold bytes text status
 retold bytes text status (formless line b t s) = broken line b t s
 retold bytes text status (unfit r h place why for t s) = recorded r h (settled (refused place why for t s) (refused_good status s) (refused_fault status s))
-retold bytes text status (uncounted r h tree g n t s) = recorded r h (settled (miscounted tree g n t s) (numbers_good status s) (numbers_fault status s))
-retold bytes text status (turnless r tree p never t s) = recorded r p.recorded (played tree p.good p.counted (without never t s))
-retold bytes text status (differs r tree p lists h never t s) = recorded r p.recorded (played tree p.good p.counted (unlike lists h never t s))
-retold bytes text status (same r tree lists h t s) = recorded r h.plays.recorded (played tree h.plays.good h.plays.counted (alike lists h.turned h.told t s))
+retold bytes text status (uncounted r h tree home g n t s) = recorded r h (settled (miscounted tree home g n t s) (numbers_good status s) (numbers_fault status s))
+retold bytes text status (turnless r tree home p never t s) = recorded r p.recorded (played tree home p.good p.counted (without never t s))
+retold bytes text status (differs r tree home p lists h never t s) = recorded r p.recorded (played tree home p.good p.counted (unlike lists h never t s))
+retold bytes text status (same r tree home lists h t s) = recorded r h.plays.recorded (played tree home h.plays.good h.plays.counted (alike lists h.turned h.told t s))
 
-same_turned : (r : Recorded) (tree : Program) (t u : List ℕ) (s q : Status) → AreApart (map label_text (labels tree.items)) → Turned r (program tree) t s →
-    Turned r (program tree) u q → SameOutcome t s u q
-same_turned r tree t u s q apart (without never a b) (without never' c d) = record { text = a ∙ sym c; status = b ∙ sym d }
-same_turned r tree t u s q apart (without never a b) (unlike lists h denied c d) = absurd (never lists h)
-same_turned r tree t u s q apart (without never a b) (alike lists h told c d) = absurd (never lists h)
-same_turned r tree t u s q apart (unlike lists h denied a b) (without never c d) = absurd (never lists h)
-same_turned r tree t u s q apart (unlike lists h denied a b) (unlike lists' h' denied' c d) = record { text = a ∙ sym c; status = b ∙ sym d }
-same_turned r tree t u s q apart (unlike lists h denied a b) (alike lists' h' told c d) =
-    let F : ListsByObject → Type 0 = λ z. AreAnswer r.answer (program tree) r.numbers r.limit (turns_in z) in
+same_turned : (r : Recorded) (tree : Program) (home : Pos → Pos) (t u : List ℕ) (s q : Status) → AreApart (map label_text (labels tree.items)) → Turned r (program tree) home t s →
+    Turned r (program tree) home u q → SameOutcome t s u q
+same_turned r tree home t u s q apart (without never a b) (without never' c d) = record { text = a ∙ sym c; status = b ∙ sym d }
+same_turned r tree home t u s q apart (without never a b) (unlike lists h denied c d) = absurd (never lists h)
+same_turned r tree home t u s q apart (without never a b) (alike lists h told c d) = absurd (never lists h)
+same_turned r tree home t u s q apart (unlike lists h denied a b) (without never c d) = absurd (never lists h)
+same_turned r tree home t u s q apart (unlike lists h denied a b) (unlike lists' h' denied' c d) = record { text = a ∙ sym c; status = b ∙ sym d }
+same_turned r tree home t u s q apart (unlike lists h denied a b) (alike lists' h' told c d) =
+    let F : ListsByObject → Type 0 = λ z. AreAnswer r.answer (program tree) home r.numbers r.limit (turns_in z) in
     absurd (denied (subst F (one_lists tree r lists' lists apart h' h) told))
-same_turned r tree t u s q apart (alike lists h told a b) (without never c d) = absurd (never lists h)
-same_turned r tree t u s q apart (alike lists h told a b) (unlike lists' h' denied c d) =
-    let F : ListsByObject → Type 0 = λ z. AreAnswer r.answer (program tree) r.numbers r.limit (turns_in z) in
+same_turned r tree home t u s q apart (alike lists h told a b) (without never c d) = absurd (never lists h)
+same_turned r tree home t u s q apart (alike lists h told a b) (unlike lists' h' denied c d) =
+    let F : ListsByObject → Type 0 = λ z. AreAnswer r.answer (program tree) home r.numbers r.limit (turns_in z) in
     absurd (denied (subst F (one_lists tree r lists lists' apart h h') told))
-same_turned r tree t u s q apart (alike lists h told a b) (alike lists' h' told' c d) = record { text = a ∙ sym c; status = b ∙ sym d }
+same_turned r tree home t u s q apart (alike lists h told a b) (alike lists' h' told' c d) = record { text = a ∙ sym c; status = b ∙ sym d }
 
 answers_well : (a : Answer) (s : Status) → s ≡ answer_status a → (s ≡ Good → ⊥) → (s ≡ Fault → ⊥) → ⊥
 answers_well (Faulted path blame) s e good fault = fault e
 answers_well (Cells store) s e good fault = good e
 
 -- a program that is run comes to an answer
-is_run : Parses → (bytes : List ℕ) (numbers : List ℤ) (limit : ℕ) (turns : TurnLists) (x : Program) (t : List ℕ) (s : Status) → IsGood bytes x →
+is_run : Parses → (bytes : List ℕ) (numbers : List ℤ) (limit : ℕ) (turns : TurnLists) (x : Program) {f : Pos → Pos} (t : List ℕ) (s : Status) → IsGood bytes x f →
     length numbers ≡ input_count x → IsAnswered bytes numbers limit turns t s → (s ≡ Good → ⊥) → (s ≡ Fault → ⊥) → ⊥
-is_run law bytes numbers limit turns x t s g n (answered y h m a) good fault = answers_well (answer (program y) numbers limit turns) s a.ended good fault
-is_run law bytes numbers limit turns x t s g n (miscounted y h m a b) good fault = m (n ∙ same_count law bytes x y g.reads h.reads)
+is_run law bytes numbers limit turns x t s g n (answered y k h m a) good fault = answers_well (traced k (answer (program y) numbers limit turns)) s a.ended good fault
+is_run law bytes numbers limit turns x t s g n (miscounted y k h m a b) good fault = m (n ∙ same_count law bytes x y g.read h.read)
 is_run law bytes numbers limit turns x t s g n (refused place why k a b) good fault = good_or_refused law bytes x place why g k
 
-objects_apart : Parses → (bytes : List ℕ) (tree : Program) → length bytes ≤ 1048576 → IsGood bytes tree → AreApart (map label_text (labels tree.items))
-objects_apart law bytes tree le g = program_apart tree (law.shaped bytes g.reads.tokens tree le g.reads.whole g.reads.read) g.faultless
+objects_apart : Parses → (bytes : List ℕ) (tree : Program) (home : Pos → Pos) → length bytes ≤ 1048576 → IsGood bytes tree home → AreApart (map label_text (labels tree.items))
+objects_apart law bytes tree home le g =
+    let r = g.read in
+    program_apart tree (law.shaped r.text r.reads.tokens tree (stands_within bytes r.text home le r.stands) r.reads.whole r.reads.read) g.faultless
 
 same_judged : Parses → (r : Recorded) (t u : List ℕ) (s q : Status) → length r.text ≤ 1048576 → Judged r t s → Judged r u q → SameOutcome t s u q
 same_judged law r t u s q le (settled h good fault) (settled k good' fault') = same_answers law r.text r.numbers r.limit in_order t u s q h k
-same_judged law r t u s q le (settled h good fault) (played y k n v) = absurd (is_run law r.text r.numbers r.limit in_order y t s k n h good fault)
-same_judged law r t u s q le (played x h n v) (settled k good fault) = absurd (is_run law r.text r.numbers r.limit in_order x u q h n k good fault)
-same_judged law r t u s q le (played x h n v) (played y k m w) =
-    let F : AbstractProgram → Type 0 = λ p. Turned r p t s in
-    same_turned r y t u s q (objects_apart law r.text y le k) (subst F (same_program law r.text x y h.reads k.reads) v) w
+same_judged law r t u s q le (settled h good fault) (played y f k n v) = absurd (is_run law r.text r.numbers r.limit in_order y t s k n h good fault)
+same_judged law r t u s q le (played x f h n v) (settled k good fault) = absurd (is_run law r.text r.numbers r.limit in_order x u q h n k good fault)
+same_judged law r t u s q le (played x f h n v) (played y e k m w) =
+    let F : AbstractProgram → Type 0 = λ p. Turned r p f t s in
+    let G : (Pos → Pos) → Type 0 = λ z. Turned r (program y) z t s in
+    let here : Turned r (program y) f t s = subst F (same_program law r.text x y h.read k.read) v in
+    same_turned r y e t u s q (objects_apart law r.text y e le k) (subst G (same_home r.text x y f e h.read k.read) here) w
 
 text_within : (bytes : List ℕ) (r : Recorded) → IsRecording bytes r → length bytes ≤ 1048576 → length r.text ≤ 1048576
 text_within bytes r h le =
@@ -259,15 +265,17 @@ same_replayed law bytes t u s q le h k = same_retold law bytes t u s q le (retol
 
 -- ---- a run is recorded
 
-same_recorded : Parses → (bytes : List ℕ) (numbers : List ℤ) (limit : ℕ) (turns : TurnLists) (x y : Program) (r q : Recorded) → ReadsAs bytes x → ReadsAs bytes y →
-    IsRecordingOf bytes x numbers limit turns r → IsRecordingOf bytes y numbers limit turns q → r ≡ q
-same_recorded law bytes numbers limit turns x y r q g h a b =
+same_recorded : Parses → (bytes : List ℕ) (numbers : List ℤ) (limit : ℕ) (turns : TurnLists) (x y : Program) (f e : Pos → Pos) (r q : Recorded) → IsRead bytes x f →
+    IsRead bytes y e → IsRecordingOf bytes x f numbers limit turns r → IsRecordingOf bytes y e numbers limit turns q → r ≡ q
+same_recorded law bytes numbers limit turns x y f e r q g h a b =
     let p : program x ≡ program y = same_program law bytes x y g h in
-    let F : AbstractProgram → Type 0 = λ z. AreAnswer r.answer z numbers limit turns in
+    let F : AbstractProgram → Type 0 = λ z. AreAnswer r.answer z f numbers limit turns in
+    let G : (Pos → Pos) → Type 0 = λ z. AreAnswer r.answer (program y) z numbers limit turns in
+    let there : AreAnswer r.answer (program y) e numbers limit turns = subst G (same_home bytes x y f e g h) (subst F p a.told) in
     let limits : r.limit ≡ q.limit = a.limited ∙ sym b.limited in
     let given : r.numbers ≡ q.numbers = a.given ∙ sym b.given in
     let taken : r.turns ≡ q.turns = a.taken ∙ ap (λ (z : AbstractProgram). labelled_turns z.items turns) p ∙ sym b.taken in
-    let told : r.answer ≡ q.answer = lines_once r.answer q.answer (answer_text (program y) (answer (program y) numbers limit turns)) (subst F p a.told) b.told in
+    let told : r.answer ≡ q.answer = lines_once r.answer q.answer (answer_text (program y) (traced e (answer (program y) numbers limit turns))) there b.told in
     let texts : r.text ≡ q.text = a.of_text ∙ sym b.of_text in
     let A : ℕ → Recorded = λ z. record { limit = z; numbers = r.numbers; turns = r.turns; answer = r.answer; text = r.text } in
     let B : List ℤ → Recorded = λ z. record { limit = q.limit; numbers = z; turns = r.turns; answer = r.answer; text = r.text } in
@@ -283,20 +291,20 @@ too_long r q e le lt = apart (length (recording r)) (length (recording q)) (ap (
 
 pub same_kept : Parses → (bytes : List ℕ) (numbers : List ℤ) (limit : ℕ) (turns : TurnLists) (t u : List ℕ) (s q : Status) → IsKept bytes numbers limit turns t s →
     IsKept bytes numbers limit turns u q → SameOutcome t s u q
-same_kept law bytes numbers limit turns t u s q (kept x g n r h le a b) (kept y k m p j le' c d) =
-    let one = same_recorded law bytes numbers limit turns x y r p g.reads k.reads h j in
+same_kept law bytes numbers limit turns t u s q (kept x f g n r h le a b) (kept y e k m p j le' c d) =
+    let one = same_recorded law bytes numbers limit turns x y f e r p g.read k.read h j in
     record { text = a ∙ ap recording one ∙ sym c; status = b ∙ sym d }
-same_kept law bytes numbers limit turns t u s q (kept x g n r h le a b) (long y k m p j lt c d) =
-    absurd (too_long r p (same_recorded law bytes numbers limit turns x y r p g.reads k.reads h j) le lt)
-same_kept law bytes numbers limit turns t u s q (kept x g n r h le a b) (not_run k good fault) =
+same_kept law bytes numbers limit turns t u s q (kept x f g n r h le a b) (long y e k m p j lt c d) =
+    absurd (too_long r p (same_recorded law bytes numbers limit turns x y f e r p g.read k.read h j) le lt)
+same_kept law bytes numbers limit turns t u s q (kept x f g n r h le a b) (not_run k good fault) =
     absurd (is_run law bytes numbers limit turns x u q g n k good fault)
-same_kept law bytes numbers limit turns t u s q (long x g n r h lt a b) (kept y k m p j le c d) =
-    absurd (too_long p r (same_recorded law bytes numbers limit turns y x p r k.reads g.reads j h) le lt)
-same_kept law bytes numbers limit turns t u s q (long x g n r h lt a b) (long y k m p j lt' c d) = record { text = a ∙ sym c; status = b ∙ sym d }
-same_kept law bytes numbers limit turns t u s q (long x g n r h lt a b) (not_run k good fault) =
+same_kept law bytes numbers limit turns t u s q (long x f g n r h lt a b) (kept y e k m p j le c d) =
+    absurd (too_long p r (same_recorded law bytes numbers limit turns y x e f p r k.read g.read j h) le lt)
+same_kept law bytes numbers limit turns t u s q (long x f g n r h lt a b) (long y e k m p j lt' c d) = record { text = a ∙ sym c; status = b ∙ sym d }
+same_kept law bytes numbers limit turns t u s q (long x f g n r h lt a b) (not_run k good fault) =
     absurd (is_run law bytes numbers limit turns x u q g n k good fault)
-same_kept law bytes numbers limit turns t u s q (not_run h good fault) (kept y k m p j le c d) =
+same_kept law bytes numbers limit turns t u s q (not_run h good fault) (kept y e k m p j le c d) =
     absurd (is_run law bytes numbers limit turns y t s k m h good fault)
-same_kept law bytes numbers limit turns t u s q (not_run h good fault) (long y k m p j lt c d) =
+same_kept law bytes numbers limit turns t u s q (not_run h good fault) (long y e k m p j lt c d) =
     absurd (is_run law bytes numbers limit turns y t s k m h good fault)
 same_kept law bytes numbers limit turns t u s q (not_run h good fault) (not_run k good' fault') = same_answers law bytes numbers limit turns t u s q h k

@@ -1,6 +1,7 @@
 -- What the report of a run tells.
 use Rattle.std.proofs.Common.{◌≡◌, ℕ, List, Option, ap, refl, sym, subst, ◌∙◌, map}
 use Rattle.std.specs.Prelude.{ℤ}
+use Rattle.jade_base.specs.declared.place.Pos.{Pos}
 use Rattle.jade_base.specs.declared.report.Report.{Report}
 use Rattle.jade_syntax.specs.Abstract.{AbstractProgram}
 use Rattle.jade_syntax.specs.CheckedProgram.{CheckedProgram}
@@ -14,8 +15,10 @@ use Rattle.jade_syntax.specs.declared.tree.Program.{Program as ProgramOf}
 use Rattle.jade_run.specs.declared.answer.Ready.{Ready}
 use Rattle.jade_run.specs.declared.answer.Ready.TheVariants.{Program, Answered}
 use Rattle.jade_run.specs.declared.answer.Answer.{Answer as AnswerOf}
+use Rattle.jade_run.specs.declared.standing.Home.{Home}
 use Rattle.jade_run.specs.declared.status.Status.{Status}
 use Rattle.jade_run.specs.Answered.{fault_key, Shows, TurnLists}
+use Rattle.jade_run.specs.Standing.{traced}
 use Rattle.jade_run.specs.Witnessed.{SeenRun, seen_with}
 use Rattle.jade_run.specs.steps.Ending.{ShownRun}
 use Rattle.jade_run.specs.steps.Preparing.{IsReady, IsSettled}
@@ -32,17 +35,18 @@ pub faults_ascend : (r : Report) (p : AbstractProgram) (ns : List ℤ) (limit : 
 faults_ascend r p ns limit turns e h = let P : Report → Type 0 = λ x. Ascends (map fault_key x.faults) in subst P (sym e) h
 
 -- what shows the answer that the report tells shows the program's
-pub shows_answer : (r : Report) (p q s : CheckedProgram) (ns : List ℤ) (limit : ℕ) (turns : TurnLists) (text : List ℕ) (status : Status)
+pub shows_answer : (r : Report) (home : Pos → Pos) (p q s : CheckedProgram) (ns : List ℤ) (limit : ℕ) (turns : TurnLists) (text : List ℕ) (status : Status)
     → r ≡ report (program p.program) ns limit turns →
-    q ≡ p → s ≡ q → ReportTells (program p.program) ns limit turns → Shows (program s.program) (report_answer limit r) text status →
-    Shows (program p.program) (answer (program p.program) ns limit turns) text status
-shows_answer r p q s ns limit turns text status e f g t h =
-    let P : Answer → Type 0 = λ a. Shows (program p.program) a text status in
-    let Q : CheckedProgram → Type 0 = λ x. Shows (program x.program) (report_answer limit r) text status in
+    q ≡ p → s ≡ q → ReportTells (program p.program) ns limit turns → Shows (program s.program) (traced home (report_answer limit r)) text status →
+    Shows (program p.program) (traced home (answer (program p.program) ns limit turns)) text status
+shows_answer r home p q s ns limit turns text status e f g t h =
+    let P : Answer → Type 0 = λ a. Shows (program p.program) (traced home a) text status in
+    let Q : CheckedProgram → Type 0 = λ x. Shows (program x.program) (traced home (report_answer limit r)) text status in
     subst P (ap (report_answer limit) e ∙ t.same) (subst Q (g ∙ f) h)
 
-pub program_ready : (bytes : List ℕ) (ns : List ℤ) (r : Ready) (c : CheckedProgram) → r ≡ Program c → IsReady bytes ns r → IsReady bytes ns (Program c)
-program_ready bytes ns r c e h = subst (λ x. IsReady bytes ns x) e h
+pub program_ready : (bytes : List ℕ) (ns : List ℤ) (r : Ready) (c : CheckedProgram) (home : Home) → r ≡ Program c home → IsReady bytes ns r
+    → IsReady bytes ns (Program c home)
+program_ready bytes ns r c home e h = subst (λ x. IsReady bytes ns x) e h
 
 pub answered_ready : (bytes : List ℕ) (ns : List ℤ) (r : Ready) (a : AnswerOf) → r ≡ Answered a → IsReady bytes ns r →
     IsSettled bytes ns a.text.items a.status

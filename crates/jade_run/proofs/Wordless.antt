@@ -1,6 +1,7 @@
--- A text in which no `c` stands before an `m` is one of a program without the word `cm`.
+-- A text in which no `c` stands before an `m` is one of a program without the word `cm`, and one in which no `p` stands before an `r` has no procedures.
 use Rattle.std.proofs.Common.{◌≡◌, ℕ, ◌≤◌, Bool, true, false, ◌&&◌, ◌||◌, not, List, [], ◌∷◌, ◌++◌, Some, None, map, refl, sym, ap, ◌∙◌, subst, arith, rules}
-use Rattle.std.specs.Prelude.{◌==◌}
+use Rattle.std.specs.Prelude.{◌==◌, codes, nat_eq}
+use Rattle.std.proofs.lemmas.Bool.{eqb-true}
 use Rattle.std.specs.List.{list_all, flat_map}
 use Rattle.std.specs.Char.{is_ascii_digit}
 use Rattle.std.specs.Fmt.{decimal}
@@ -31,7 +32,11 @@ use Rattle.jade_parser.specs.Kinds.{token_bytes}
 use Rattle.jade_parser.specs.Statements.{braced, name_parts, else_parts, at_statement, statement_parts, block_parts}
 use Rattle.jade_parser.specs.Programs.{head_parts, program_parts}
 use Rattle.jade_parser.specs.Grammar.{bytes_of}
+use Rattle.jade_syntax.specs.Numbering.{same_name}
 use Rattle.jade_reading.specs.Reading.{ReadsAs}
+use Rattle.proc_expand.specs.Words.{has_proc}
+use Rattle.jade_run.specs.Answered.{IsRead}
+use Rattle.jade_run.specs.Standing.{StandsFor, itself, expansion}
 use Rattle.jade_meaning.specs.Uncommuting.{is_cm, has_cm, any_cm, uses_cm}
 
 both_true : (a b : Bool) → (a && b) ≡ true → (a ≡ true) × (b ≡ true)
@@ -50,14 +55,18 @@ and_both a b p q = rw (p, q) refl
 
 -- ---- the bytes
 
-abbrev begins_m : List ℕ → Bool
-begins_m [] = false
-begins_m (b ∷ bytes) = b == 109
+abbrev begins : (byte : ℕ) → List ℕ → Bool
+begins c [] = false
+begins c (b ∷ bytes) = b == c
+
+-- somewhere one byte stands behind another
+abbrev pair : (first second : ℕ) → List ℕ → Bool
+pair a c [] = false
+pair a c (b ∷ bytes) = (b == a && begins c bytes) || pair a c bytes
 
 -- somewhere an `m` stands behind a `c`
-abbrev pub joins : List ℕ → Bool
-joins [] = false
-joins (b ∷ bytes) = (b == 99 && begins_m bytes) || joins bytes
+abbrev joins : List ℕ → Bool
+joins bytes = pair 99 109 bytes
 
 abbrev is_word : List ℕ → Bool
 is_word [] = false
@@ -68,9 +77,9 @@ is_word (b ∷ c ∷ d ∷ bytes) = false
 abbrev other : List ℕ → Bool
 other bytes = not (is_word bytes)
 
-later : (front after : List ℕ) → joins (front ++ after) ≡ false → joins after ≡ false
-later [] after h = h
-later (b ∷ front) after h = later front after (neither (b == 99 && begins_m (front ++ after)) (joins (front ++ after)) h).1
+later : (a c : ℕ) (front after : List ℕ) → pair a c (front ++ after) ≡ false → pair a c after ≡ false
+later a c [] after h = h
+later a c (b ∷ front) after h = later a c front after (neither (b == a && begins c (front ++ after)) (pair a c (front ++ after)) h).1
 
 not_word : (x after : List ℕ) → joins (x ++ after) ≡ false → other x ≡ true
 not_word [] after h = refl
@@ -81,10 +90,10 @@ not_word (b ∷ c ∷ d ∷ x) after h = refl
 none_cut : {end : Pos} {spot : _} {bytes : List ℕ} {ts : List TokenAt} → Cut end spot bytes ts → joins bytes ≡ false
     → list_all other (map (λ (t : TokenAt). t.bytes) ts) ≡ true
 none_cut (nothing e) h = refl
-none_cut (blank front after e b rest) h = none_cut rest (later front after (subst (λ l. joins l ≡ false) e h))
+none_cut (blank front after e b rest) h = none_cut rest (later 99 109 front after (subst (λ l. joins l ≡ false) e h))
 none_cut (token {t = t} {tokens = more} after e p q l s rest) h =
     let k : joins (t.bytes ++ after) ≡ false = subst (λ x. joins x ≡ false) e h in
-    and_both (other t.bytes) (list_all other (map (λ (x : TokenAt). x.bytes) more)) (not_word t.bytes after k) (none_cut rest (later t.bytes after k))
+    and_both (other t.bytes) (list_all other (map (λ (x : TokenAt). x.bytes) more)) (not_word t.bytes after k) (none_cut rest (later 99 109 t.bytes after k))
 
 -- ---- the parts
 
@@ -214,7 +223,7 @@ abbrev pub CutsText : Type 0
 CutsText = (text : List ℕ) (tokens : TokenList) → reading text ≡ Whole tokens → IsCut text tokens
 
 -- a text in which no `m` stands behind a `c` reads as no program with the word
-pub wordless : CutsText → (bytes : List ℕ) (tree : Program) → joins bytes ≡ false → ReadsAs bytes tree → uses_cm (program tree) ≡ false
+wordless : CutsText → (bytes : List ℕ) (tree : Program) → joins bytes ≡ false → ReadsAs bytes tree → uses_cm (program tree) ≡ false
 wordless cuts bytes tree h r =
     let none = none_cut (cuts bytes r.tokens r.whole) h in
     clean_program tree (sym (bytes_are (program_parts tree)) ∙ ap (list_all other) r.read.spelled ∙ none)
@@ -224,18 +233,70 @@ wordless cuts bytes tree h r =
 own : IsNumeralModel (λ ds. list_all is_ascii_digit ds ≡ true) (value_after 0)
 own = numerals_by_fold _ (search rules) value_after (search rules)
 
-digit_not : (b : ℕ) → is_ascii_digit b ≡ true → (b == 99) ≡ false
-digit_not b h = grind (arith, nat_tests)
+digit_not_c : (b : ℕ) → is_ascii_digit b ≡ true → (b == 99) ≡ false
+digit_not_c b h = grind (arith, nat_tests)
 
-past_digits : (xs ys : List ℕ) → list_all is_ascii_digit xs ≡ true → joins (xs ++ ys) ≡ joins ys
-past_digits [] ys h = refl
-past_digits (b ∷ xs) ys h =
+digit_not_p : (b : ℕ) → is_ascii_digit b ≡ true → (b == 112) ≡ false
+digit_not_p b h = grind (arith, nat_tests)
+
+past_digits : (a c : ℕ) (xs ys : List ℕ) → ((b : ℕ) → is_ascii_digit b ≡ true → (b == a) ≡ false) → list_all is_ascii_digit xs ≡ true
+    → pair a c (xs ++ ys) ≡ pair a c ys
+past_digits a c [] ys other h = refl
+past_digits a c (b ∷ xs) ys other h =
     let q = both_true (is_ascii_digit b) (list_all is_ascii_digit xs) h in
-    ap (λ t. (t && begins_m (xs ++ ys)) || joins (xs ++ ys)) (digit_not b q.0) ∙ past_digits xs ys q.1
+    ap (λ t. (t && begins c (xs ++ ys)) || pair a c (xs ++ ys)) (other b q.0) ∙ past_digits a c xs ys other q.1
 
 -- in the drill text no `m` stands behind a `c`
-pub drill_joins : (tasks : ℕ) → tasks ≤ 10000 → joins (drill_text tasks) ≡ false
+drill_joins : (tasks : ℕ) → tasks ≤ 10000 → joins (drill_text tasks) ≡ false
 drill_joins tasks h =
     let head : joins (drill_text tasks) ≡ joins (decimal tasks ++ drill_tail) = refl in
     let tail : joins drill_tail ≡ false = refl in
-    head ∙ past_digits (decimal tasks) drill_tail (digits_decimal own tasks (omega arith)) ∙ tail
+    head ∙ past_digits 99 109 (decimal tasks) drill_tail digit_not_c (digits_decimal own tasks (omega arith)) ∙ tail
+
+-- nor an `r` behind a `p`
+drill_parts : (tasks : ℕ) → tasks ≤ 10000 → pair 112 114 (drill_text tasks) ≡ false
+drill_parts tasks h =
+    let head : pair 112 114 (drill_text tasks) ≡ pair 112 114 (decimal tasks ++ drill_tail) = refl in
+    let tail : pair 112 114 drill_tail ≡ false = refl in
+    head ∙ past_digits 112 114 (decimal tasks) drill_tail digit_not_p (digits_decimal own tasks (omega arith)) ∙ tail
+
+-- ---- procedures
+
+abbrev is_proc_word : List ℕ → Bool
+is_proc_word bytes = same_name bytes (codes "proc")
+
+same_name_is : (x y : List ℕ) → same_name x y ≡ true → x ≡ y
+same_name_is [] [] h = refl
+same_name_is [] (y ∷ ys) h = absurd (cc)
+same_name_is (x ∷ xs) [] h = absurd (cc)
+same_name_is (x ∷ xs) (y ∷ ys) h =
+    let both = both_true (nat_eq x y) (same_name xs ys) h in
+    let first : x ≡ y = eqb-true x y both.0 in
+    ap (λ z. z ∷ xs) first ∙ ap (λ zs. y ∷ zs) (same_name_is xs ys both.1)
+
+not_proc : (x after : List ℕ) → pair 112 114 (x ++ after) ≡ false → is_proc_word x ≡ false
+not_proc x after h = by_cases (is_proc_word x) refl where
+  joined : x ≡ codes "proc" → pair 112 114 (x ++ after) ≡ true
+  joined e = ap (λ y. pair 112 114 (y ++ after)) e
+
+  by_cases : (b : Bool) → is_proc_word x ≡ b → b ≡ false
+  by_cases false e = refl
+  by_cases true e = let yes = joined (same_name_is x (codes "proc") e) in absurd (cc)
+
+none_proc : {end : Pos} {spot : _} {bytes : List ℕ} {ts : List TokenAt} → Cut end spot bytes ts → pair 112 114 bytes ≡ false → has_proc ts ≡ false
+none_proc (nothing e) h = refl
+none_proc (blank front after e b rest) h = none_proc rest (later 112 114 front after (subst (λ l. pair 112 114 l ≡ false) e h))
+none_proc (token {t = t} {tokens = more} after e p q l s rest) h =
+    let k : pair 112 114 (t.bytes ++ after) ≡ false = subst (λ x. pair 112 114 x ≡ false) e h in
+    or_none (is_proc_word t.bytes) (has_proc more) (not_proc t.bytes after k) (none_proc rest (later 112 114 t.bytes after k))
+
+-- a text in which no `r` stands behind a `p` is read as it stands
+stands_itself : CutsText → (bytes text : List ℕ) (home : Pos → Pos) → pair 112 114 bytes ≡ false → StandsFor bytes text home → text ≡ bytes
+stands_itself cuts bytes text home h (itself ts r n a b) = a
+stands_itself cuts bytes text home h (expansion ts r n e o a b) = let none = none_proc (cuts bytes ts r) h in absurd (cc)
+
+pub drill_plain : CutsText → (tasks : ℕ) (tree : Program) (home : Pos → Pos) → tasks ≤ 10000 → IsRead (drill_text tasks) tree home
+    → uses_cm (program tree) ≡ false
+drill_plain cuts tasks tree home le r =
+    let same = stands_itself cuts (drill_text tasks) r.text home (drill_parts tasks le) r.stands in
+    wordless cuts (drill_text tasks) tree (drill_joins tasks le) (subst (λ t. ReadsAs t tree) same r.reads)

@@ -4,6 +4,7 @@ pub mod Headline
 pub mod Numbers
 pub mod Outcome
 pub mod Recordings
+pub mod Standing
 pub mod Sums
 pub mod steps
 pub mod Texts

@@ -1,5 +1,6 @@
 -- What a witness is shown of the runs of a call.
 use Rattle.std.specs.Prelude.{◌≡◌, ℕ, ℤ, List, [], ◌∷◌, ◌++◌, Option, Some, None}
+use Rattle.jade_base.specs.declared.place.Pos.{Pos}
 use Rattle.jade_gen.specs.Drill.{drill_text}
 use Rattle.jade_meaning.specs.Plan.{RunPlan}
 use Rattle.jade_meaning.specs.Serial.{Path}
@@ -8,10 +9,10 @@ use Rattle.jade_syntax.specs.Image.{program}
 use Rattle.jade_run.specs.declared.status.Status.{Status}
 use Rattle.jade_run.specs.declared.status.Status.TheVariants.{Good, Fault, Refused, Words, Numbers, Reading, Writing, Memory, Replay}
 use Rattle.jade_run.specs.declared.words.Command.{Command}
-use Rattle.jade_run.specs.declared.words.Command.TheVariants.{Run, Serial, Check, Show, Drill, Record, Replay as ToReplay}
+use Rattle.jade_run.specs.declared.words.Command.TheVariants.{Run, Serial, Check, Show, Drill, Record, Replay as ToReplay, Expand}
 use Rattle.jade_run.specs.Answered.{IsGood, TurnLists}
 use Rattle.jade_run.specs.Outcome.{IsCommanded}
-use Rattle.jade_run.specs.Words.{RunWords, SerialWords, CheckWords, ShowWords, DrillWords, RecordWords, ReplayWords, RefusesWords}
+use Rattle.jade_run.specs.Words.{RunWords, SerialWords, CheckWords, ShowWords, DrillWords, RecordWords, ReplayWords, ExpandWords, RefusesWords}
 
 -- what a witness is told of a run: what was run, and the turns that its tasks took on each object
 pub record SeenRun : Type 0 where
@@ -27,7 +28,8 @@ seen_with (Some runs) run = Some (runs ++ run ∷ [])
 pub record SawOne (bytes : List ℕ) (numbers : List ℤ) (limit : ℕ) (turns : TurnLists) (before after : Option (List SeenRun)) : Type 0 where
   pub run : SeenRun
   pub saw : after ≡ seen_with before run
-  pub good : IsGood bytes run.plan.program
+  pub home : Pos → Pos
+  pub good : IsGood bytes run.plan.program home
   pub given : run.plan.numbers ≡ numbers
   pub limited : run.plan.limit ≡ limit
   pub taken : turns ≡ turns_in run.turns
@@ -66,6 +68,7 @@ SawCommand Show bytes turns status before after = after ≡ before
 SawCommand (Drill tasks workers) bytes turns status before after = SawRun (drill_text tasks) [] 4294967295 turns status before after
 SawCommand (Record workers e) bytes turns status before after = SawKept bytes e.numbers e.limit turns status before after
 SawCommand ToReplay bytes turns status before after = after ≡ before
+SawCommand Expand bytes turns status before after = after ≡ before
 
 -- what a command comes to on a text by turn lists, and what is shown of it
 pub record Carried (c : Command) (bytes : List ℕ) (turns : TurnLists) (text : List ℕ) (status : Status) (before after : Option (List SeenRun)) : Type 0 where
@@ -78,6 +81,7 @@ pub data NeedsNoWorkers (words : List (List ℕ)) : Type 0 where
   checks : CheckWords words → NeedsNoWorkers words
   shows : ShowWords words → NeedsNoWorkers words
   replays : ReplayWords words → NeedsNoWorkers words
+  expands : ExpandWords words → NeedsNoWorkers words
   refuses : RefusesWords words → NeedsNoWorkers words
 
 -- what is shown of words and a text that come to this status by these turn lists: a run by workers with its turns, which are those lists

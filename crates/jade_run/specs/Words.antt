@@ -4,7 +4,7 @@ use Rattle.std.specs.List.{list_all}
 use Rattle.std.specs.Fmt.{decimal, signed_decimal}
 use Rattle.number_words.specs.Numbers.{is_number}
 use Rattle.jade_run.specs.declared.words.Command.{Command}
-use Rattle.jade_run.specs.declared.words.Command.TheVariants.{Run, Serial, Check, Show, Drill, Record, Replay}
+use Rattle.jade_run.specs.declared.words.Command.TheVariants.{Run, Serial, Check, Show, Drill, Record, Replay, Expand}
 use Rattle.jade_run.specs.declared.words.WordsError.{WordsError}
 use Rattle.jade_run.specs.declared.words.WordsError.TheVariants.{Usage, Memory}
 
@@ -52,6 +52,10 @@ pub record RecordWords (words : List (List ℕ)) (workers limit : ℕ) (numbers 
 pub record ReplayWords (words : List (List ℕ)) : Type 0 where
   pub spelled : words ≡ codes "replay" ∷ []
 
+-- `expand`
+pub record ExpandWords (words : List (List ℕ)) : Type 0 where
+  pub spelled : words ≡ codes "expand" ∷ []
+
 -- `serial LIMIT NUMBER*`
 pub record SerialWords (words : List (List ℕ)) (limit : ℕ) (numbers : List ℤ) : Type 0 where
   pub more : List (List ℕ)
@@ -88,6 +92,7 @@ pub data NeedsText (words : List (List ℕ)) : Type 0 where
   to_show : ShowWords words → NeedsText words
   to_record : (workers limit : ℕ) (numbers : List ℤ) → RecordWords words workers limit numbers → NeedsText words
   to_replay : ReplayWords words → NeedsText words
+  to_expand : ExpandWords words → NeedsText words
 
 -- no text is needed for the words: they are a drill's, or are refused
 abbrev pub NeedsNoText : List (List ℕ) → Type 0
@@ -111,6 +116,7 @@ Asks words Show = ShowWords words
 Asks words (Drill tasks workers) = DrillWords words tasks workers
 Asks words (Record workers e) = RecordWords words workers e.limit e.numbers
 Asks words Replay = ReplayWords words
+Asks words Expand = ExpandWords words
 
 -- whether a command works on a text
 abbrev pub works_on_text : Command → Bool
@@ -121,6 +127,7 @@ works_on_text Show = true
 works_on_text (Drill tasks workers) = false
 works_on_text (Record workers e) = true
 works_on_text Replay = true
+works_on_text Expand = true
 
 -- words are refused that are those of no command; want of memory says nothing of them
 abbrev pub IsUsage : List (List ℕ) → WordsError → Type 0

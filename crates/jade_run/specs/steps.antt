@@ -1,4 +1,5 @@
 pub mod Drilling
 pub mod Ending
+pub mod Homes
 pub mod Preparing
 pub mod Recording

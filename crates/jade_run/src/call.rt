@@ -2,29 +2,28 @@
 
 ghost use Rattle.std.specs.Prelude.{◌≡◌, ◌≤◌, [], length, IfOk, IfErr, MatchResult, codes};
 ghost use Rattle.jade_run.specs.Headline.{Answers, Headline, Stops};
-ghost use Rattle.jade_run.specs.Answered.{first_place, BySomeTurns};
+ghost use Rattle.jade_run.specs.Answered.{BySomeTurns};
 ghost use Rattle.jade_run.specs.Outcome.{IsAllowed};
+ghost use Rattle.jade_run.specs.Standing.{first_place};
 ghost use Rattle.jade_run.specs.Witnessed.{Carried};
 ghost use Rattle.jade_run.specs.Words.{NeedsNoText};
 ghost use Rattle.jade_run.specs.Texts.{refused_text, usage_text};
 
-use crate::answer::{Answer, check_text, show_text};
+use crate::answer::{Answer, check_text, expand_text, show_text};
 use crate::drill::run_drill;
 use crate::record::record_text;
 use crate::replay::replay_text;
 use crate::run::{run_text, serial_text};
+use crate::standing::FIRST_PLACE;
 use crate::status::Status;
 use crate::texts;
 use crate::witness::Witness;
 use crate::words::{Command, WordsError, command_of};
-use jade_base::{Memory, Pos, Sink, Source, TextError, Word, read_text, write_text};
+use jade_base::{Memory, Sink, Source, TextError, Word, read_text, write_text};
 use std::alloc::Global;
 use std::sync::Wait;
 use std::thread::Threads;
 use steal_workers::Gate;
-
-/// Where every text begins.
-const FIRST_PLACE: Pos = Pos { line: 1, column: 1 };
 
 /// Runs the command that the words after the program's name ask for: reads the text from the
 /// source where they are those of a command that works on one, writes what it comes to, and answers
@@ -179,6 +178,7 @@ fn of_text<R: Threads + Wait + Sync, G: Gate, W: Witness>(
             )
         }
         Command::Replay => replay_text(rt, alloc, text),
+        Command::Expand => expand_text(alloc, text),
     }
 }
 

@@ -9,11 +9,14 @@ ghost use Rattle.jade_meaning.specs.ReportAnswer.{report_answer};
 ghost use Rattle.jade_meaning.specs.Turns.{Full, turns_in};
 ghost use Rattle.jade_run.specs.Answered.{BySomeTurns};
 ghost use Rattle.jade_run.specs.Outcome.{IsCrew};
+ghost use Rattle.jade_run.specs.Standing.{traced};
+ghost use Rattle.jade_run.specs.steps.Homes.{home_of};
 ghost use Rattle.jade_run.specs.steps.Drilling.{IsDrillOf, IsRunDrill, ShowsSum};
 
 use crate::answer::{Answer, Ready, prepare};
 use crate::laws::drills_are_plain;
 use crate::run::answer_of;
+use crate::standing::Home;
 use crate::sums::total;
 use crate::witness::Witness;
 use crate::{Status, texts};
@@ -32,11 +35,18 @@ use task_codegen::compile;
 const MOST_STEPS: u32 = u32::MAX;
 
 /// What the run of a drill is answered with: a fault as that of any run, or else the sum of all cells.
-fn sum_of_run(alloc: Global, checked: &Checked, tasks: u32, ran: Ran<'_>) -> Result<Answer, Memory>
+fn sum_of_run(
+    alloc: Global,
+    checked: &Checked,
+    home: &Home,
+    tasks: u32,
+    ran: Ran<'_>,
+) -> Result<Answer, Memory>
     requires few { sum_by length (report (program ran.plan.program) ran.plan.numbers ran.plan.limit (turns_in ran.report.turns)).objects ≤ 1048576 }
     ensures full { IfOk result (λ _. Full (program ran.entry.plan.program) ran.entry.plan.numbers ran.entry.plan.limit (turns_in ran.entry.report.turns)) }
     ensures shows { IfOk result (λ a. ShowsSum (program checked.now.program) tasks
-        (report_answer 4294967295 (report (program ran.entry.plan.program) ran.entry.plan.numbers ran.entry.plan.limit (turns_in ran.entry.report.turns)))
+        (traced (home_of home.now)
+        (report_answer 4294967295 (report (program ran.entry.plan.program) ran.entry.plan.numbers ran.entry.plan.limit (turns_in ran.entry.report.turns))))
         a.text.items a.status) }
 {
     match ran.cells(MOST_STEPS) {
@@ -50,7 +60,7 @@ fn sum_of_run(alloc: Global, checked: &Checked, tasks: u32, ran: Ran<'_>) -> Res
     }
     report_ascends();
     let report = ran.report(alloc)?;
-    answer_of(alloc, checked, &report, MOST_STEPS)
+    answer_of(alloc, checked, home, &report, MOST_STEPS)
 }
 
 /// What the program of a drill comes to, where so many workers run its tasks. The witness is shown
@@ -59,6 +69,7 @@ fn drill_checked<R: Threads + Wait + Sync, G: Gate, W: Witness>(
     rt: &R,
     alloc: Global,
     checked: Checked,
+    home: &Home,
     tasks: u32,
     workers: u32,
     gate: &G,
@@ -67,7 +78,7 @@ fn drill_checked<R: Threads + Wait + Sync, G: Gate, W: Witness>(
     requires given { 0 ≡ length (input_names checked.program.items) }
     requires crew { IsCrew workers }
     ensures { IfOk result (λ a. BySomeTurns
-        (λ turns. IsDrillOf checked.program tasks turns a.text.items a.status (W.seen witness.old) (W.seen witness.new))) }
+        (λ turns. IsDrillOf checked.program (home_of home.now) tasks turns a.text.items a.status (W.seen witness.old) (W.seen witness.new))) }
 {
     report_tells();
     let compiled = compile(alloc, checked)?;
@@ -75,7 +86,7 @@ fn drill_checked<R: Threads + Wait + Sync, G: Gate, W: Witness>(
     witness.see(&ran);
     let seen = compiled.checked();
     let _program = seen.program();
-    let answer = sum_of_run(alloc, seen, tasks, ran)?;
+    let answer = sum_of_run(alloc, seen, home, tasks, ran)?;
     Ok(answer)
 }
 
@@ -100,7 +111,9 @@ pub fn run_drill<R: Threads + Wait + Sync, G: Gate, W: Witness>(
     let text = drill_text(alloc, tasks)?;
     let ready = prepare(alloc, &text, &[])?;
     match ready {
-        Ready::Program(checked) => drill_checked(rt, alloc, checked, tasks, workers, gate, witness),
+        Ready::Program(checked, home) => {
+            drill_checked(rt, alloc, checked, &home, tasks, workers, gate, witness)
+        }
         Ready::Answered(answer) => Ok(answer),
     }
 }

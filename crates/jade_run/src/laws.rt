@@ -1,10 +1,18 @@
 //! What is proved of the outcome of words and a text, for whoever stands on it.
 
-ghost use Rattle.std.specs.Prelude.{◌≤◌, ℕ, ℤ, List};
+ghost use Rattle.std.specs.Prelude.{◌≡◌, ◌≤◌, ℕ, ℤ, List, length};
+ghost use Rattle.jade_base.specs.declared.place.Pos.{Pos};
 ghost use Rattle.jade_gen.specs.Drill.{drill_text};
+ghost use Rattle.jade_meaning.specs.Turns.{turns_in};
+ghost use Rattle.jade_syntax.specs.declared.tree.Program.{Program};
+ghost use Rattle.jade_syntax.specs.Image.{program};
+ghost use Rattle.jade_syntax.specs.Objects.{sizes};
+ghost use Rattle.run_record.specs.Recording.{Recorded, recording};
 ghost use Rattle.jade_run.specs.declared.status.Status.{Status};
-ghost use Rattle.jade_run.specs.Answered.{IsAnswered, IsPlain, TurnLists};
+ghost use Rattle.jade_run.specs.Answered.{input_count, IsAnswered, IsGood, IsPlain, TurnLists};
 ghost use Rattle.jade_run.specs.Outcome.{IsOutcome, SameOutcome};
+ghost use Rattle.jade_run.specs.Recordings.{IsRecordingOf, IsReplayed, IsRight, IsRightRecording, ListsByObject};
+ghost use Rattle.jade_run.specs.Texts.{same_text};
 
 use erased_places::laws::erased_is_program;
 use jade_lexer::laws::reading_is_cut;
@@ -39,3 +47,23 @@ pub fn drills_are_plain()
 {
     reading_is_cut();
 }
+
+/// A recording that is replayed comes to `same` exactly where it is right.
+pub fn same_where_right()
+    ensures only { (bytes text : List ℕ) → IsReplayed bytes text Status.Good → IsRightRecording bytes × (text ≡ same_text) }
+    ensures always { (bytes text : List ℕ) (status : Status) → length bytes ≤ 1048576 → IsRightRecording bytes → IsReplayed bytes text status
+        → SameOutcome text status same_text Status.Good }
+{
+    one_tree();
+    erased_is_program();
+    one_reading();
+    spelled_alike();
+    read_is_shaped();
+}
+
+/// What is recorded of a run, whose turns one list for each object tells, is right.
+pub fn recordings_are_right()
+    ensures { (bytes : List ℕ) (tree : Program) (home : Pos → Pos) (numbers : List ℤ) (limit : ℕ) (lists : ListsByObject) (r : Recorded)
+        → IsGood bytes tree home → length numbers ≡ input_count tree → length lists ≡ length (sizes (program tree).items)
+        → IsRecordingOf bytes tree home numbers limit (turns_in lists) r → IsRight (recording r) r tree home lists }
+{}

@@ -2,8 +2,8 @@
 //!
 //! Floor `command`, over `erased_places`, `fault_order`, `jade_base`, `jade_gen`, `jade_layout`,
 //! `jade_lexer`, `jade_list`, `jade_meaning`, `jade_parser`, `jade_reading`, `jade_syntax`,
-//! `jade_types`, `number_words`, `object_table`, `record_parts`, `run_record`, `run_replay`,
-//! `serial_machine`, `steal_workers` and `task_codegen`, with `itoa` of the kit.
+//! `jade_types`, `number_words`, `object_table`, `proc_expand`, `record_parts`, `run_record`,
+//! `run_replay`, `serial_machine`, `steal_workers` and `task_codegen`, with `itoa` of the kit.
 #![tactic(auto)]
 
 pub mod answer;
@@ -13,6 +13,7 @@ pub mod laws;
 pub mod record;
 pub mod replay;
 pub mod run;
+mod standing;
 pub mod status;
 pub mod sums;
 pub mod sure;

@@ -10,11 +10,13 @@ ghost use Rattle.number_words.specs.Numbers.{is_number};
 ghost use Rattle.jade_run.specs.Answered.{BySomeTurns, IsGood};
 ghost use Rattle.jade_run.specs.Outcome.{IsCrew};
 ghost use Rattle.jade_run.specs.Recordings.{IsRecordingOf};
+ghost use Rattle.jade_run.specs.steps.Homes.{home_of};
 ghost use Rattle.jade_run.specs.steps.Recording.{IsKeptRun, IsKeptText, IsWrittenAs};
 
 use crate::Status;
 use crate::answer::{Answer, Ready, prepare};
 use crate::run::answer_of;
+use crate::standing::Home;
 use crate::witness::Witness;
 use jade_base::{Memory, Numbers, Report, Word};
 use jade_meaning::laws::{report_ascends, report_tells};
@@ -80,18 +82,19 @@ fn written(alloc: Global, kept: &Record) -> Result<Answer, Memory>
 fn record_of(
     alloc: Global,
     checked: &Checked,
+    home: &Home,
     text: &[u8],
     numbers: &[i64],
     limit: u32,
     report: &Report,
 ) -> Result<Record, Memory>
     requires within { length text.now ≤ 1048576 }
-    requires good { IsGood text.now checked.now.program }
+    requires good { IsGood text.now checked.now.program (home_of home.now) }
     requires some { 1 ≤ limit }
     requires few { length numbers.now ≤ 64 }
     requires meaning { report.now ≡ reported (program checked.now.program) numbers.now limit (turns_in report.now.turns) }
     requires full { Full (program checked.now.program) numbers.now limit (turns_in report.now.turns) }
-    ensures { IfOk result (IsRecordingOf text.now checked.now.program numbers.now limit (turns_in report.now.turns)) }
+    ensures { IfOk result (IsRecordingOf text.now checked.now.program (home_of home.now) numbers.now limit (turns_in report.now.turns)) }
 {
     report_ascends();
     report_tells();
@@ -99,7 +102,7 @@ fn record_of(
     read_is_shaped();
     fit(numbers);
     checked.program();
-    let answer = answer_of(alloc, checked, report, limit)?;
+    let answer = answer_of(alloc, checked, home, report, limit)?;
     let lines = lines_of(alloc, answer.text.as_slice())?;
     let turns = labelled(alloc, checked, &report.turns)?;
     let given = copied(alloc, numbers)?;
@@ -119,6 +122,7 @@ fn record_by_workers<R: Threads + Wait + Sync, G: Gate, W: Witness>(
     rt: &R,
     alloc: Global,
     checked: Checked,
+    home: &Home,
     text: &[u8],
     numbers: &[i64],
     workers: u32,
@@ -127,19 +131,27 @@ fn record_by_workers<R: Threads + Wait + Sync, G: Gate, W: Witness>(
     witness: &mut W,
 ) -> Result<Answer, Memory>
     requires within { length text.now ≤ 1048576 }
-    requires good { IsGood text.now checked.program }
+    requires good { IsGood text.now checked.program (home_of home.now) }
     requires given { length numbers.now ≡ length (input_names checked.program.items) }
     requires crew { IsCrew workers }
     requires some { 1 ≤ limit }
     requires few { length numbers.now ≤ 64 }
     ensures { IfOk result (λ a. BySomeTurns
-        (λ turns. IsKeptRun text.now checked.program numbers.now limit turns a.text.items a.status (W.seen witness.old) (W.seen witness.new))) }
+        (λ turns. IsKeptRun text.now checked.program (home_of home.now) numbers.now limit turns a.text.items a.status (W.seen witness.old) (W.seen witness.new))) }
 {
     let compiled = compile(alloc, checked)?;
     let ran = run_tasks(rt, alloc, &compiled, numbers, workers, limit, gate)?;
     witness.see(&ran);
     let report = ran.report(alloc)?;
-    let kept = record_of(alloc, compiled.checked(), text, numbers, limit, &report)?;
+    let kept = record_of(
+        alloc,
+        compiled.checked(),
+        home,
+        text,
+        numbers,
+        limit,
+        &report,
+    )?;
     let answer = written(alloc, &kept)?;
     Ok(answer)
 }
@@ -165,11 +177,9 @@ pub fn record_text<R: Threads + Wait + Sync, G: Gate, W: Witness>(
 {
     let ready = prepare(alloc, text, numbers)?;
     match ready {
-        Ready::Program(checked) => {
-            record_by_workers(
-                rt, alloc, checked, text, numbers, workers, limit, gate, witness,
-            )
-        }
+        Ready::Program(checked, home) => record_by_workers(
+            rt, alloc, checked, &home, text, numbers, workers, limit, gate, witness,
+        ),
         Ready::Answered(answer) => Ok(answer),
     }
 }

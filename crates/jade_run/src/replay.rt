@@ -7,11 +7,13 @@ ghost use Rattle.jade_meaning.specs.Report.{report as reported};
 ghost use Rattle.jade_meaning.specs.Turns.{Full, turns_in};
 ghost use Rattle.record_parts.specs.Named.{AreNamed};
 ghost use Rattle.jade_run.specs.Recordings.{IsReplayed, Plays};
+ghost use Rattle.jade_run.specs.steps.Homes.{home_of};
 ghost use Rattle.jade_run.specs.steps.Recording.{IsCompared};
 ghost use Rattle.jade_run.specs.Texts.{form_text, no_turns_text};
 
 use crate::answer::{Answer, Ready, prepare};
 use crate::run::answer_of;
+use crate::standing::Home;
 use crate::{Status, texts};
 use jade_base::{Memory, PathList, Report, TurnLists};
 use jade_meaning::laws::{report_ascends, report_tells};
@@ -81,15 +83,16 @@ fn are_turns(one: &TurnLists, other: &TurnLists) -> bool
 fn compared(
     alloc: Global,
     checked: &Checked,
+    home: &Home,
     recorded: &Record,
     report: &Report,
 ) -> Result<Answer, Memory>
     requires meaning { report.now ≡ reported (program checked.now.program) recorded.now.numbers recorded.now.limit (turns_in report.now.turns) }
-    ensures { IfOk result (λ a. IsCompared recorded.now checked.now.program report.now.turns a.text.items a.status) }
+    ensures { IfOk result (λ a. IsCompared recorded.now checked.now.program (home_of home.now) report.now.turns a.text.items a.status) }
 {
     report_ascends();
     report_tells();
-    let answer = answer_of(alloc, checked, report, recorded.limit)?;
+    let answer = answer_of(alloc, checked, home, report, recorded.limit)?;
     if are_lines(&recorded.answer, &answer.text) {
         return Ok(Answer {
             text: Vec::from_slice(alloc, b"same\n")?,
@@ -105,7 +108,7 @@ fn compared(
 /// Whether each path of a list stands after the one before it.
 fn ascend(paths: &PathList) -> bool {
     for i in 1..paths.len() {
-        if paths.at(i).compare(paths.at(i - 1)).is_lt() {
+        if !paths.at(i).compare(paths.at(i - 1)).is_gt() {
             return false;
         }
     }
@@ -122,17 +125,18 @@ fn are_in_order(lists: &TurnLists) -> bool {
     true
 }
 
-/// What a recording comes to of whose program the turns are named by these lists, where a run by one
-/// worker takes these turns.
+/// What a recording comes to whose program is this one, and whose turns are named by these lists, if a
+/// run by one worker takes these turns; `None` where the run takes others.
 fn replay_by_run<R: Threads + Wait + Sync>(
     rt: &R,
     alloc: Global,
     compiled: &Compiled,
+    home: &Home,
     recorded: &Record,
     lists: &TurnLists,
     bytes: &[u8],
 ) -> Result<Option<Answer>, Memory>
-    requires plays { Plays bytes.now recorded.now compiled.now.program }
+    requires plays { Plays bytes.now recorded.now compiled.now.program (home_of home.now) }
     requires named { AreNamed compiled.now.program.items recorded.now.turns lists.now }
     ensures { IfOk result (λ found. IfSome found (λ a. IsReplayed bytes.now a.text.items a.status)) }
 {
@@ -140,7 +144,7 @@ fn replay_by_run<R: Threads + Wait + Sync>(
     let ran = run_tasks(rt, alloc, compiled, numbers, 1, recorded.limit, &EmptyGate)?;
     let report = ran.report(alloc)?;
     if are_turns(&report.turns, lists) {
-        let answer = compared(alloc, compiled.checked(), recorded, &report)?;
+        let answer = compared(alloc, compiled.checked(), home, recorded, &report)?;
         return Ok(Some(answer));
     }
     Ok(None)
@@ -151,11 +155,12 @@ fn replay_by_run<R: Threads + Wait + Sync>(
 fn replay_followed(
     alloc: Global,
     checked: &Checked,
+    home: &Home,
     recorded: &Record,
     lists: &TurnLists,
     bytes: &[u8],
 ) -> Result<Answer, Memory>
-    requires plays { Plays bytes.now recorded.now checked.now.program }
+    requires plays { Plays bytes.now recorded.now checked.now.program (home_of home.now) }
     requires named { AreNamed checked.now.program.items recorded.now.turns lists.now }
     ensures { IfOk result (λ a. IsReplayed bytes.now a.text.items a.status) }
 {
@@ -166,7 +171,7 @@ fn replay_followed(
         recorded.limit,
         lists,
     ) {
-        Ok(report) => compared(alloc, checked, recorded, &report),
+        Ok(report) => compared(alloc, checked, home, recorded, &report),
         Err(FollowError::Off) => turnless(alloc),
         Err(FollowError::Memory) => Err(Memory),
     }
@@ -179,21 +184,22 @@ fn replay_by<R: Threads + Wait + Sync>(
     rt: &R,
     alloc: Global,
     checked: Checked,
+    home: &Home,
     recorded: &Record,
     lists: &TurnLists,
     bytes: &[u8],
 ) -> Result<Answer, Memory>
-    requires plays { Plays bytes.now recorded.now checked.program }
+    requires plays { Plays bytes.now recorded.now checked.program (home_of home.now) }
     requires named { AreNamed checked.program.items recorded.now.turns lists.now }
     ensures { IfOk result (λ a. IsReplayed bytes.now a.text.items a.status) }
 {
     if !are_in_order(lists) {
-        return replay_followed(alloc, &checked, recorded, lists, bytes);
+        return replay_followed(alloc, &checked, home, recorded, lists, bytes);
     }
     let compiled = compile(alloc, checked)?;
-    match replay_by_run(rt, alloc, &compiled, recorded, lists, bytes)? {
+    match replay_by_run(rt, alloc, &compiled, home, recorded, lists, bytes)? {
         Some(answer) => Ok(answer),
-        None => replay_followed(alloc, compiled.checked(), recorded, lists, bytes),
+        None => replay_followed(alloc, compiled.checked(), home, recorded, lists, bytes),
     }
 }
 
@@ -202,16 +208,17 @@ fn replay_checked<R: Threads + Wait + Sync>(
     rt: &R,
     alloc: Global,
     checked: Checked,
+    home: &Home,
     recorded: &Record,
     bytes: &[u8],
 ) -> Result<Answer, Memory>
-    requires plays { Plays bytes.now recorded.now checked.program }
+    requires plays { Plays bytes.now recorded.now checked.program (home_of home.now) }
     requires within { length bytes.now ≤ 1048576 }
     ensures { IfOk result (λ a. IsReplayed bytes.now a.text.items a.status) }
 {
     read_is_shaped();
     match turn_lists(alloc, &checked, &recorded.turns)? {
-        Some(lists) => replay_by(rt, alloc, checked, recorded, &lists, bytes),
+        Some(lists) => replay_by(rt, alloc, checked, home, recorded, &lists, bytes),
         None => turnless(alloc),
     }
 }
@@ -232,7 +239,7 @@ pub fn replay_text<R: Threads + Wait + Sync>(
     };
     let ready = prepare(alloc, record.text.bytes(), record.numbers.as_slice())?;
     match ready {
-        Ready::Program(checked) => replay_checked(rt, alloc, checked, &record, bytes),
+        Ready::Program(checked, home) => replay_checked(rt, alloc, checked, &home, &record, bytes),
         Ready::Answered(answer) => Ok(answer),
     }
 }

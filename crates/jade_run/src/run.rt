@@ -11,9 +11,12 @@ ghost use Rattle.jade_meaning.specs.Turns.{Full, in_order, turns_in};
 ghost use Rattle.serial_machine.specs.Answers.{told};
 ghost use Rattle.jade_run.specs.Answered.{fault_key, BySomeTurns, IsAnswered, Shows};
 ghost use Rattle.jade_run.specs.Outcome.{IsCrew};
+ghost use Rattle.jade_run.specs.Standing.{traced};
+ghost use Rattle.jade_run.specs.steps.Homes.{home_of};
 ghost use Rattle.jade_run.specs.steps.Ending.{IsRunOf, IsRunText};
 
 use crate::answer::{Answer, Ready, prepare};
+use crate::standing::Home;
 use crate::witness::Witness;
 use crate::{Status, texts};
 use fault_order::{first, key_is_before, limit_place};
@@ -78,15 +81,16 @@ fn place_of_limit(steps: &PartSteps, limit: u32) -> Option<&PartStep>
 pub(crate) fn answer_of(
     alloc: Global,
     checked: &Checked,
+    home: &Home,
     report: &Report,
     limit: u32,
 ) -> Result<Answer, Memory>
     requires { Ascends (map fault_key report.now.faults) }
-    ensures { IfOk result (λ a. Shows (program checked.now.program) (report_answer limit report.now) a.text.items a.status) }
+    ensures { IfOk result (λ a. Shows (program checked.now.program) (traced (home_of home.now) (report_answer limit report.now)) a.text.items a.status) }
 {
     match fault_of(report, limit) {
         Some((path, blame)) => Ok(Answer {
-            text: texts::fault(alloc, path, blame)?,
+            text: texts::fault(alloc, path, home.blame(blame))?,
             status: Status::Fault,
         }),
         None => Ok(Answer {
@@ -101,12 +105,14 @@ pub(crate) fn answer_of(
 fn answer_of_run(
     alloc: Global,
     checked: &Checked,
+    home: &Home,
     ran: Ran<'_>,
     limit: u32,
 ) -> Result<Answer, Memory>
     ensures full { IfOk result (λ _. Full (program ran.entry.plan.program) ran.entry.plan.numbers ran.entry.plan.limit (turns_in ran.entry.report.turns)) }
     ensures shows { IfOk result (λ a. Shows (program checked.now.program)
-        (report_answer limit (report (program ran.entry.plan.program) ran.entry.plan.numbers ran.entry.plan.limit (turns_in ran.entry.report.turns)))
+        (traced (home_of home.now)
+        (report_answer limit (report (program ran.entry.plan.program) ran.entry.plan.numbers ran.entry.plan.limit (turns_in ran.entry.report.turns))))
         a.text.items a.status) }
 {
     match ran.cells(limit) {
@@ -120,17 +126,22 @@ fn answer_of_run(
     }
     report_ascends();
     let report = ran.report(alloc)?;
-    answer_of(alloc, checked, &report, limit)
+    answer_of(alloc, checked, home, &report, limit)
 }
 
 /// What an answer is written as.
-fn shown(alloc: Global, checked: &Checked, answer: &RunAnswer) -> Result<Answer, Memory>
-    ensures { IfOk result (λ a. Shows (program checked.now.program) (told answer.now) a.text.items a.status) }
+fn shown(
+    alloc: Global,
+    checked: &Checked,
+    home: &Home,
+    answer: &RunAnswer,
+) -> Result<Answer, Memory>
+    ensures { IfOk result (λ a. Shows (program checked.now.program) (traced (home_of home.now) (told answer.now)) a.text.items a.status) }
 {
     match answer {
         RunAnswer::Fault(path, blame) => {
             let status = Status::Fault;
-            let text = texts::fault(alloc, path, *blame)?;
+            let text = texts::fault(alloc, path, home.blame(*blame))?;
             Ok(Answer { text, status })
         }
         RunAnswer::Objects(cells) => Ok(Answer {
@@ -146,6 +157,7 @@ fn run_by_workers<R: Threads + Wait + Sync, G: Gate, W: Witness>(
     rt: &R,
     alloc: Global,
     checked: Checked,
+    home: &Home,
     numbers: &[i64],
     workers: u32,
     limit: u32,
@@ -155,13 +167,13 @@ fn run_by_workers<R: Threads + Wait + Sync, G: Gate, W: Witness>(
     requires given { length numbers.now ≡ length (input_names checked.program.items) }
     requires crew { IsCrew workers }
     ensures { IfOk result (λ a. BySomeTurns
-        (λ turns. IsRunOf checked.program numbers.now limit turns a.text.items a.status (W.seen witness.old) (W.seen witness.new))) }
+        (λ turns. IsRunOf checked.program (home_of home.now) numbers.now limit turns a.text.items a.status (W.seen witness.old) (W.seen witness.new))) }
 {
     report_tells();
     let compiled = compile(alloc, checked)?;
     let ran = run_tasks(rt, alloc, &compiled, numbers, workers, limit, gate)?;
     witness.see(&ran);
-    let answer = answer_of_run(alloc, compiled.checked(), ran, limit)?;
+    let answer = answer_of_run(alloc, compiled.checked(), home, ran, limit)?;
     Ok(answer)
 }
 
@@ -170,15 +182,16 @@ fn run_by_workers<R: Threads + Wait + Sync, G: Gate, W: Witness>(
 fn run_serially(
     alloc: Global,
     checked: Checked,
+    home: &Home,
     numbers: &[i64],
     limit: u32,
 ) -> Result<Answer, Memory>
     requires { length numbers.now ≡ length (input_names checked.program.items) }
-    ensures { IfOk result (λ a. Shows (program checked.program) (answer (program checked.program) numbers.now limit in_order) a.text.items a.status) }
+    ensures { IfOk result (λ a. Shows (program checked.program) (traced (home_of home.now) (answer (program checked.program) numbers.now limit in_order)) a.text.items a.status) }
 {
     let compiled = compile(alloc, checked)?;
     let answer = run_serial(alloc, &compiled, numbers, limit)?;
-    let text = shown(alloc, compiled.checked(), &answer)?;
+    let text = shown(alloc, compiled.checked(), home, &answer)?;
     Ok(text)
 }
 
@@ -203,9 +216,9 @@ pub fn run_text<R: Threads + Wait + Sync, G: Gate, W: Witness>(
 {
     let ready = prepare(alloc, text, numbers)?;
     match ready {
-        Ready::Program(checked) => {
-            run_by_workers(rt, alloc, checked, numbers, workers, limit, gate, witness)
-        }
+        Ready::Program(checked, home) => run_by_workers(
+            rt, alloc, checked, &home, numbers, workers, limit, gate, witness,
+        ),
         Ready::Answered(answer) => Ok(answer),
     }
 }
@@ -224,7 +237,7 @@ pub fn serial_text(
 {
     let ready = prepare(alloc, text, numbers)?;
     match ready {
-        Ready::Program(checked) => run_serially(alloc, checked, numbers, limit),
+        Ready::Program(checked, home) => run_serially(alloc, checked, &home, numbers, limit),
         Ready::Answered(answer) => Ok(answer),
     }
 }

@@ -6,7 +6,6 @@ ghost use Rattle.jade_run.specs.Headline.{Headline};
 ghost use Rattle.jade_run.specs.Words.{NeedsNoText};
 
 use crate::call::jade_main;
-use crate::laws::one_outcome;
 use crate::status::Status;
 use crate::witness::NoWitness;
 use jade_base::{SureSink, SureSource, Word};
@@ -15,8 +14,8 @@ use std::sync::Wait;
 use std::thread::Threads;
 use steal_workers::Gate;
 
-/// `jade_main` over a text in memory: where the sink has room for the text of the outcome, the
-/// status is the outcome's, or `Memory`. It is never `Reading`. What the sink took and what the
+/// `jade_main` over a text in memory: there is an outcome by some turn lists whose status this is
+/// where the sink has room for its text, or the status is `Memory`. It is never `Reading`. What the sink took and what the
 /// source has left are as `jade_main` says; both tell their bytes here.
 pub fn run_in_memory<R: Threads + Wait + Sync, G: Gate>(
     rt: &R,
@@ -32,6 +31,5 @@ pub fn run_in_memory<R: Threads + Wait + Sync, G: Gate>(
         (record { left = Some source.old; taken = Some sink.old.taken; room = Some sink.old.room; source_faults = 0; sink_faults = sink.old.faults; seen = None })
         (record { left = Some source.new; taken = Some sink.new.taken; room = Some sink.new.room; source_faults = 0; sink_faults = sink.new.faults; seen = None }) }
 {
-    one_outcome();
     jade_main(rt, alloc, words, source, sink, gate, &mut NoWitness)
 }

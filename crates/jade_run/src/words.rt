@@ -43,7 +43,8 @@ pub struct Execution {
 
 /// What is asked for: that a text be run with so many workers, or serially, that it be checked, that
 /// the layout of its program be shown, that a drill of so many tasks be run with so many workers, that
-/// a run of a text with so many workers be recorded, or that a recording be replayed.
+/// a run of a text with so many workers be recorded, that a recording be replayed, or that the
+/// procedures of a text be expanded.
 #[derive(Debug, Drop)]
 pub enum Command {
     Run(u32, Execution),
@@ -53,6 +54,7 @@ pub enum Command {
     Drill(u32, u32),
     Record(u32, Execution),
     Replay,
+    Expand,
 }
 
 impl Command {
@@ -66,7 +68,8 @@ impl Command {
             | Command::Check
             | Command::Show
             | Command::Record(_, _)
-            | Command::Replay => true,
+            | Command::Replay
+            | Command::Expand => true,
             Command::Drill(_, _) => false,
         }
     }
@@ -193,13 +196,16 @@ fn named(alloc: Global, name: &[u8], rest: &[Word]) -> Result<Command, WordsErro
     if is_text(name, b"replay") {
         return Ok(Command::Replay);
     }
+    if is_text(name, b"expand") {
+        return Ok(Command::Expand);
+    }
     Err(WordsError::Usage)
 }
 
 /// The command that the words spell: `run WORKERS LIMIT NUMBER*`, `serial LIMIT NUMBER*`, `check`,
-/// `show`, `drill TASKS WORKERS`, `record WORKERS LIMIT NUMBER*` or `replay`, with 1 to 64 workers, a limit of 1 to 4,294,967,295 steps, at most
-/// 64 numbers of 64 bits with their signs, and 1 to 10,000 tasks. The error is `Usage` exactly where
-/// they are none of these.
+/// `show`, `drill TASKS WORKERS`, `record WORKERS LIMIT NUMBER*`, `replay` or `expand`, with 1 to 64
+/// workers, a limit of 1 to 4,294,967,295 steps, at most 64 numbers of 64 bits with their signs, and
+/// 1 to 10,000 tasks. The error is `Usage` exactly where they are none of these.
 pub fn command_of(alloc: Global, words: &[Word]) -> Result<Command, WordsError>
     ensures { MatchResult result (Asks words.now) (IsUsage words.now) }
 {

@@ -1,4 +1,4 @@
-use Rattle.jade_run.proofs.Commanding.{by_run, by_serial, by_check, by_show, by_drill, by_record, by_replay}
+use Rattle.jade_run.proofs.Commanding.{by_run, by_serial, by_check, by_show, by_drill, by_record, by_replay, by_expand}
 use Rattle.jade_run.proofs.call.of_text.Goals as goal
 
 pub returns-in-Run : goal.returns-in-Run
@@ -28,3 +28,6 @@ returns-in-Record g c =
 
 pub returns-in-Replay : goal.returns-in-Replay
 returns-in-Replay g c = by_replay c.args.command.now c.args.text.now c.replay_text.result _ c.in-Replay.is c.replay_text.ensures
+
+pub returns-in-Expand : goal.returns-in-Expand
+returns-in-Expand g c = by_expand c.args.command.now c.args.text.now c.expand_text.result _ c.in-Expand.is c.expand_text.ensures

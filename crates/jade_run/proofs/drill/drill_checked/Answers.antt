@@ -1,6 +1,7 @@
 use Rattle.std.specs.Prelude.{ℤ}
 use Rattle.std.proofs.Common.{◌≡◌, ℕ, ◌≤◌, true, [], length, ap, ◌∙◌, sym, subst, refl, List}
 use Rattle.std.specs.List.{sum_by}
+use Rattle.jade_base.specs.declared.place.Pos.{Pos}
 use Rattle.jade_base.specs.declared.report.Report.{Report}
 use Rattle.jade_syntax.specs.CheckedProgram.{CheckedProgram}
 use Rattle.jade_syntax.specs.Image.{program}
@@ -11,19 +12,21 @@ use Rattle.jade_meaning.specs.ReportAnswer.{report_answer, ReportTells}
 use Rattle.jade_meaning.specs.Turns.{marks_by, turns_in}
 use Rattle.jade_run.specs.Answered.{TurnLists}
 use Rattle.jade_run.specs.declared.status.Status.{Status}
+use Rattle.jade_run.specs.Standing.{traced}
 use Rattle.jade_run.specs.steps.Drilling.{ShowsSum}
+use Rattle.jade_run.specs.steps.Homes.{home_of}
 use Rattle.jade_run.proofs.Running.{planned, reported, run_is_shown}
 use Rattle.jade_run.proofs.Totals.{few_after}
 use Rattle.jade_run.proofs.drill.drill_checked.Goals as goal
 
 -- what tells the answer of a report by a sum tells the program's so
-told : (r : Report) (p q s : CheckedProgram) (tasks limit : ℕ) (turns : TurnLists) (text : List ℕ) (status : Status)
+told : (r : Report) (home : Pos → Pos) (p q s : CheckedProgram) (tasks limit : ℕ) (turns : TurnLists) (text : List ℕ) (status : Status)
     → r ≡ report (program p.program) [] limit turns → q ≡ p → s ≡ q →
-    ReportTells (program p.program) [] limit turns → ShowsSum (program s.program) tasks (report_answer limit r) text status →
-    ShowsSum (program p.program) tasks (answer (program p.program) [] limit turns) text status
-told r p q s tasks limit turns text status e f g t h =
-    let P : Answer → Type 0 = λ a. ShowsSum (program p.program) tasks a text status in
-    let Q : CheckedProgram → Type 0 = λ x. ShowsSum (program x.program) tasks (report_answer limit r) text status in
+    ReportTells (program p.program) [] limit turns → ShowsSum (program s.program) tasks (traced home (report_answer limit r)) text status →
+    ShowsSum (program p.program) tasks (traced home (answer (program p.program) [] limit turns)) text status
+told r home p q s tasks limit turns text status e f g t h =
+    let P : Answer → Type 0 = λ a. ShowsSum (program p.program) tasks (traced home a) text status in
+    let Q : CheckedProgram → Type 0 = λ x. ShowsSum (program x.program) tasks (traced home (report_answer limit r)) text status in
     subst P (ap (report_answer limit) e ∙ t.same) (subst Q (g ∙ f) h)
 
 -- a run of a program within the limits has few cells
@@ -53,7 +56,7 @@ returns g c =
     let all = report (program plan.program) plan.numbers plan.limit turns in (
       turns,
       record {
-        shows = told all c.args.checked c.in_ok-compiled.compiled c.checked-seen.result.now c.args.tasks 4294967295 turns _ _
+        shows = told all (home_of c.args.home.now) c.args.checked c.in_ok-compiled.compiled c.checked-seen.result.now c.args.tasks 4294967295 turns _ _
             (reported all plan c.args.checked c.in_ok-compiled.compiled [] 4294967295 turns refl c.in_ok-ran.ensures c.in_ok-compiled.ensures)
             c.in_ok-compiled.ensures c.checked-seen.ensures (c.report_tells.ensures (program c.args.checked.program) [] 4294967295 turns)
             c.in_ok-answer.ensures.shows;

@@ -1,11 +1,12 @@
+use Rattle.jade_run.specs.steps.Homes.{home_of}
 use Rattle.jade_run.proofs.Running.{program_ready, answered_ready}
 use Rattle.jade_run.proofs.Witnessing.{program_saw, settled_text}
 use Rattle.jade_run.proofs.run.run_text.Goals as goal
 
 pub returns-in-Program : goal.returns-in-Program
 returns-in-Program g c =
-    let ready = program_ready c.args.text.now c.args.numbers.now c.in_ok-ready.ready c.in-Program.checked c.in-Program.is c.in_ok-ready.ensures in
-    program_saw c.args.text.now c.args.numbers.now c.args.limit c.in-Program.checked.program c.run_by_workers.result _ _ ready.0 ready.1
+    let ready = program_ready c.args.text.now c.args.numbers.now c.in_ok-ready.ready c.in-Program.checked c.in-Program.home c.in-Program.is c.in_ok-ready.ensures in
+    program_saw c.args.text.now c.args.numbers.now c.args.limit c.in-Program.checked.program (home_of c.in-Program.home) c.run_by_workers.result _ _ ready.0 ready.1
     c.run_by_workers.ensures
 
 pub returns-in-Answered : goal.returns-in-Answered

@@ -7,7 +7,7 @@ returns g c =
     let said = c.jade_main.ensures in
     record {
       completes =
-          completes c.one_outcome.ensures c.args.words.now c.args.source.now c.args.sink.now.room c.jade_main.result _ _ refl refl refl refl said.headline;
+          completes c.args.words.now c.args.source.now c.args.sink.now.room c.jade_main.result _ _ refl refl refl refl said.headline;
       unread = λ refused. (said.unread refused).0;
       headline = said.headline;
     }
