@@ -6,16 +6,16 @@
 First stands what the program writes, as it writes it. Where that is a fault or a refusal, the line of
 the text follows with a mark under the place, what the word means, and what more there is to tell: of a
 refused token what could stand there and which usual mistake it may be (mistakes.py), of a name what it
-stands for (names.py), of a fault the values (serial_run.py, which runs the program again, and is believed
+stands for (names.py), of a procedure or call why it is refused (expander.py), of a fault the values (serial_run.py, which runs the program again, and is believed
 only where it comes to the same fault). Refused words and a wrong count of numbers are explained too.
 `./jade explain WORDS` calls this. It ends with the program's status. It proves nothing.
 """
 import re
 import sys
 
+import expander
 import mistakes
 import names
-from jade_text import tokens_of
 from programs import run
 from serial_run import first_fault, uses_cm
 
@@ -30,11 +30,20 @@ REFUSALS = {
     "deep": "This bracket would be the 65th that is open at once; at most 64 may be.",
     "token": "No program goes on with this token after what stands before it.",
     "long": "This is the 257th token of one expression; give a part of it to a local first.",
-    "name": "This name is not declared here: a task's body sees the items and the names of its do list alone.",
+    "name": "This name is not declared here: a task's body sees the items and the names of its do list alone, a procedure's the items and its parameters.",
     "twice": "This name is declared already where it stands; all names share one space.",
     "kind": "An int is needed here and this is a bool, or the other way round, or the name stands for something else.",
     "assign": "A loop variable or an input is not assigned to; copy it to a local.",
     "size": "This number is outside its limit, or with this item the objects, cells or inputs are too many.",
+}
+
+# What each word of a refusal means that only texts with procedures have, and what `twice` means of these.
+PROCEDURES = {
+    "proc": "The form of a procedure or of a call breaks here.",
+    "noproc": "What is called is a procedure that stands before the call.",
+    "count": "A call has an argument for each parameter of its procedure.",
+    "twice": "No two procedures have one name, and no two parameters of a procedure.",
+    "grown": "With each call written out as the body of its procedure, the text has more than 1,048,576 bytes, which is the longest that is read.",
 }
 
 # What each kind of fault means.
@@ -47,7 +56,7 @@ FAULTS = {
     "cover": "The child declares a right that its creator does not have itself, or has given up.",
     "commute": "A task that declares cm declares beside it only reads of other objects, creates no task, and does not change its rights.",
     "change": "The with asks for a right that the task does not have: it was not declared, or was given up.",
-    "limit": "One step more than LIMIT would be begun, and a larger LIMIT allows it; a step is a statement or a turn of a loop.",
+    "limit": "One step more than LIMIT would be begun, and a larger LIMIT allows it; a step is a statement, an argument of a call or a turn of a loop.",
 }
 
 # What is told of a recording that is not written, or is not right.
@@ -70,6 +79,7 @@ FORMS = {
     "replay": (),
     "check": (),
     "show": (),
+    "expand": (),
     "drill": ("TASKS", "WORKERS"),
 }
 MOSTS = {"WORKERS": 64, "LIMIT": 4294967295, "TASKS": 10000}
@@ -97,8 +107,23 @@ def at_place(text, line, column):
     return sum(len(it) + 1 for it in text.split(b"\n")[: line - 1]) + column - 1
 
 
+def of_procedures(text, word, line, column):
+    """The refusal of a text for its procedures and calls, or for how deep they go, where it is this one."""
+    refusal = expander.refusal_of(text) if word == "deep" or word in PROCEDURES else None
+    return refusal if refusal and (refusal.word, refusal.place) == (word, (line, column)) else None
+
+
+def why_refusal(text, word, line, column):
+    """What is told of a refused place."""
+    refusal = of_procedures(text, word, line, column)
+    if refusal:
+        return f"{PROCEDURES.get(word) or REFUSALS[word]} {refusal.told}".rstrip()
+    more = more_of_refusal(text, word, line, column)
+    return more if more and word == "token" else f"{REFUSALS.get(word) or PROCEDURES[word]} {more or ''}".rstrip()
+
+
 def more_of_refusal(text, word, line, column):
-    """What more is told of a refused place."""
+    """What more is told of a refused place than what its word means."""
     if word == "token":
         return mistakes.of_token(text, line, column)
     if word == "byte":
@@ -129,7 +154,7 @@ def why_fault(text, words, place, word, path):
         return f"{FAULTS[word]} It is the first fault in serial order where the updates come as in this run, in {whose}."
     if not fault:
         return f"{FAULTS[word]} It is the first fault in serial order, in {whose}."
-    return f"{FAULTS[word]} {fault.told}. It is the first fault in serial order, in {fault.task.told()}."
+    return f"{FAULTS[word]} {fault.told}. It is the first fault in serial order, in {fault.task.told()}{fault.calls}."
 
 
 def is_count(word, most):
@@ -180,10 +205,15 @@ def why_recording(answer):
     return f"{told.partition(':')[0]}: {RECORDINGS[told]}\n"
 
 
+def inputs_of(text):
+    """The names of a program's inputs."""
+    tokens = expander.tokens_of_program(text)
+    return [f"`{name.text}`" for word, name in zip(tokens, tokens[1:]) if word.text == "input"]
+
+
 def why_numbers(text):
     """Which numbers a program wants."""
-    tokens = tokens_of(text)
-    inputs = [f"`{name.text}`" for word, name in zip(tokens, tokens[1:]) if word.text == "input" and word.kind == "word"]
+    inputs = inputs_of(text)
     return f"One NUMBER is given for each input, after LIMIT: {', '.join(inputs)}." if inputs else "The program has no inputs."
 
 
@@ -203,12 +233,8 @@ def explanation(text, words, answer):
         return ""
     line, column, word = (refusal or fault).groups()[:3]
     place = (int(line), int(column)) if line else None
-    if refusal:
-        more = more_of_refusal(text, word, *place)
-        why = more if more and word == "token" else f"{REFUSALS[word]} {more or ''}".rstrip()
-    else:
-        why = why_fault(text, words, place, word, fault[4])
-    shown = line_with_mark(text, *place) if place and word != "text" else ""
+    why = why_refusal(text, word, *place) if refusal else why_fault(text, words, place, word, fault[4])
+    shown = line_with_mark(text, *place) if place and word not in ("text", "grown") else ""
     return f"{shown}{word}: {why}\n"
 
 

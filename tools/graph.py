@@ -11,8 +11,10 @@ column of their own; of more, those of one `withonly` share one, which shows how
 `./jade graph LIMIT NUMBER*` and `./jade page graph ..` call this. docs/GUIDE.md says how to read the
 picture. It proves nothing.
 """
+import re
 import sys
 
+from expander import expand
 from explain import explanation
 from page import page
 from picture import GREY, LINE, PLUM, RED, WIDEST, Picture, Room, most_at_once, shares, short, steps_of, width
@@ -262,12 +264,23 @@ def refuse(program, words, text):
     return ran.status
 
 
+def without_procedures(text):
+    """A text that is not refused, without procedures: each of its tokens has a line of its own."""
+    expanded = expand(text)
+    return text if expanded.is_source else expanded.text.replace(b" ", b"\n")
+
+
 def lines_of(task_graph, words, text):
-    """The lines that tell the tasks."""
-    ran = run([task_graph, *words], text)
+    """The lines that tell the tasks, with the lines of the text in which their `withonly` stand."""
+    expanded = expand(text)
+    ran = run([task_graph, *words], without_procedures(text))
     if ran.status:
         sys.exit(f"jade: the tasks could not be told (status {ran.status})")
-    return ran.text.splitlines()
+    lines = ran.text.splitlines()
+    if expanded.is_source:
+        return lines
+    at = re.compile("(create .* )([0-9]+)")
+    return [at.sub(lambda found: f"{found[1]}{expanded.tokens[int(found[2]) - 1].line}", line) for line in lines]
 
 
 def main():

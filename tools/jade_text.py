@@ -21,26 +21,45 @@ TOKEN = re.compile(
 
 
 class Token:
-    """A token: what it is (a name, a word, a number, a symbol or the end), its text, and where it begins."""
+    """A token: what it is (a name, a word, a number, a symbol, the end, or a byte that begins none), its text, and where
+    it begins. One that was written for a call of a procedure (expander.py) has its place in the source: it is `spelled`
+    there otherwise, where its name was replaced; it is `made`, where the source has no such token, and this says what it
+    stands for; and `call` is the name of the call in whose body it stands."""
 
-    def __init__(self, kind, text, line, column):
+    __slots__ = ("kind", "text", "line", "column", "spelled", "made", "call")
+
+    def __init__(self, kind, text, line, column, spelled=None, made="", call=None):
         self.kind, self.text, self.line, self.column = kind, text, line, column
+        self.spelled, self.made, self.call = spelled or text, made, call
 
     @property
     def place(self):
         return self.line, self.column
 
     def told(self):
-        return "the end of the text" if self.kind == "end" else f"`{self.text}`"
+        return self.made or ("the end of the text" if self.kind == "end" else f"`{self.spelled}`")
+
+    def calls(self):
+        """The names of the calls in whose bodies it stands, the innermost first."""
+        call = self.call
+        while call:
+            yield call
+            call = call.call
+
+    def told_calls(self):
+        """The same in words: the first three."""
+        calls = [f"`{call.text}` in {call.line}:{call.column}" for call in self.calls()]
+        more = f" within {len(calls) - 3} more" if len(calls) > 3 else ""
+        return ", in the call of " + " within that of ".join(calls[:3]) + more if calls else ""
 
 
 def tokens_of(text):
-    """The tokens of a text of bytes, up to the end or to the first byte that begins none."""
+    """The tokens of a text of bytes; the last is the end, or the first byte that begins none."""
     text, found, at, line, begin = text.decode("latin-1"), [], 0, 1, 0
     while at < len(text):
         match = TOKEN.match(text, at)
         if not match:
-            return found
+            return [*found, Token("byte", text[at], line, at - begin + 1)]
         kind, piece = match.lastgroup, match.group()
         if kind != "space":
             kind = "word" if piece in WORDS else kind

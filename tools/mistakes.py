@@ -5,7 +5,8 @@ first that tells anything is taken. Where none does, it is only told what stands
 """
 import re
 
-from jade_text import BINARY, COMPARISONS, ITEM_WORDS, WITH_WORDS, WITHONLY_WORDS, Parser, Refused, brackets_open, tokens_of
+from expander import tokens_of_program
+from jade_text import BINARY, COMPARISONS, ITEM_WORDS, WITH_WORDS, WITHONLY_WORDS, Parser, Refused, brackets_open
 
 # What could stand at a place, by groups: where all of the first could, the second is said.
 GROUPS = (
@@ -25,7 +26,7 @@ FOREIGN = {
     **dict.fromkeys(("float", "double", "real", "string", "str", "String", "char", "long", "short", "unsigned", "i64", "u64"), "Values are ints of 64 bits and bools, and there are no others."),
     **dict.fromkeys(("return", "break", "continue", "goto"), "A body runs to its end: there is no `return`, `break` or `continue`."),
     **dict.fromkeys(("print", "printf", "println", "echo", "puts", "write"), "A program prints nothing: its answer is what its objects have in the end."),
-    **dict.fromkeys(("fn", "def", "func", "function", "void", "procedure"), "There are no procedures; what is repeated stands in a loop or in a task."),
+    **dict.fromkeys(("fn", "def", "func", "function", "void", "procedure"), "A procedure is written `proc f(int a) { }`, stands before `main`, and gives no value."),
     **dict.fromkeys(("elif", "elsif", "elseif"), "The `else` of an `if` has braces, and a second `if` stands in them: `else { if .. { } }`."),
     **dict.fromkeys(("switch", "case", "match"), "Cases are told apart by `if` and `else`."),
 }
@@ -47,6 +48,10 @@ class Place:
         self.before = tokens[self.at - 1] if self.at else None
         self.after = tokens[self.at + 1] if self.at + 1 < len(tokens) else None
         self.begun = refused.rules[-1][1] if refused.rules else None
+        # An argument of a call is read as the value of a local, and ends otherwise.
+        self.is_argument = any(rule == "local" and token.made for rule, token in refused.rules)
+        if self.is_argument and ";" in self.expected:
+            self.expected = self.expected - {";"} | {",", ")"}
 
     def follows(self, *texts):
         return self.before is not None and self.before.text in texts
@@ -82,7 +87,7 @@ def else_if(place):
 def odd_closing(place):
     """The first brace that begins its line and stands in another column than the line of the brace that it closes."""
     columns, opened = {}, []
-    for token in place.tokens:
+    for token in (it for it in place.tokens if not it.call and not it.made):
         is_first = token.line not in columns
         columns.setdefault(token.line, token.column)
         if token.text == "{":
@@ -103,15 +108,15 @@ def open_at_end(place):
 
 
 def after_main(place):
-    if place.expected == {"end"} and place.is_found(*ITEM_WORDS):
-        return "Inputs and objects are declared before `main`, and nothing stands after its `}`."
+    if place.expected == {"end"} and place.is_found(*ITEM_WORDS, "proc"):
+        return "Inputs, objects and procedures stand before `main`, and nothing after its `}`."
     if place.expected == {"end"}:
         return f"Nothing stands after `main`, which the `}}` of {at(place.before)} closes: perhaps one `}}` is too many."
 
 
 def before_main(place):
     if {"main", "input"} <= place.expected:
-        return "A text has its inputs and objects and then `main { }`: locals and all that is done stand in `main`."
+        return "A text has its inputs, objects and procedures and then `main { }`: locals and all that is done stand in `main`, or in a procedure."
     if place.follows("main") and place.is_found("("):
         return "`main` has no brackets: `main { }`; what is given to a program are its inputs, as in `input n;`."
 
@@ -142,7 +147,7 @@ def body_in_section(place):
 def local_without_value(place):
     if place.rule() == "local" and place.follows_a_name() and "=" in place.expected:
         if place.is_found(";", ","):
-            return f"A local has a value from the begin, as in `int {place.before.text} = 0;`, and each has a statement of its own."
+            return f"A local has a value from the begin, as in `int {place.before.spelled} = 0;`, and each has a statement of its own."
         if place.is_found("["):
             return "A local is one value; what has many cells is an object, which is declared before `main`."
 
@@ -174,19 +179,25 @@ def comment(place):
 
 def foreign_word(place):
     statement = place.rule() == "assignment" and place.before is place.begun and place.follows_a_name()
-    if statement and place.before.text in FOREIGN and not place.is_found("["):
-        return FOREIGN[place.before.text]
+    if statement and place.before.spelled in FOREIGN and not place.is_found("["):
+        return FOREIGN[place.before.spelled]
     if place.is_found("do") and place.begins_a_statement():
         return "`do` stands after the section of a `withonly`; the only loop is `for i in low .. high { }`."
-    if place.found.text in SPELLED_OUT and "+" in place.expected:
-        return SPELLED_OUT[place.found.text]
-    if place.is_found("proc"):
-        return "`proc` is kept for procedures, which there are none of yet."
+    if place.found.spelled in SPELLED_OUT and "+" in place.expected:
+        return SPELLED_OUT[place.found.spelled]
+
+
+def procedure(place):
+    if place.is_found("proc") and ";" not in place.expected:
+        return "A procedure stands before `main` and outside of brackets, as `proc f(int a) { }`."
+    if place.found.made and place.is_found("if"):
+        return "A call is a statement: it stands in `main`, in a procedure, or in a section."
 
 
 def call(place):
     if place.is_found("(") and place.follows_a_name() and place.rule() not in ("for", "item"):
-        return f"`{place.before.text}(` would be a call, and there are none: a program has no procedures, only items and `main`."
+        name = place.before.spelled
+        return f"`{name}(` would be a call: that is a statement of its own, `{name}(..);`, of a procedure that stands before it, as `proc {name}(..) {{ }}`, and has no value."
 
 
 def loop(place):
@@ -255,13 +266,14 @@ def body_without_braces(place):
 
 
 def semicolon(place):
-    if ";" in place.expected and (place.found.line > place.before.line or place.is_found("}") or place.found.kind in ("word", "name")):
-        return f"It seems that a `;` is missing after {place.before.told()} in {at(place.before)}."
+    sign = "," if place.is_argument else ";"
+    if sign in place.expected and (place.found.line > place.before.line or place.is_found("}") or place.found.kind in ("word", "name")):
+        return f"It seems that a `{sign}` is missing after {place.before.told()} in {at(place.before)}."
 
 
 MISTAKES = (
     else_if, open_at_end, before_main, after_main, item_in_main, declaration_elsewhere, body_in_section, local_without_value, equal_sign,
-    comment, foreign_word, call, loop, size, item_form, one_object, task_form, reserved, one_too_many, change_in_place, unclosed,
+    comment, foreign_word, procedure, call, loop, size, item_form, one_object, task_form, reserved, one_too_many, change_in_place, unclosed,
     body_without_braces, semicolon,
 )  # fmt: skip
 
@@ -283,7 +295,7 @@ def could_stand(expected):
 
 def refused_in(text):
     """The place at which the grammar stops in a text, or none."""
-    parser = Parser(tokens_of(text))
+    parser = Parser(tokens_of_program(text))
     try:
         parser.program()
     except Refused as refused:

@@ -5,10 +5,14 @@ made there, nothing is told.
 """
 import difflib
 
-from jade_text import COMPARISONS, Parser, Refused, first_token, tokens_of
+from expander import tokens_of_program
+from jade_text import COMPARISONS, Parser, Refused, first_token
 
 # The limits of an item's number, and the most of all items.
 MEMBERS, CELLS, OBJECTS, ALL_CELLS, INPUTS = 4096, 65536, 4096, 1048576, 64
+
+
+ITEMS = ("input", "object", "family")
 
 
 class Name:
@@ -18,7 +22,7 @@ class Name:
         self.kind, self.token, self.count, self.size = kind, token, count, size
 
     def told(self):
-        name = self.token.text
+        name = self.token.spelled
         return {
             "input": f"`{name}` is an input",
             "int": f"`{name}` is an int",
@@ -29,7 +33,7 @@ class Name:
         }[self.kind]
 
     def where(self):
-        return f"in {self.token.line}:{self.token.column}"
+        return f"as {self.token.made}" if self.token.made else f"in {self.token.line}:{self.token.column}"
 
 
 class Found(Exception):
@@ -78,7 +82,8 @@ class Reader:
     def declare(self, name):
         earlier = self.scope.get(name.token.text)
         if earlier and self.is_at("twice", name.token):
-            raise Found(f"{earlier.told()}, declared {earlier.where()}.")
+            here = f"Here {name.token.made} is declared: " if name.token.made else ""
+            raise Found(f"{here}{earlier.told()}, declared {earlier.where()}.")
         self.scope[name.token.text] = name
 
     def use(self, token):
@@ -88,15 +93,21 @@ class Reader:
         return self.scope.get(token.text)
 
     def not_here(self, token):
-        name = token.text
-        if name in self.hidden:
-            return f"{self.hidden[name].told()} of a creator of this task, declared {self.hidden[name].where()}; the names after `do` are what the task gets of these."
-        if name == self.own:
+        text, name = token.text, token.spelled
+        if text in self.hidden:
+            return f"{self.hidden[text].told()} of a creator of this task, declared {self.hidden[text].where()}; the names after `do` are what the task gets of these."
+        if text == self.own:
             return f"`{name}` is in scope only after the statement that declares it, and not in its own value."
-        if name in self.gone:
-            return f"A `{name}` was declared {self.gone[name].where()}, in a block that has ended."
-        near = difflib.get_close_matches(name, self.scope, 1)
-        return f"No `{name}` is declared before this" + (f"; there is a `{near[0]}`, declared {self.scope[near[0]].where()}." if near else ".")
+        if text in self.gone:
+            return f"A `{name}` was declared {self.gone[text].where()}, in a block that has ended."
+        # By their spelling, the names of this body, and those of the bodies and of `main` that call it.
+        seen = {it.token.spelled: it for it in self.scope.values() if it.token.call is token.call or it.kind in ITEMS}
+        callers = [*(call.call for call in token.calls())]
+        theirs = next((it for it in self.scope.values() if it.token.spelled == name and it.token.call in callers), None)
+        if theirs:
+            return f"{theirs.told()} of what calls `{token.call.text}`, declared {theirs.where()}."
+        near = difflib.get_close_matches(name, seen, 1)
+        return f"No `{name}` is declared before this" + (f"; there is a `{near[0]}`, declared {seen[near[0]].where()}." if near else ".")
 
     def block(self, block):
         before = dict(self.scope)
@@ -163,7 +174,7 @@ class Reader:
         if name and name.kind in ("object", "family"):
             self.other_use(name, it.token)
         if name and name.kind in ("input", "loop") and self.is_at("assign", it.token):
-            raise Found(f"{name.told()}, declared {name.where()}: give its value to a local, as in `int a = {it.token.text};`, and change that.")
+            raise Found(f"{name.told()}, declared {name.where()}: give its value to a local, as in `int a = {it.token.spelled};`, and change that.")
         self.needs(it.value, "bool" if name and name.kind == "bool" else "int")
 
     def read_store(self, it):
@@ -193,7 +204,7 @@ class Reader:
 
     def read_withonly(self, it):
         self.block(it.section)
-        items = {name: found for name, found in self.scope.items() if found.kind in ("input", "object", "family")}
+        items = {name: found for name, found in self.scope.items() if found.kind in ITEMS}
         given, before, hidden = {}, self.scope, self.hidden
         for token in it.names:
             name = self.use(token)
@@ -215,7 +226,7 @@ def of_place(text, word, line, column):
     """What is said of a place that is refused with one of these words, or nothing."""
     try:
         reader = Reader(word, (line, column))
-        reader.program(Parser(tokens_of(text)).program())
+        reader.program(Parser(tokens_of_program(text)).program())
     except Refused:
         return None
     except Found as found:

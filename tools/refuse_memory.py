@@ -86,8 +86,18 @@ main {
     withonly { cm(s); } do () { s[0] = s[0] + 3; }
 }
 """
-# The turns are not those of a run by one worker, so the recording is followed turn by turn.
-RECORDED = f"jade record 1\nlimit 1000\nnumbers\nturns s 0.1 0.0\nanswer 1\ns = 8\ntext\n{PAIR}"
+PROCEDURES = """object s : 2;
+proc add(int n) { withonly { rd_wr(s); } do (n) { s[0] = s[0] + n; } }
+proc twice(int n) { add(n); add(n); }
+main { twice(3); s[1] = s[0]; }
+"""
+
+
+def recorded(turns, answer):
+    """A recording of the run of PAIR with these turns on its object."""
+    return f"jade record 1\nlimit 1000\nnumbers\nturns s {turns}\nanswer 1\n{answer}text\n{PAIR}"
+
+
 RUNS = (
     (["run", "1", "1000"], ONE_TASK, "s = 6\n"),
     (["run", "4", "1000"], ONE_TASK, "s = 6\n"),
@@ -97,7 +107,12 @@ RUNS = (
     (["run", "1", "1000"], SUMS, "part[0] = 0\npart[1] = 0\nsum = 12\n"),
     (["run", "4", "1000"], SUMS, "part[0] = 0\npart[1] = 0\nsum = 12\n"),
     (["record", "1", "1000"], ONE_TASK, f"jade record 1\nlimit 1000\nnumbers\nanswer 1\ns = 6\ntext\n{ONE_TASK}"),
-    (["replay"], RECORDED, "same\n"),
+    (["record", "1", "1000"], PAIR, recorded("0.0 0.1", "s = 5\n")),
+    (["replay"], recorded("0.0 0.1", "s = 5\n"), "same\n"),
+    # a run by one worker does not take these turns, so the recording is followed turn by turn
+    (["replay"], recorded("0.1 0.0", "s = 8\n"), "same\n"),
+    (["run", "1", "1000"], PROCEDURES, "s = 6 6\n"),
+    (["expand"], "proc f(int a) { int b = a; } main { f(1); }", "main { if true { int v0 = 1 ; int v1 = v0 ; } }\n"),
 )
 
 

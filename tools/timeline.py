@@ -25,7 +25,7 @@ commutes waits, too, until the one that had the object last before it has let go
 import bisect
 import sys
 
-from graph import COMMUTING, MOST_TASKS, groups_of, lines_of, refuse
+from graph import COMMUTING, MOST_TASKS, groups_of, lines_of, refuse, without_procedures
 from page import page
 from picture import LINE, PLUM, Picture, most_at_once, shares, short, steps_of, width
 from programs import run
@@ -310,7 +310,7 @@ def main():
     status = refuse(program, ["run", *words], text)
     if status:
         return status
-    ran = run([time_line, *words], text)
+    ran = run([time_line, *words], without_procedures(text))
     if ran.status:
         sys.exit(f"jade: the times could not be told (status {ran.status})")
     tasks = Tasks(lines_of(task_graph, words[1:], text))

@@ -3,9 +3,9 @@
 
     tools/try_pictures.py
 
-Each picture must be XML of at most 2,000 by 4,000 points with all tasks in it: where each has a box, its height is
-to scale with its steps; where a row or column stands for all tasks of a `withonly`, their numbers
-add up. A page must know each task. The script ends with 1 at the first that is otherwise.
+Each picture must be XML of at most 2,000 by 4,000 points with all tasks in it, each with the line of a `withonly`: where
+each has a box, its height is to scale with its steps; where a row or column stands for all tasks of a `withonly`, their
+numbers add up. A page must know each task. The script ends with 1 at the first that is otherwise.
 """
 import json
 import re
@@ -35,11 +35,27 @@ main {
     }
 }
 """
+PROCEDURES = """object s : 1;
+proc leaf(int a) {
+    withonly { rd_wr(s); } do (a) { s[0] = s[0] + a; }
+}
+proc both(int a) {
+    leaf(a);
+    withonly { df_rd_wr(s); } do (a) {
+        with { rd_wr(s); } cont;
+        leaf(a + 1);
+    }
+}
+main {
+    for i in 0 .. 5 { both(i); leaf(i); }
+}
+"""
 # How many tasks a text has, and the text.
 PROGRAMS = (
     (16, DRILL % (5, 20, 1)),
     (276, DRILL % (250, 64, 4)),
     (5001, DRILL % (2975, 4, 404)),
+    (21, PROCEDURES),
     (201, "object s : 1;\nmain {\n" + "withonly { rd(s); } do () { }\n" * 200 + "}\n"),
 )
 
@@ -70,8 +86,11 @@ def tasks_in(svg):
     return sum(told.values())
 
 
-def faults_of(count, tasks, pictures):
+def faults_of(count, text, tasks, pictures):
     """What is wrong with the pictures of a program, in words: of its tasks, and of their times."""
+    lines = text.split("\n")
+    if any(task.creator and "withonly" not in lines[task.line - 1] for task in tasks.tasks):
+        yield "a task has the line of no `withonly`"
     if not all(map(is_in_bounds, pictures)):
         yield "a picture is too large, or empty"
     of_tasks, of_times = (picture.svg() for picture in pictures)
@@ -88,11 +107,11 @@ def faults_of(count, tasks, pictures):
 
 def main():
     for count, text in PROGRAMS:
-        tasks = Tasks(graph.lines_of(built("task_graph"), ["100000000"], text))
-        ran = run([built("time_line"), "4", "100000000"], text)
+        tasks = Tasks(graph.lines_of(built("task_graph"), ["100000000"], text.encode()))
+        ran = run([built("time_line"), "4", "100000000"], graph.without_procedures(text.encode()))
         picture = graph.drawn(tasks, [])
         of_times = timeline.drawn(timeline.Times(tasks, ran.text.splitlines(), 4), [])
-        faults = list(faults_of(count, tasks, (picture, of_times)))
+        faults = list(faults_of(count, text, tasks, (picture, of_times)))
         known = json.loads(re.search(r"const tasks = (.*), most = 200;", page(picture, tasks))[1])
         if len(tasks.tasks) != count or len(known) != count:
             faults.append(f"there are {len(tasks.tasks)} tasks, and {len(known)} in the page")

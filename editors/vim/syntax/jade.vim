@@ -18,8 +18,10 @@ syntax keyword jadeBranch if else
 syntax keyword jadeLoop for in
 syntax keyword jadeTask withonly do with cont
 syntax keyword jadeRight rd wr rd_wr df_rd df_wr df_rd_wr cm no_rd no_wr no_rd_wr
-" kept for later: it stands in no form yet
-syntax keyword jadeKept proc
+syntax keyword jadeProc proc
+
+" a name before a bracket: that of a procedure, or of a call
+syntax match jadeCall "\<\h\w*\>\ze\_s*("
 
 syntax match jadeNumber "\<\(0\|[1-9]\d*\)\>"
 " a number has no needless zero, and no letter follows it
@@ -37,7 +39,8 @@ highlight default link jadeBranch Conditional
 highlight default link jadeLoop Repeat
 highlight default link jadeTask Statement
 highlight default link jadeRight StorageClass
-highlight default link jadeKept Error
+highlight default link jadeProc Define
+highlight default link jadeCall Function
 highlight default link jadeComment Comment
 highlight default link jadeNumber Number
 highlight default link jadeWrong Error
