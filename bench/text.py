@@ -49,6 +49,6 @@ def told(what, word, made, sizes):
     print("ratio: %.2f" % (times[-1] / times[0]))
     return times[-1]
 told("shown", "show", text, (262144, 1048576))
-expanded = told("expanded", "expand", with_procedures, (240000, 960000))
-as_it_is = told("as it is", "expand", text, (240000, 960000))
+expanded = told("expanded", "expand", with_procedures, (225000, 900000))
+as_it_is = told("as it is", "expand", text, (225000, 900000))
 print("expanded takes %.2f times what a text without procedures takes, which is only cut into tokens" % (expanded / as_it_is))
