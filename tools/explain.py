@@ -68,7 +68,7 @@ RECORDINGS = {
 }
 
 # What the lines of a recording are, from its first on; the lines after these are any of the last.
-LINES = ("`jade record 1`", "`limit LIMIT`", "`numbers` and the NUMBERs")
+LINES = ("`jade record 1`", "`limit LIMIT`, with a LIMIT from 1 to 4294967295", "`numbers` and at most 64 NUMBERs")
 LATER = "`turns LABEL PATH..`, or `answer K`, or one of K lines of answer, and then `text`"
 
 # The words of each command, and the most that those may be which are numbers from 1 on.
@@ -211,10 +211,10 @@ def inputs_of(text):
     return [f"`{name.text}`" for word, name in zip(tokens, tokens[1:]) if word.text == "input"]
 
 
-def why_numbers(text):
-    """Which numbers a program wants."""
+def why_numbers(text, where):
+    """Which numbers a program wants, and where they are given."""
     inputs = inputs_of(text)
-    return f"One NUMBER is given for each input, after LIMIT: {', '.join(inputs)}." if inputs else "The program has no inputs."
+    return f"One NUMBER is given for each input, {where}: {', '.join(inputs)}." if inputs else "The program has no inputs."
 
 
 def explanation(text, words, answer):
@@ -223,12 +223,14 @@ def explanation(text, words, answer):
     refusal = re.fullmatch(r"refused ([0-9]+):([0-9]+) ([a-z]+)\n", answer)
     if answer.startswith(("record: ", "replay: ")):
         return why_recording(answer)
+    where = "after LIMIT"
     if words[:1] == ["replay"] and answer != "usage\n" and not answer.startswith("refused 1:1 text"):
+        where = "in the line `numbers` of the recording"
         text, words = recorded(text)
     if answer == "usage\n":
         return f"usage: {why_usage(words)}\n"
     if answer.startswith("numbers: "):
-        return f"numbers: {why_numbers(text)}\n"
+        return f"numbers: {why_numbers(text, where)}\n"
     if not fault and not refusal:
         return ""
     line, column, word = (refusal or fault).groups()[:3]
