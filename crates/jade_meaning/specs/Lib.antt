@@ -10,13 +10,14 @@ pub mod Turns
 pub mod Uncommuting
 pub mod Laws
 pub mod Answer
+pub mod Moved
 pub mod Proper
 pub mod Report
 pub mod Plan
 pub mod ReportAnswer
 pub mod AtOnce
 pub mod Walks
-pub mod Codes
+pub mod Encodings
 pub mod Walk
 -- What only serves the contracts of private functions.
 pub mod steps

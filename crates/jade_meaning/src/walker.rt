@@ -79,7 +79,7 @@ pub struct Walker<'c> {
 }
 
 impl<'c> Model for Walker<'c> {
-    ghost use Rattle.jade_meaning.specs.Codes.{coded_walk};
+    ghost use Rattle.jade_meaning.specs.Encodings.{coded_walk};
     ghost use Rattle.jade_meaning.specs.Walks.{Walk};
 
     ghost Value = { Walk };

@@ -64,7 +64,8 @@ use Rattle.jade_run.specs.Answered.{
   answer_status,
   input_count,
 }
-use Rattle.jade_run.specs.Standing.{NotExpanded, first_place, traced, byte, number, deep, not_lexed, improper}
+use Rattle.jade_meaning.specs.Moved.{moved_answer}
+use Rattle.jade_run.specs.Standing.{NotExpanded, first_place, byte, number, deep, not_lexed, improper}
 use Rattle.jade_run.specs.Outcome.{SameOutcome}
 use Rattle.jade_run.specs.Sums.{sum_of_cells}
 use Rattle.jade_run.specs.Texts.{refused_text, numbers_text, static_word, drilled_text}
@@ -237,10 +238,10 @@ same_answers law bytes numbers limit turns t u s r (answered x f g n a) (answere
     let same = same_program law bytes x y g.read h.read in
     let homes : f ≡ e = same_home bytes x y f e g.read h.read in
     record {
-      text = a.shown ∙ ap (λ p. answer_text p (traced f (answer p numbers limit turns))) same
-          ∙ ap (λ (z : Pos → Pos). answer_text (program y) (traced z (answer (program y) numbers limit turns))) homes ∙ sym b.shown;
-      status = a.ended ∙ ap (λ p. answer_status (traced f (answer p numbers limit turns))) same
-          ∙ ap (λ (z : Pos → Pos). answer_status (traced z (answer (program y) numbers limit turns))) homes ∙ sym b.ended;
+      text = a.shown ∙ ap (λ p. answer_text p (moved_answer f (answer p numbers limit turns))) same
+          ∙ ap (λ (z : Pos → Pos). answer_text (program y) (moved_answer z (answer (program y) numbers limit turns))) homes ∙ sym b.shown;
+      status = a.ended ∙ ap (λ p. answer_status (moved_answer f (answer p numbers limit turns))) same
+          ∙ ap (λ (z : Pos → Pos). answer_status (moved_answer z (answer (program y) numbers limit turns))) homes ∙ sym b.ended;
     }
 same_answers law bytes numbers limit turns t u s r (answered x f g n a) (miscounted y e h m c d) = absurd (m (n ∙ same_count law bytes x y g.read h.read))
 same_answers law bytes numbers limit turns t u s r (answered x f g n a) (refused q w k c d) = absurd (good_or_refused law bytes x q w g k)
@@ -277,7 +278,7 @@ same_expanded law bytes t u s r (not_expanded p v h a b) (not_expanded q w k c d
 well : Parses → (bytes : List ℕ) (x : Program) (f : Pos → Pos) (limit : ℕ) (turns : TurnLists) (store : Store) (t : List ℕ) (s : Status) → IsGood bytes x f
     → input_count x ≡ 0 → answer (program x) [] limit turns ≡ Cells store → IsAnswered bytes [] limit turns t s → s ≡ Good
 well law bytes x f limit turns store t s g n e (answered y k h m a) =
-    a.ended ∙ ap (λ p. answer_status (traced k (answer p [] limit turns))) (same_program law bytes y x h.read g.read) ∙ ap (λ z. answer_status (traced k z)) e
+    a.ended ∙ ap (λ p. answer_status (moved_answer k (answer p [] limit turns))) (same_program law bytes y x h.read g.read) ∙ ap (λ z. answer_status (moved_answer k z)) e
 well law bytes x f limit turns store t s g n e (miscounted y k h m a b) = absurd (m (sym n ∙ same_count law bytes x y g.read h.read))
 well law bytes x f limit turns store t s g n e (refused q w k a b) = absurd (good_or_refused law bytes x q w g k)
 

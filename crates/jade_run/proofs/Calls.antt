@@ -35,7 +35,8 @@ use Rattle.jade_run.specs.Recordings.{
   differs,
   same,
 }
-use Rattle.jade_run.specs.Standing.{NotExpanded, first_place, traced}
+use Rattle.jade_meaning.specs.Moved.{moved_answer}
+use Rattle.jade_run.specs.Standing.{NotExpanded, first_place}
 use Rattle.jade_run.specs.Texts.{usage_text, refused_text, ok_text}
 use Rattle.jade_run.specs.Words.{SpellsExecution, NeedsText, RefusesWords, Asks, IsUsage, to_run, to_serial, to_check, to_show, to_record, to_replay, to_expand, on_text}
 use Rattle.jade_run.specs.Words.{works_on_text}
@@ -326,7 +327,7 @@ good_tested bytes tree home text g t = good tree home g t refl
 
 pub answered_in : (bytes : List ℕ) (numbers : List ℤ) (limit : ℕ) (turns : TurnLists) (tree : Program) (home : Pos → Pos)
     (r : Result AnswerOf NoMemory) → IsGood bytes tree home →
-    length numbers ≡ input_count tree → IfOk r (λ a. Shows (program tree) (traced home (answer (program tree) numbers limit turns)) a.text.items a.status) →
+    length numbers ≡ input_count tree → IfOk r (λ a. Shows (program tree) (moved_answer home (answer (program tree) numbers limit turns)) a.text.items a.status) →
     IfOk r (λ a. IsAnswered bytes numbers limit turns a.text.items a.status)
 answered_in bytes numbers limit turns tree home (Ok a) g n h = answered tree home g n h
 answered_in bytes numbers limit turns tree home (Err m) g n h = tt

@@ -13,7 +13,7 @@ use Rattle.jade_run.specs.declared.status.Status.TheVariants.{Good, Fault, Refus
 use Rattle.jade_run.specs.Answered.{TurnLists, BySomeTurns, IsAnswered, IsDrilled, IsGood, Shows}
 use Rattle.jade_meaning.specs.Turns.{in_order}
 use Rattle.jade_run.specs.Answered.{summed, not_summed, answered, input_count}
-use Rattle.jade_run.specs.Standing.{traced}
+use Rattle.jade_meaning.specs.Moved.{moved_answer}
 use Rattle.jade_run.specs.Witnessed.{SeenRun}
 use Rattle.jade_run.specs.steps.Drilling.{IsDrillOf, ShowsSum}
 use Rattle.jade_run.specs.steps.Preparing.{IsSettled}
@@ -39,10 +39,10 @@ settled_drilled tasks bytes text status e h =
     not_summed (subst P e (h.answered 4294967295 in_order)) (unrun_is_bad status h.unrun)
 
 told : (tasks : ℕ) (tree : Program) (home : Pos → Pos) (text : List ℕ) (status : Status) → IsGood (drill_text tasks) tree home → input_count tree ≡ 0 →
-    (x : Answer) → answer (program tree) [] 4294967295 in_order ≡ x → ShowsSum (program tree) tasks (traced home x) text status → IsDrilled tasks text status
+    (x : Answer) → answer (program tree) [] 4294967295 in_order ≡ x → ShowsSum (program tree) tasks (moved_answer home x) text status → IsDrilled tasks text status
 told tasks tree home text status g n (Cells store) e h = summed tree home g n store e h.0 h.1
 told tasks tree home text status g n (Faulted path blame) e h =
-    let P : Answer → Type 0 = λ x. Shows (program tree) (traced home x) text status in
+    let P : Answer → Type 0 = λ x. Shows (program tree) (moved_answer home x) text status in
     not_summed (answered tree home g (sym n) (subst P (sym e) h)) (λ good. fault_is_bad (sym h.ended ∙ good))
 
 pub sum_drilled : (tasks : ℕ) (bytes : List ℕ) (tree : Program) (home : Pos → Pos) (r : Result AnswerOf NoMemory) → bytes ≡ drill_text tasks →
@@ -52,7 +52,7 @@ pub sum_drilled : (tasks : ℕ) (bytes : List ℕ) (tree : Program) (home : Pos 
     IfOk r (λ a. IsDrilled tasks a.text.items a.status)
 sum_drilled tasks bytes tree home (Ok a) made g n same old new h =
     let P : List ℕ → Type 0 = λ b. IsGood b tree home in
-    let Q : Answer → Type 0 = λ x. ShowsSum (program tree) tasks (traced home x) a.text.items a.status in
+    let Q : Answer → Type 0 = λ x. ShowsSum (program tree) tasks (moved_answer home x) a.text.items a.status in
     let good : IsGood (drill_text tasks) tree home = subst P made g in
     told tasks tree home a.text.items a.status good n (answer (program tree) [] 4294967295 in_order) refl (subst Q (same good h.0) h.1.shows)
 sum_drilled tasks bytes tree home (Err m) made g n same old new h = tt

@@ -45,7 +45,7 @@ use Rattle.jade_run.specs.Recordings.{AreAnswer, IsRecordingOf, kept, long, not_
 use Rattle.jade_run.specs.steps.Preparing.{IsSettled}
 use Rattle.jade_run.specs.steps.Recording.{IsKeptRun, IsKeptText, IsWrittenAs, whole, too_long}
 use Rattle.jade_run.specs.Witnessed.{SawKept, SawOne, SeenRun}
-use Rattle.jade_run.specs.Standing.{traced}
+use Rattle.jade_meaning.specs.Moved.{moved_answer}
 use Rattle.jade_run.proofs.Standings.{stands_within}
 use Rattle.jade_run.proofs.Witnessing.{one}
 use Rattle.jade_run.specs.Answered.{answer_text, input_count, BySomeTurns, IsGood, Shows, TurnLists}
@@ -252,11 +252,11 @@ lists_counted r p ns limit turns e =
 
 -- the lines of the answer that a report tells are those of the program's
 pub lines_tell : (r : Report) (p : AbstractProgram) (home : Pos → Pos) (ns : List ℤ) (limit : ℕ) (turns : TurnLists) (found : List (List ℕ))
-    → r ≡ report p ns limit turns → ReportTells p ns limit turns → AreLines found (answer_text p (traced home (report_answer limit r)))
+    → r ≡ report p ns limit turns → ReportTells p ns limit turns → AreLines found (answer_text p (moved_answer home (report_answer limit r)))
     → AreAnswer found p home ns limit turns
 lines_tell r p home ns limit turns found e t are =
     let same : report_answer limit r ≡ answer p ns limit turns = ap (report_answer limit) e ∙ t.same in
-    subst (AreLines found) (ap (λ a. answer_text p (traced home a)) same) are
+    subst (AreLines found) (ap (λ a. answer_text p (moved_answer home a)) same) are
 
 pub is_recorded : (limit : ℕ) (given copies : List ℤ) (turns : List LabelledTurn) (lines : List (List ℕ)) (text : List ℕ) → 1 ≤ limit → limit ≤ 4294967295 → copies ≡ given
     → list_all is_number given ≡ true → length given ≤ 64 → All IsTurn turns → length lines ≤ 4096 → All (Lacks 10) lines

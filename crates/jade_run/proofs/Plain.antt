@@ -10,7 +10,7 @@ use Rattle.jade_meaning.specs.Serial.{Mark, after, zeros}
 use Rattle.jade_meaning.specs.Uncommuting.{uses_cm}
 use Rattle.jade_run.specs.declared.status.Status.{Status}
 use Rattle.jade_run.specs.Answered.{IsAnswered, IsPlain, Shows, TurnLists, answered, miscounted, refused}
-use Rattle.jade_run.specs.Standing.{traced}
+use Rattle.jade_meaning.specs.Moved.{moved_answer}
 
 -- a program without the word has one answer
 pub one_answer : ((p : AbstractProgram) (ns : List ℤ) (limit : ℕ) (turns : TurnLists) → uses_cm p ≡ false → NoneCommutes p ns limit turns)
@@ -25,7 +25,7 @@ pub same_by_all : ((p : AbstractProgram) (ns : List ℤ) (limit : ℕ) (turns : 
     → (bytes : List ℕ) (numbers : List ℤ) (limit : ℕ) (turns others : TurnLists) (text : List ℕ) (status : Status) → IsPlain bytes
     → IsAnswered bytes numbers limit turns text status → IsAnswered bytes numbers limit others text status
 same_by_all without plainly bytes ns limit turns others text status plain (answered tree home g n a) =
-    let P : Answer → Type 0 = λ x. Shows (program tree) (traced home x) text status in
+    let P : Answer → Type 0 = λ x. Shows (program tree) (moved_answer home x) text status in
     answered tree home g n (subst P (one_answer without plainly (program tree) ns limit turns others (plain tree home g)) a)
 same_by_all without plainly bytes ns limit turns others text status plain (miscounted tree home g n t s) = miscounted tree home g n t s
 same_by_all without plainly bytes ns limit turns others text status plain (refused place why for t s) = refused place why for t s

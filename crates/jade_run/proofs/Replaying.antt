@@ -32,7 +32,7 @@ use Rattle.jade_run.specs.declared.status.Status.{Status}
 use Rattle.jade_run.specs.declared.status.Status.TheVariants.{Good, Refused, Numbers, Replay}
 use Rattle.jade_run.specs.Answered.{IsAnswered, Shows, answer_status, answer_text, answered, miscounted, refused}
 use Rattle.jade_run.specs.Recordings.{HasTurns, IsRecording, IsReplayed, ListsByObject, Plays, differs, formless, same, turnless, uncounted, unfit}
-use Rattle.jade_run.specs.Standing.{traced}
+use Rattle.jade_meaning.specs.Moved.{moved_answer}
 use Rattle.jade_run.specs.steps.Preparing.{IsSettled}
 use Rattle.jade_run.specs.steps.Recording.{IsCompared, alike, unlike}
 use Rattle.jade_run.specs.Texts.{differs_text, form_text, no_turns_text, same_text}
@@ -59,9 +59,9 @@ other_lists xs ys b h f s = let t : b ≡ true = h.1 s in absurd (cc)
 -- what is written of the answer that the report of a run tells
 pub told_text : (r : Report) (p : AbstractProgram) (home : Pos → Pos) (ns : List ℤ) (limit own : ℕ) (lists : ListsByObject) (text : List ℕ) (status : Status) → own ≡ limit
     → r ≡ report p ns limit (turns_in lists) → ReportTells p ns limit (turns_in lists)
-    → Shows p (traced home (report_answer own r)) text status → text ≡ answer_text p (traced home (answer p ns limit (turns_in lists)))
+    → Shows p (moved_answer home (report_answer own r)) text status → text ≡ answer_text p (moved_answer home (answer p ns limit (turns_in lists)))
 told_text r p home ns limit own lists text status l e t s =
-    s.shown ∙ ap (λ k. answer_text p (traced home (report_answer k r))) l ∙ ap (λ a. answer_text p (traced home a)) (ap (report_answer limit) e ∙ t.same)
+    s.shown ∙ ap (λ k. answer_text p (moved_answer home (report_answer k r))) l ∙ ap (λ a. answer_text p (moved_answer home a)) (ap (report_answer limit) e ∙ t.same)
 
 -- lines that were found to be those of a text
 pub lines_are : (b : Bool) (own lines : List (List ℕ)) (told text : List ℕ) → IsTrue b ↔ AreLines own told → b ≡ true → own ≡ lines → told ≡ text
@@ -78,13 +78,13 @@ lines_are_not b own lines told text h n e f a =
 
 -- a recording whose lines are those of its run's answer
 pub is_alike : (r : Recorded) (tree : Program) (home : Pos → Pos) (lists : ListsByObject) (told text : List ℕ) (status : Status)
-    → told ≡ answer_text (program tree) (traced home (answer (program tree) r.numbers r.limit (turns_in lists))) → AreLines r.answer told → text ≡ same_text → status ≡ Good
+    → told ≡ answer_text (program tree) (moved_answer home (answer (program tree) r.numbers r.limit (turns_in lists))) → AreLines r.answer told → text ≡ same_text → status ≡ Good
     → IsCompared r tree home lists text status
 is_alike r tree home lists told text status e a t s = alike (subst (AreLines r.answer) e a) t s
 
 -- a recording whose lines are not
 pub is_unlike : (r : Recorded) (tree : Program) (home : Pos → Pos) (lists : ListsByObject) (told text : List ℕ) (status : Status)
-    → told ≡ answer_text (program tree) (traced home (answer (program tree) r.numbers r.limit (turns_in lists))) → (AreLines r.answer told → ⊥) → text ≡ differs_text
+    → told ≡ answer_text (program tree) (moved_answer home (answer (program tree) r.numbers r.limit (turns_in lists))) → (AreLines r.answer told → ⊥) → text ≡ differs_text
     → status ≡ Replay → IsCompared r tree home lists text status
 is_unlike r tree home lists told text status e n t s = unlike (λ a. n (subst (AreLines r.answer) (sym e) a)) t s
 
@@ -208,7 +208,7 @@ not_run (Cells store) status e (inr f) = absurd (cc)
 
 settled_as : (bytes : List ℕ) (r : Recorded) (text : List ℕ) (status : Status) → IsRecording bytes r → (status ≡ Refused) ⊎ (status ≡ Numbers)
     → IsAnswered r.text r.numbers r.limit in_order text status → IsReplayed bytes text status
-settled_as bytes r text status rec u (answered tree home g n s) = absurd (not_run (traced home (answer (program tree) r.numbers r.limit in_order)) status s.ended u)
+settled_as bytes r text status rec u (answered tree home g n s) = absurd (not_run (moved_answer home (answer (program tree) r.numbers r.limit in_order)) status s.ended u)
 settled_as bytes r text status rec u (miscounted tree home g n t s) = uncounted r rec tree home g n t s
 settled_as bytes r text status rec u (refused place why f t s) = unfit r rec place why f t s
 

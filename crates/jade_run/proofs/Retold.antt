@@ -42,7 +42,7 @@ use Rattle.jade_run.specs.Recordings.{
   differs,
   same,
 }
-use Rattle.jade_run.specs.Standing.{traced}
+use Rattle.jade_meaning.specs.Moved.{moved_answer}
 use Rattle.jade_run.specs.Texts.{differs_text, form_text, no_turns_text, same_text}
 use Rattle.jade_run.proofs.Alike.{Parses, good_or_refused, same_answers, same_count, same_home, same_program}
 use Rattle.jade_run.proofs.Standings.{stands_within}
@@ -224,7 +224,7 @@ answers_well (Cells store) s e good fault = good e
 -- a program that is run comes to an answer
 is_run : Parses → (bytes : List ℕ) (numbers : List ℤ) (limit : ℕ) (turns : TurnLists) (x : Program) {f : Pos → Pos} (t : List ℕ) (s : Status) → IsGood bytes x f →
     length numbers ≡ input_count x → IsAnswered bytes numbers limit turns t s → (s ≡ Good → ⊥) → (s ≡ Fault → ⊥) → ⊥
-is_run law bytes numbers limit turns x t s g n (answered y k h m a) good fault = answers_well (traced k (answer (program y) numbers limit turns)) s a.ended good fault
+is_run law bytes numbers limit turns x t s g n (answered y k h m a) good fault = answers_well (moved_answer k (answer (program y) numbers limit turns)) s a.ended good fault
 is_run law bytes numbers limit turns x t s g n (miscounted y k h m a b) good fault = m (n ∙ same_count law bytes x y g.read h.read)
 is_run law bytes numbers limit turns x t s g n (refused place why k a b) good fault = good_or_refused law bytes x place why g k
 
@@ -275,7 +275,7 @@ same_recorded law bytes numbers limit turns x y f e r q g h a b =
     let limits : r.limit ≡ q.limit = a.limited ∙ sym b.limited in
     let given : r.numbers ≡ q.numbers = a.given ∙ sym b.given in
     let taken : r.turns ≡ q.turns = a.taken ∙ ap (λ (z : AbstractProgram). labelled_turns z.items turns) p ∙ sym b.taken in
-    let told : r.answer ≡ q.answer = lines_once r.answer q.answer (answer_text (program y) (traced e (answer (program y) numbers limit turns))) there b.told in
+    let told : r.answer ≡ q.answer = lines_once r.answer q.answer (answer_text (program y) (moved_answer e (answer (program y) numbers limit turns))) there b.told in
     let texts : r.text ≡ q.text = a.of_text ∙ sym b.of_text in
     let A : ℕ → Recorded = λ z. record { limit = z; numbers = r.numbers; turns = r.turns; answer = r.answer; text = r.text } in
     let B : List ℤ → Recorded = λ z. record { limit = q.limit; numbers = z; turns = r.turns; answer = r.answer; text = r.text } in

@@ -18,7 +18,7 @@ use Rattle.jade_run.specs.declared.answer.Answer.{Answer as AnswerOf}
 use Rattle.jade_run.specs.declared.standing.Home.{Home}
 use Rattle.jade_run.specs.declared.status.Status.{Status}
 use Rattle.jade_run.specs.Answered.{fault_key, Shows, TurnLists}
-use Rattle.jade_run.specs.Standing.{traced}
+use Rattle.jade_meaning.specs.Moved.{moved_answer}
 use Rattle.jade_run.specs.Witnessed.{SeenRun, seen_with}
 use Rattle.jade_run.specs.steps.Ending.{ShownRun}
 use Rattle.jade_run.specs.steps.Preparing.{IsReady, IsSettled}
@@ -37,11 +37,11 @@ faults_ascend r p ns limit turns e h = let P : Report → Type 0 = λ x. Ascends
 -- what shows the answer that the report tells shows the program's
 pub shows_answer : (r : Report) (home : Pos → Pos) (p q s : CheckedProgram) (ns : List ℤ) (limit : ℕ) (turns : TurnLists) (text : List ℕ) (status : Status)
     → r ≡ report (program p.program) ns limit turns →
-    q ≡ p → s ≡ q → ReportTells (program p.program) ns limit turns → Shows (program s.program) (traced home (report_answer limit r)) text status →
-    Shows (program p.program) (traced home (answer (program p.program) ns limit turns)) text status
+    q ≡ p → s ≡ q → ReportTells (program p.program) ns limit turns → Shows (program s.program) (moved_answer home (report_answer limit r)) text status →
+    Shows (program p.program) (moved_answer home (answer (program p.program) ns limit turns)) text status
 shows_answer r home p q s ns limit turns text status e f g t h =
-    let P : Answer → Type 0 = λ a. Shows (program p.program) (traced home a) text status in
-    let Q : CheckedProgram → Type 0 = λ x. Shows (program x.program) (traced home (report_answer limit r)) text status in
+    let P : Answer → Type 0 = λ a. Shows (program p.program) (moved_answer home a) text status in
+    let Q : CheckedProgram → Type 0 = λ x. Shows (program x.program) (moved_answer home (report_answer limit r)) text status in
     subst P (ap (report_answer limit) e ∙ t.same) (subst Q (g ∙ f) h)
 
 pub program_ready : (bytes : List ℕ) (ns : List ℤ) (r : Ready) (c : CheckedProgram) (home : Home) → r ≡ Program c home → IsReady bytes ns r

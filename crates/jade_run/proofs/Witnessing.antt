@@ -19,7 +19,7 @@ use Rattle.jade_run.specs.Answered.{BySomeTurns, IsDrilled, IsGood, TurnLists, a
 use Rattle.jade_run.specs.steps.Drilling.{IsDrillOf, IsRunDrill, ShowsSum}
 use Rattle.jade_run.specs.steps.Ending.{IsRunOf, IsRunText, ShownRun}
 use Rattle.jade_run.specs.steps.Preparing.{IsSettled}
-use Rattle.jade_run.specs.Standing.{traced}
+use Rattle.jade_meaning.specs.Moved.{moved_answer}
 use Rattle.jade_run.specs.Witnessed.{SeenRun, SawOne, SawRun, SawCommand, SawWords}
 use Rattle.jade_run.specs.Witnessed.{serially, checks, shows, replays, expands, of_run, of_drill, of_record, of_none}
 use Rattle.jade_run.specs.Words.{NeedsText, Asks, to_run, to_serial, to_check, to_show, to_record, to_replay, to_expand}
@@ -54,7 +54,7 @@ program_saw bytes ns limit tree home (Ok a) before after g n h = (
   record {
     is = answered tree home g n h.1.shows;
     saw = subst (λ s. SawRun bytes ns limit h.0 s before after) (sym h.1.shows.ended)
-        (answer_saw bytes ns limit h.0 (traced home (answer (program tree) ns limit h.0)) before after (one bytes ns limit h.0 tree home before after g h.1.shown));
+        (answer_saw bytes ns limit h.0 (moved_answer home (answer (program tree) ns limit h.0)) before after (one bytes ns limit h.0 tree home before after g h.1.shown));
   },
 )
 program_saw bytes ns limit tree home (Err m) before after g n h = tt
@@ -78,7 +78,7 @@ drill_saw tasks bytes tree home (Ok a) before after made g h d = (
     is = d;
     saw =
         let P : List ℕ → Type 0 = λ b. IsGood b tree home in
-        sum_saw (program tree) tasks (traced home (answer (program tree) [] 4294967295 h.0)) (drill_text tasks) a.text.items a.status [] 4294967295 h.0 before after h.1.shows
+        sum_saw (program tree) tasks (moved_answer home (answer (program tree) [] 4294967295 h.0)) (drill_text tasks) a.text.items a.status [] 4294967295 h.0 before after h.1.shows
         (one (drill_text tasks) [] 4294967295 h.0 tree home before after (subst P made g) h.1.shown);
   },
 )

@@ -25,7 +25,8 @@ use Rattle.jade_run.specs.declared.status.Status.{Status}
 use Rattle.jade_run.specs.declared.status.Status.TheVariants.{Good, Fault, Refused, Numbers}
 use Rattle.jade_run.specs.declared.answer.ReadError.{ReadError}
 use Rattle.jade_run.specs.declared.answer.ReadError.TheVariants.{Refused as RefusedAt, Memory}
-use Rattle.jade_run.specs.Standing.{NotExpanded, NotLexed, StandsFor, traced}
+use Rattle.jade_meaning.specs.Moved.{moved_answer}
+use Rattle.jade_run.specs.Standing.{NotExpanded, NotLexed, StandsFor}
 use Rattle.jade_run.specs.Sums.{sum_of_cells}
 use Rattle.jade_run.specs.Texts.{refused_text, fault_text, objects_text, numbers_text, ok_text, static_word, drilled_text}
 
@@ -112,7 +113,7 @@ BySomeTurns P = (turns : TurnLists) × P turns
 -- or a refusal
 pub data IsAnswered (bytes : List ℕ) (numbers : List ℤ) (limit : ℕ) (turns : TurnLists) (text : List ℕ) (status : Status) : Type 0 where
   answered : (tree : Program) → (home : Pos → Pos) → IsGood bytes tree home → length numbers ≡ input_count tree →
-      Shows (program tree) (traced home (answer (program tree) numbers limit turns)) text status → IsAnswered bytes numbers limit turns text status
+      Shows (program tree) (moved_answer home (answer (program tree) numbers limit turns)) text status → IsAnswered bytes numbers limit turns text status
   miscounted : (tree : Program) → (home : Pos → Pos) → IsGood bytes tree home → (length numbers ≡ input_count tree → ⊥) → text ≡ numbers_text (input_count tree) (length numbers) →
       status ≡ Numbers → IsAnswered bytes numbers limit turns text status
   refused : (place : Pos) (why : List ℕ) → RefusedFor bytes place why → text ≡ refused_text place why → status ≡ Refused →

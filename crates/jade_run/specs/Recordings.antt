@@ -15,7 +15,7 @@ use Rattle.run_record.specs.Recording.{Recorded, IsRecorded, recording}
 use Rattle.jade_run.specs.declared.status.Status.{Status}
 use Rattle.jade_run.specs.declared.status.Status.TheVariants.{Good, Fault, Refused, Numbers, Replay}
 use Rattle.jade_run.specs.Answered.{IsAnswered, IsGood, RefusedFor, TurnLists, answer_text, input_count}
-use Rattle.jade_run.specs.Standing.{traced}
+use Rattle.jade_meaning.specs.Moved.{moved_answer}
 use Rattle.jade_run.specs.Texts.{differs_text, form_text, long_text, no_turns_text, numbers_text, refused_text, same_text}
 
 -- the turns that tasks took on each object, one list for each
@@ -24,7 +24,7 @@ ListsByObject = List (List Path)
 
 -- lines are those that are written of the answer of a program, whose places come from these, run with these numbers, a limit and turn lists
 abbrev pub AreAnswer : (lines : List (List ℕ)) → AbstractProgram → (home : Pos → Pos) → (numbers : List ℤ) → (limit : ℕ) → TurnLists → Type 0
-AreAnswer lines p home numbers limit turns = AreLines lines (answer_text p (traced home (answer p numbers limit turns)))
+AreAnswer lines p home numbers limit turns = AreLines lines (answer_text p (moved_answer home (answer p numbers limit turns)))
 
 -- a recording is that of a run of a text's program by its turns, which are full
 pub record IsRecordingOf (bytes : List ℕ) (tree : Program) (home : Pos → Pos) (numbers : List ℤ) (limit : ℕ) (turns : TurnLists) (r : Recorded) : Type 0 where

@@ -1,11 +1,9 @@
 -- What is read in place of a text: itself, or the text without its procedures.
-use Rattle.std.specs.Prelude.{◌≡◌, ℕ, true, false, List, codes, Option, Some, None, Ok, Err}
+use Rattle.std.specs.Prelude.{◌≡◌, ℕ, true, false, List, codes, Ok, Err}
 use Rattle.jade_base.specs.declared.place.Pos.{Pos}
-use Rattle.jade_base.specs.declared.report.Blame.{Blame}
 use Rattle.jade_lexer.specs.declared.lexeme.LexError.TheVariants.{Byte, Number, Deep}
 use Rattle.jade_lexer.specs.Lexemes.{TokenList}
 use Rattle.jade_lexer.specs.Reading.{reading, Whole, Refused as Unlexed}
-use Rattle.jade_meaning.specs.Answer.{Answer, Faulted, Cells}
 use Rattle.proc_expand.specs.declared.error.ExpandError.{ExpandError}
 use Rattle.proc_expand.specs.declared.error.ExpandError.TheVariants.{Shape, Unknown, Count, Twice, Grown, Memory}
 use Rattle.proc_expand.specs.Expanded.{ExpandedText, text_of, origin_of, outcome}
@@ -42,16 +40,3 @@ pub data StandsFor (bytes text : List ℕ) (home : Pos → Pos) : Type 0 where
   itself : (tokens : TokenList) → reading bytes ≡ Whole tokens → has_proc tokens.lexemes ≡ false → text ≡ bytes → home ≡ (λ at. at) → StandsFor bytes text home
   expansion : (tokens : TokenList) → reading bytes ≡ Whole tokens → has_proc tokens.lexemes ≡ true → (e : ExpandedText) → outcome tokens ≡ Ok e →
       text ≡ text_of e → home ≡ origin_of e → StandsFor bytes text home
-
--- the place of a blame, where it has one, as it was given
-abbrev pub traced_place : (Pos → Pos) → Option Pos → Option Pos
-traced_place home None = None
-traced_place home (Some at) = Some (home at)
-
-abbrev pub traced_blame : (Pos → Pos) → Blame → Blame
-traced_blame home blame = record { kind = blame.kind; pos = traced_place home blame.pos }
-
--- an answer whose fault stands where its place comes from
-abbrev pub traced : (Pos → Pos) → Answer → Answer
-traced home (Faulted path blame) = Faulted path (traced_blame home blame)
-traced home (Cells store) = Cells store

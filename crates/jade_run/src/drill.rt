@@ -9,7 +9,7 @@ ghost use Rattle.jade_meaning.specs.ReportAnswer.{report_answer};
 ghost use Rattle.jade_meaning.specs.Turns.{Full, turns_in};
 ghost use Rattle.jade_run.specs.Answered.{BySomeTurns};
 ghost use Rattle.jade_run.specs.Outcome.{IsCrew};
-ghost use Rattle.jade_run.specs.Standing.{traced};
+ghost use Rattle.jade_meaning.specs.Moved.{moved_answer};
 ghost use Rattle.jade_run.specs.steps.Homes.{home_of};
 ghost use Rattle.jade_run.specs.steps.Drilling.{IsDrillOf, IsRunDrill, ShowsSum};
 
@@ -45,7 +45,7 @@ fn sum_of_run(
     requires few { sum_by length (report (program ran.plan.program) ran.plan.numbers ran.plan.limit (turns_in ran.report.turns)).objects ≤ 1048576 }
     ensures full { IfOk result (λ _. Full (program ran.entry.plan.program) ran.entry.plan.numbers ran.entry.plan.limit (turns_in ran.entry.report.turns)) }
     ensures shows { IfOk result (λ a. ShowsSum (program checked.now.program) tasks
-        (traced (home_of home.now)
+        (moved_answer (home_of home.now)
         (report_answer 4294967295 (report (program ran.entry.plan.program) ran.entry.plan.numbers ran.entry.plan.limit (turns_in ran.entry.report.turns))))
         a.text.items a.status) }
 {

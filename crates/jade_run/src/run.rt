@@ -11,7 +11,7 @@ ghost use Rattle.jade_meaning.specs.Turns.{Full, in_order, turns_in};
 ghost use Rattle.serial_machine.specs.Answers.{told};
 ghost use Rattle.jade_run.specs.Answered.{fault_key, BySomeTurns, IsAnswered, Shows};
 ghost use Rattle.jade_run.specs.Outcome.{IsCrew};
-ghost use Rattle.jade_run.specs.Standing.{traced};
+ghost use Rattle.jade_meaning.specs.Moved.{moved_answer};
 ghost use Rattle.jade_run.specs.steps.Homes.{home_of};
 ghost use Rattle.jade_run.specs.steps.Ending.{IsRunOf, IsRunText};
 
@@ -86,7 +86,7 @@ pub(crate) fn answer_of(
     limit: u32,
 ) -> Result<Answer, Memory>
     requires { Ascends (map fault_key report.now.faults) }
-    ensures { IfOk result (λ a. Shows (program checked.now.program) (traced (home_of home.now) (report_answer limit report.now)) a.text.items a.status) }
+    ensures { IfOk result (λ a. Shows (program checked.now.program) (moved_answer (home_of home.now) (report_answer limit report.now)) a.text.items a.status) }
 {
     match fault_of(report, limit) {
         Some((path, blame)) => Ok(Answer {
@@ -111,7 +111,7 @@ fn answer_of_run(
 ) -> Result<Answer, Memory>
     ensures full { IfOk result (λ _. Full (program ran.entry.plan.program) ran.entry.plan.numbers ran.entry.plan.limit (turns_in ran.entry.report.turns)) }
     ensures shows { IfOk result (λ a. Shows (program checked.now.program)
-        (traced (home_of home.now)
+        (moved_answer (home_of home.now)
         (report_answer limit (report (program ran.entry.plan.program) ran.entry.plan.numbers ran.entry.plan.limit (turns_in ran.entry.report.turns))))
         a.text.items a.status) }
 {
@@ -136,7 +136,7 @@ fn shown(
     home: &Home,
     answer: &RunAnswer,
 ) -> Result<Answer, Memory>
-    ensures { IfOk result (λ a. Shows (program checked.now.program) (traced (home_of home.now) (told answer.now)) a.text.items a.status) }
+    ensures { IfOk result (λ a. Shows (program checked.now.program) (moved_answer (home_of home.now) (told answer.now)) a.text.items a.status) }
 {
     match answer {
         RunAnswer::Fault(path, blame) => {
@@ -187,7 +187,7 @@ fn run_serially(
     limit: u32,
 ) -> Result<Answer, Memory>
     requires { length numbers.now ≡ length (input_names checked.program.items) }
-    ensures { IfOk result (λ a. Shows (program checked.program) (traced (home_of home.now) (answer (program checked.program) numbers.now limit in_order)) a.text.items a.status) }
+    ensures { IfOk result (λ a. Shows (program checked.program) (moved_answer (home_of home.now) (answer (program checked.program) numbers.now limit in_order)) a.text.items a.status) }
 {
     let compiled = compile(alloc, checked)?;
     let answer = run_serial(alloc, &compiled, numbers, limit)?;

@@ -3,7 +3,8 @@
 ghost use Rattle.std.specs.Prelude.{◌≡◌, ◌≤◌, length, IfErr, IfOk};
 ghost use Rattle.jade_lexer.specs.Reading.{reading, Whole};
 ghost use Rattle.jade_run.specs.Answered.{OnRefused};
-ghost use Rattle.jade_run.specs.Standing.{IsToldAs, NotExpanded, NotLexed, traced_blame, traced_place};
+ghost use Rattle.jade_meaning.specs.Moved.{moved_blame, moved_pos};
+ghost use Rattle.jade_run.specs.Standing.{IsToldAs, NotExpanded, NotLexed};
 ghost use Rattle.jade_run.specs.steps.Homes.{home_of, IsStanding};
 
 use crate::answer::ReadError;
@@ -44,7 +45,7 @@ impl Home {
 
     /// The same of a place that may be missing.
     fn place_if(&self, at: Option<Pos>) -> Option<Pos>
-        ensures { result ≡ traced_place (home_of self.now) at }
+        ensures { result ≡ moved_pos (home_of self.now) at }
     {
         match at {
             Some(at) => Some(self.place(at)),
@@ -54,7 +55,7 @@ impl Home {
 
     /// A blame with the place from which its own comes.
     pub(crate) fn blame(&self, blame: Blame) -> Blame
-        ensures { result ≡ traced_blame (home_of self.now) blame }
+        ensures { result ≡ moved_blame (home_of self.now) blame }
     {
         Blame {
             kind: blame.kind,

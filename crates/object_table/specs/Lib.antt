@@ -2,7 +2,7 @@ pub mod Bags
 pub mod Notes
 pub mod Tallies
 pub mod Views
-pub mod Codes
+pub mod Encodings
 pub mod Touches
 pub mod Rule
 pub mod Plays

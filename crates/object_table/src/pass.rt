@@ -21,7 +21,7 @@ pub struct TaskPass {
 
 impl Model for TaskPass {
     ghost use Rattle.object_table.specs.Calls.{Pass};
-    ghost use Rattle.object_table.specs.Codes.{coded_pass};
+    ghost use Rattle.object_table.specs.Encodings.{coded_pass};
     ghost use Rattle.object_table.specs.steps.Kept.{Rests, shown};
 
     ghost Value = { Pass };

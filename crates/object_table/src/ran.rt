@@ -35,7 +35,7 @@ impl<'c> Model for Ran<'c> {
     ghost use Rattle.task_roll.specs.Rolls.{by_key};
     ghost use Rattle.schedule_core.specs.Reports.{told_of};
     ghost use Rattle.object_table.specs.Calls.{RanView};
-    ghost use Rattle.object_table.specs.Codes.{coded_ran};
+    ghost use Rattle.object_table.specs.Encodings.{coded_ran};
 
     ghost Value = { RanView };
 

@@ -44,7 +44,7 @@ pub struct ObjectTable<'c> {
 
 impl<'c> Model for ObjectTable<'c> {
     ghost use Rattle.object_table.specs.Calls.{Desk};
-    ghost use Rattle.object_table.specs.Codes.{coded_desk};
+    ghost use Rattle.object_table.specs.Encodings.{coded_desk};
     ghost use Rattle.object_table.specs.steps.Kept.{Laid};
 
     ghost Value = { Desk };

@@ -10,7 +10,7 @@ pub(crate) struct View;
 
 impl Model for View {
     ghost use Rattle.object_table.specs.Views.{View as PassView};
-    ghost use Rattle.object_table.specs.Codes.{coded_view};
+    ghost use Rattle.object_table.specs.Encodings.{coded_view};
     ghost use Rattle.object_table.specs.Plays.{spent_view};
 
     ghost Value = { PassView };

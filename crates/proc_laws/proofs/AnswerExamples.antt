@@ -10,7 +10,7 @@ use Rattle.jade_meaning.specs.Course.{limit_blame}
 use Rattle.jade_meaning.specs.Serial.{Path}
 use Rattle.jade_meaning.specs.Turns.{in_order}
 use Rattle.jade_meaning.specs.Answer.{Faulted, Cells}
-use Rattle.proc_laws.specs.Moved.{moved_answer}
+use Rattle.jade_meaning.specs.Moved.{moved_answer}
 use Rattle.proc_laws.specs.Source.{Store, Withonly, Declare, Call, Done, Then, SourceActions, SourceProgram}
 use Rattle.proc_laws.specs.SourceAnswer.{source_answer}
 

@@ -13,7 +13,8 @@ use Rattle.jade_meaning.specs.Course.{Course, root_course, root_spec, limit_blam
 use Rattle.jade_meaning.specs.Serial.{Path, Store, Deed, DidTurn, DidRead, DidWrite, DidCreate, DidEnd, Mark, after, zeros, Part, part_of_deed, parts}
 use Rattle.jade_meaning.specs.Turns.{Ran, marks_by}
 use Rattle.jade_meaning.specs.Answer.{Answer, Faulted, key, filed, by_key, parts_by_key, first_fault, limit_place, blame_of, decided, answer}
-use Rattle.proc_laws.specs.Moved.{moved_blame, moved_course, moved_answer}
+use Rattle.jade_meaning.specs.Moved.{moved_answer}
+use Rattle.proc_laws.specs.Moved.{moved_ending, moved_course}
 use Rattle.proc_laws.specs.Source.{SourceProgram}
 use Rattle.proc_laws.specs.SourceMeaning.{source_course}
 use Rattle.proc_laws.specs.SourceAnswer.{course_run, source_answer}
@@ -30,7 +31,7 @@ at_the_root p numbers limit turns = refl
 
 module _ (f : Pos → Pos) where
   abbrev moved_part : Part → Part
-  moved_part p = record { path = p.path; children = p.children; steps = p.steps; blame = moved_blame f p.blame }
+  moved_part p = record { path = p.path; children = p.children; steps = p.steps; blame = moved_ending f p.blame }
 
   abbrev moved_place : Option Part → Option Part
   moved_place None = None
@@ -58,7 +59,7 @@ module _ (f : Pos → Pos) where
   by_key_moved (p ∷ ps) = ap (filed (moved_part p)) (by_key_moved ps) ∙ filed_moved p (by_key ps)
 
   blamed_moved : (b : Option Blame) (p r q : Option Part) → q ≡ moved_place r
-      → (elim (moved_blame f b) [ None ↦ q | Some x ↦ moved_place p ]) ≡ moved_place (elim b [ None ↦ r | Some x ↦ p ])
+      → (elim (moved_ending f b) [ None ↦ q | Some x ↦ moved_place p ]) ≡ moved_place (elim b [ None ↦ r | Some x ↦ p ])
   blamed_moved None p r q h = h
   blamed_moved (Some b) p r q h = refl
 
@@ -71,7 +72,7 @@ module _ (f : Pos → Pos) where
   limit_place_moved left (p ∷ ps) =
       chosen_under moved_place (nat_lt left p.steps) (Some p) (limit_place (left - p.steps) ps) _ _ refl (limit_place_moved (left - p.steps) ps)
 
-  fault_moved : (path : Path) (b : Option Blame) → Faulted path (blame_of (moved_blame f b)) ≡ moved_answer f (Faulted path (blame_of b))
+  fault_moved : (path : Path) (b : Option Blame) → Faulted path (blame_of (moved_ending f b)) ≡ moved_answer f (Faulted path (blame_of b))
   fault_moved path None = refl
   fault_moved path (Some b) = refl
 

@@ -9,7 +9,7 @@ use Rattle.jade_meaning.specs.Course.{Course, Reads, Writes, Steps, Creates, Cha
 use Rattle.jade_meaning.specs.Serial.{Path, Store, Deed, DidTurn, DidRead, DidWrite, DidCreate, DidEnd, Mark, own, under, done_to, after, cell, with_cell, serial, same_path, zeros}
 use Rattle.jade_meaning.specs.Turns.{Member, World, Ran, below, at_path, is_of, group, others, named, unnamed, arranged, seen_by, turn, turns_taken, bared}
 use Rattle.jade_meaning.specs.Turns.{kept_from, joined, touched_at_once, made_touchable, first, entered, settle, settled, settle_all, run}
-use Rattle.proc_laws.specs.Moved.{moved_blame, moved_course}
+use Rattle.proc_laws.specs.Moved.{moved_ending, moved_course}
 use Rattle.proc_laws.specs.SourceAnswer.{course_run}
 
 -- a choice under a function
@@ -24,7 +24,7 @@ module _ (f : Pos → Pos) where
   moved_deed (DidRead o c v) = DidRead o c v
   moved_deed (DidWrite o c v) = DidWrite o c v
   moved_deed (DidCreate t n) = DidCreate (record { spec = t.spec; course = moved_course f t.course }) n
-  moved_deed (DidEnd b n) = DidEnd (moved_blame f b) n
+  moved_deed (DidEnd b n) = DidEnd (moved_ending f b) n
 
   abbrev pub moved_mark : Mark → Mark
   moved_mark m = record { path = m.path; children = m.children; deed = moved_deed m.deed }

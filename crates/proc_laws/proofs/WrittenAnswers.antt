@@ -15,7 +15,7 @@ use Rattle.jade_meaning.specs.Answer.{answer}
 use Rattle.proc_expand.specs.Expanded.{origin_of}
 use Rattle.proc_expand.specs.Refusals.{refusal}
 use Rattle.proc_expand.specs.Written.{text_names, fresh_name, expansion, expanded_text}
-use Rattle.proc_laws.specs.Moved.{moved_answer}
+use Rattle.jade_meaning.specs.Moved.{moved_answer}
 use Rattle.proc_laws.specs.SourceAnswer.{source_answer}
 use Rattle.proc_laws.specs.SourceTree.{SourceText, source_of}
 use Rattle.proc_laws.specs.SourceReading.{IsSourceReading, expanded_tokens}

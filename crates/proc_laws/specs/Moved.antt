@@ -1,4 +1,4 @@
--- A program, its course and its answer with other positions.
+-- A program and its course with other positions.
 use Rattle.std.specs.Prelude.{map, Option, Some, None}
 use Rattle.jade_base.specs.declared.place.Pos.{Pos}
 use Rattle.jade_base.specs.declared.report.Blame.{Blame}
@@ -8,16 +8,13 @@ use Rattle.jade_syntax.specs.declared.tree.Item.TheVariants.{Input, Single, Fami
 use Rattle.jade_syntax.specs.Abstract.{Expression, Whole, Truth, Variable, Group, Signed, Chain, Cell, Links, Last, Link, Place, Alone, Member}
 use Rattle.jade_syntax.specs.Abstract.{Action, Local, Assign, Store, If, IfElse, For, Withonly, With, Declare, Actions, Done, Then, AbstractProgram}
 use Rattle.jade_meaning.specs.Course.{Course, Reads, Writes, Steps, Creates, Changes, Ends}
-use Rattle.jade_meaning.specs.Answer.{Answer, Faulted, Cells}
+use Rattle.jade_meaning.specs.Moved.{moved_blame}
 
 module _ (f : Pos → Pos) where
-  abbrev pub moved_pos : Option Pos → Option Pos
-  moved_pos None = None
-  moved_pos (Some p) = Some (f p)
-
-  abbrev pub moved_blame : Option Blame → Option Blame
-  moved_blame None = None
-  moved_blame (Some b) = Some (record { kind = b.kind; pos = moved_pos b.pos })
+  -- the same end, its fault at another position
+  abbrev pub moved_ending : Option Blame → Option Blame
+  moved_ending None = None
+  moved_ending (Some b) = Some (moved_blame f b)
 
   -- the same course, its faults at other positions
   abbrev pub moved_course : Course → Course
@@ -26,12 +23,7 @@ module _ (f : Pos → Pos) where
   moved_course (Steps on) = Steps (moved_course on)
   moved_course (Creates child body on) = Creates child (moved_course body) (moved_course on)
   moved_course (Changes new on) = Changes new (moved_course on)
-  moved_course (Ends b) = Ends (moved_blame b)
-
-  -- the same answer, its fault at another position
-  abbrev pub moved_answer : Answer → Answer
-  moved_answer (Faulted path b) = Faulted path (record { kind = b.kind; pos = moved_pos b.pos })
-  moved_answer (Cells store) = Cells store
+  moved_course (Ends b) = Ends (moved_ending b)
 
   abbrev mutual
     pub moved_expression : Expression → Expression

@@ -1,3 +1,3 @@
-pub mod Codes
+pub mod Encodings
 pub mod Holds
 pub mod steps

@@ -61,7 +61,7 @@ pub struct StepGate {
 impl Model for StepGate {
     ghost use Rattle.std.specs.Prelude.{◌≡◌, length, vec_len};
     ghost use Rattle.steal_workers.specs.Holds.{StepGateView};
-    ghost use Rattle.steal_workers.specs.Codes.{coded_step_gate};
+    ghost use Rattle.steal_workers.specs.Encodings.{coded_step_gate};
 
     ghost Value = { StepGateView };
 

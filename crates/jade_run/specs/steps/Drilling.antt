@@ -9,7 +9,7 @@ use Rattle.jade_run.specs.declared.status.Status.{Status}
 use Rattle.jade_run.specs.declared.status.Status.TheVariants.{Good}
 use Rattle.jade_gen.specs.Drill.{drill_text}
 use Rattle.jade_run.specs.Answered.{IsDrilled, Shows, TurnLists}
-use Rattle.jade_run.specs.Standing.{traced}
+use Rattle.jade_meaning.specs.Moved.{moved_answer}
 use Rattle.jade_run.specs.Sums.{sum_of_cells}
 use Rattle.jade_run.specs.Texts.{drilled_text}
 use Rattle.jade_run.specs.Witnessed.{SawRun, SeenRun}
@@ -22,7 +22,7 @@ ShowsSum p tasks (Cells store) text status = (text ≡ drilled_text tasks (sum_o
 
 -- a text and a status tell the answer of a drill's program by these turns, with which a run of it was shown
 pub record IsDrillOf (tree : Program) (home : Pos → Pos) (tasks : ℕ) (turns : TurnLists) (text : List ℕ) (status : Status) (before after : Option (List SeenRun)) : Type 0 where
-  pub shows : ShowsSum (program tree) tasks (traced home (answer (program tree) [] 4294967295 turns)) text status
+  pub shows : ShowsSum (program tree) tasks (moved_answer home (answer (program tree) [] 4294967295 turns)) text status
   pub shown : ShownRun tree [] 4294967295 turns before after
 
 -- what a drill comes to, and what is shown of the run of its program, whose tasks took these turns

@@ -7,7 +7,7 @@ use Rattle.jade_meaning.specs.Answer.{answer}
 use Rattle.jade_meaning.specs.Turns.{Full, turns_in}
 use Rattle.jade_run.specs.declared.status.Status.{Status}
 use Rattle.jade_run.specs.Answered.{IsAnswered, Shows, TurnLists}
-use Rattle.jade_run.specs.Standing.{traced}
+use Rattle.jade_meaning.specs.Moved.{moved_answer}
 use Rattle.jade_run.specs.Witnessed.{SawRun, SeenRun, seen_with}
 
 -- a run of a program was shown, whose tasks took these turns, and no others wait
@@ -20,7 +20,7 @@ pub record ShownRun (tree : Program) (numbers : List ℤ) (limit : ℕ) (turns :
 
 -- a text and a status tell the answer of a program by these turns, with which a run of it was shown
 pub record IsRunOf (tree : Program) (home : Pos → Pos) (numbers : List ℤ) (limit : ℕ) (turns : TurnLists) (text : List ℕ) (status : Status) (before after : Option (List SeenRun)) : Type 0 where
-  pub shows : Shows (program tree) (traced home (answer (program tree) numbers limit turns)) text status
+  pub shows : Shows (program tree) (moved_answer home (answer (program tree) numbers limit turns)) text status
   pub shown : ShownRun tree numbers limit turns before after
 
 -- what a text comes to by these turns where workers run its program, and what is shown of it

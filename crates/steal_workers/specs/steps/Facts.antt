@@ -4,7 +4,7 @@ use Rattle.std.specs.Coded.{Coded-set, coded_bool}
 use Rattle.atomic_table.specs.Seated.{TableId, table_id_coded}
 use Rattle.jade_meaning.specs.Plan.{RunPlan}
 use Rattle.object_table.specs.Calls.{Pass}
-use Rattle.object_table.specs.Codes.{coded_plan}
+use Rattle.object_table.specs.Encodings.{coded_plan}
 
 -- a table is of a run: it has its mark and its plan
 pub Of-prop : (own mark : TableId) (ours plan : RunPlan) → IsProp ((own ≡ mark) × (ours ≡ plan))

@@ -5,7 +5,7 @@ use Rattle.atomic_table.specs.Seated.{TableId, table_id_coded}
 use Rattle.jade_meaning.specs.Plan.{RunPlan}
 use Rattle.object_table.specs.Calls.{Pass, IsGone}
 use Rattle.object_table.specs.Views.{View}
-use Rattle.object_table.specs.Codes.{coded_plan, coded_seat}
+use Rattle.object_table.specs.Encodings.{coded_plan, coded_seat}
 use Rattle.jade_base.specs.contracts.content.Content as content
 use Rattle.task_machine.specs.Asks.{Asking}
 use Rattle.task_suspend.specs.Ties.{Tied, TiedTo}

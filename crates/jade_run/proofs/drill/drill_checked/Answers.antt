@@ -12,7 +12,7 @@ use Rattle.jade_meaning.specs.ReportAnswer.{report_answer, ReportTells}
 use Rattle.jade_meaning.specs.Turns.{marks_by, turns_in}
 use Rattle.jade_run.specs.Answered.{TurnLists}
 use Rattle.jade_run.specs.declared.status.Status.{Status}
-use Rattle.jade_run.specs.Standing.{traced}
+use Rattle.jade_meaning.specs.Moved.{moved_answer}
 use Rattle.jade_run.specs.steps.Drilling.{ShowsSum}
 use Rattle.jade_run.specs.steps.Homes.{home_of}
 use Rattle.jade_run.proofs.Running.{planned, reported, run_is_shown}
@@ -22,11 +22,11 @@ use Rattle.jade_run.proofs.drill.drill_checked.Goals as goal
 -- what tells the answer of a report by a sum tells the program's so
 told : (r : Report) (home : Pos → Pos) (p q s : CheckedProgram) (tasks limit : ℕ) (turns : TurnLists) (text : List ℕ) (status : Status)
     → r ≡ report (program p.program) [] limit turns → q ≡ p → s ≡ q →
-    ReportTells (program p.program) [] limit turns → ShowsSum (program s.program) tasks (traced home (report_answer limit r)) text status →
-    ShowsSum (program p.program) tasks (traced home (answer (program p.program) [] limit turns)) text status
+    ReportTells (program p.program) [] limit turns → ShowsSum (program s.program) tasks (moved_answer home (report_answer limit r)) text status →
+    ShowsSum (program p.program) tasks (moved_answer home (answer (program p.program) [] limit turns)) text status
 told r home p q s tasks limit turns text status e f g t h =
-    let P : Answer → Type 0 = λ a. ShowsSum (program p.program) tasks (traced home a) text status in
-    let Q : CheckedProgram → Type 0 = λ x. ShowsSum (program x.program) tasks (traced home (report_answer limit r)) text status in
+    let P : Answer → Type 0 = λ a. ShowsSum (program p.program) tasks (moved_answer home a) text status in
+    let Q : CheckedProgram → Type 0 = λ x. ShowsSum (program x.program) tasks (moved_answer home (report_answer limit r)) text status in
     subst P (ap (report_answer limit) e ∙ t.same) (subst Q (g ∙ f) h)
 
 -- a run of a program within the limits has few cells

@@ -1,4 +1,4 @@
--- Codes of what a pass shows.
+-- Encodings of what a pass shows.
 use Rattle.std.specs.Prelude.{ℕ, Bool, List, Option, ℤ, refl}
 use Rattle.std.specs.Coded.{Coded, code_by, coded×, coded_list, coded_option, coded_bool, coded_ℕ, coded_ℤ}
 use Rattle.jade_base.specs.Held.{Held}
@@ -10,7 +10,7 @@ use Rattle.task_roll.specs.contracts.note.PartNote as note
 use Rattle.jade_syntax.specs.declared.tree.Program.{Program}
 use Rattle.jade_syntax.specs.contracts.tree.Program as tree
 use Rattle.jade_meaning.specs.Walks.{Walk}
-use Rattle.jade_meaning.specs.Codes.{coded_walk}
+use Rattle.jade_meaning.specs.Encodings.{coded_walk}
 use Rattle.schedule_core.specs.declared.steps.Seat.{Seat}
 use Rattle.jade_meaning.specs.Plan.{RunPlan}
 use Rattle.object_table.specs.Views.{View}

@@ -1,4 +1,4 @@
--- Codes of what a task that is walked is seen as: each record's from those of its parts.
+-- Encodings of what a task that is walked is seen as: each record's from those of its parts.
 use Rattle.std.specs.Prelude.{ℕ, List, ℤ, refl}
 use Rattle.std.specs.Coded.{Coded, code_by, coded×, coded_list, coded_ℕ, coded_ℤ}
 use Rattle.jade_base.specs.contracts.rights.Rights as rights

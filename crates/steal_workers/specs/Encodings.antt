@@ -1,4 +1,4 @@
--- Codes of what contracts see.
+-- Encodings of what contracts see.
 use Rattle.std.specs.Prelude.{ℕ, List, refl}
 use Rattle.std.specs.Coded.{Coded, code_by, coded×, coded_list, coded_ℕ}
 use Rattle.steal_workers.specs.declared.step_gate.Hold.{Hold}
