@@ -1,22 +1,22 @@
 -- Places of names, found by the names.
-use Rattle.std.proofs.Common.{◌≡◌, ℕ, List, [], ◌∷◌, ◌++◌, Bool, true, false, cond, Bor, length, map, get_or, Option, Some, None, is_some, nat_eq, refl, ap}
+use Rattle.std.proofs.Common.{◌≡◌, ℕ, List, [], ◌∷◌, ◌++◌, Bool, true, false, cond, Bor, length, map, get_or, Option, Some, None, is_some, refl, ap}
 use Rattle.std.proofs.Common.{sym, ◌∙◌, subst, arith, length-append}
 use Rattle.std.specs.Option.{option_or}
 use Rattle.std.specs.Prelude.{MatchOption}
-use Rattle.std.specs.Cmp.Lexicographic.{pointwise}
 use Rattle.std.specs.Map.{lookup}
 use Rattle.std.proofs.Math.Seq.{get_or-append_seam}
 use Rattle.std.proofs.lemmas.List.{get_or_append_left}
 use Rattle.std.proofs.lemmas.Option.{slice_get-get_or, get_or_from_slice_get}
 use Rattle.jade_syntax.specs.Numbering.{same_name}
-use Rattle.name_scope.proofs.Kept.{same_from, same_turned}
+use Rattle.name_scope.proofs.Kept.{same_from, named_turned}
+use Rattle.name_scope.specs.Entries.{is_named}
 use Rattle.jade_types.specs.steps.ItemMap.{named, StandsAt, IsIndexed}
 
 abbrev Key : Type 0
 Key = Bor (List ℕ)
 
 abbrev place_of : Key → List (Key × ℕ) → Option ℕ
-place_of x places = lookup (λ k. pointwise nat_eq x.now k.now) places
+place_of x places = lookup (is_named x.now) places
 
 module _ {V : Type 0} where
   abbrev first_of : Key → List (Key × V) → Option V
@@ -76,20 +76,20 @@ module _ {V : Type 0} where
 
       by_test : (x : Key) (b : Bool) → same_name x.now p.0.now ≡ b → Found x (place_of x places) grown
       by_test x true e = there x (place_of x places)
-          (ap (λ y. is_some (lookup (λ k. pointwise nat_eq y k.now) places)) (same_from x.now p.0.now e) ∙ known) (h.at x)
+          (ap (λ y. is_some (lookup (is_named y) places)) (same_from x.now p.0.now e) ∙ known) (h.at x)
       by_test x false e = beside x (place_of x places) e (h.at x)
 
     -- a new name, whose place is the last
     pub indexed_more : {places more : List (Key × ℕ)} (n : ℕ) → n ≡ length pairs → is_some (place_of p.0 places) ≡ false
-        → ((x : Key) → place_of x more ≡ cond (pointwise nat_eq p.0.now x.now) (Some n) (place_of x places))
+        → ((x : Key) → place_of x more ≡ cond (is_named p.0.now x) (Some n) (place_of x places))
         → IsIndexed pairs places → IsIndexed grown more
     indexed_more {places} {more} n last new u h =
         record {
           at = λ x. let P : Option ℕ → Type 0 = λ o. Found x o grown in
-              subst P (sym (u x)) (by_test x (pointwise nat_eq p.0.now x.now) (turned x));
+              subst P (sym (u x)) (by_test x (is_named p.0.now x) (turned x));
         } where
-          turned : (x : Key) → same_name x.now p.0.now ≡ pointwise nat_eq p.0.now x.now
-          turned x = same_turned x.now p.0.now
+          turned : (x : Key) → same_name x.now p.0.now ≡ is_named p.0.now x
+          turned x = named_turned x p.0
 
           nowhere : (x : Key) (o : Option ℕ) → is_some o ≡ false → Found x o pairs → first_of x pairs ≡ None
           nowhere x None e g = g
@@ -98,7 +98,7 @@ module _ {V : Type 0} where
           by_test : (x : Key) (b : Bool) → same_name x.now p.0.now ≡ b → Found x (cond b (Some n) (place_of x places)) grown
           by_test x true e =
               let absent : first_of x pairs ≡ None =
-              nowhere x (place_of x places) (ap (λ y. is_some (lookup (λ k. pointwise nat_eq y k.now) places)) (same_from x.now p.0.now e) ∙ new)
+              nowhere x (place_of x places) (ap (λ y. is_some (lookup (is_named y) places)) (same_from x.now p.0.now e) ∙ new)
               (h.at x) in
               let at_last : get_or grown n p ≡ p = ap (λ k. get_or grown k p) last ∙ get_or-append_seam pairs p [] p in
               record {

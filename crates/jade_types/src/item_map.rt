@@ -4,9 +4,9 @@ ghost use Rattle.std.specs.Prelude.{◌≡◌, [], ◌∷◌, ◌++◌, OnOk};
 ghost use Rattle.std.specs.Map.{lookup};
 ghost use Rattle.jade_syntax.specs.Numbering.{same_name};
 
-use indexmap::IndexMap;
 use jade_base::Memory;
 use std::alloc::Global;
+use std::collections::BTreeMap;
 use std::marker::Model;
 
 /// The names of items in declared order, each with what the item is. `places` has for each name the
@@ -14,7 +14,7 @@ use std::marker::Model;
 #[derive(Drop)]
 pub(crate) struct ItemMap<'p, V: Drop> {
     pairs: Vec<(&'p [u8], V)>,
-    places: IndexMap<&'p [u8], usize>,
+    places: BTreeMap<&'p [u8], usize>,
 }
 
 impl<'p, V: Drop> Model for ItemMap<'p, V> {
@@ -39,7 +39,7 @@ impl<'p, V: Copy + Drop> ItemMap<'p, V> {
     {
         ItemMap {
             pairs: Vec::new(alloc),
-            places: IndexMap::new(alloc),
+            places: BTreeMap::new(alloc),
         }
     }
 

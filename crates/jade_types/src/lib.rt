@@ -1,7 +1,6 @@
 //! What is wrong with a program before it runs, and what its names stand for.
 //!
-//! Floor `text`, over `jade_base`, `jade_list`, `jade_syntax` and `name_scope`, with `indexmap` of
-//! the kit.
+//! Floor `text`, over `jade_base`, `jade_list`, `jade_syntax` and `name_scope`.
 #![tactic(auto)]
 
 pub mod checker;

@@ -1,8 +1,8 @@
 -- The newest entries of names, as entries come and end.
-use Rattle.std.proofs.Common.{◌≡◌, ℕ, suc, ◌+◌, ◌-◌, ◌<◌, ◌≤◌, List, [], ◌∷◌, ◌++◌, Bool, true, false, cond, ◌&&◌, Bor, length, get_or, map, drop, Option, Some}
+use Rattle.std.proofs.Common.{◌≡◌, ℕ, suc, ◌-◌, ◌<◌, ◌≤◌, List, [], ◌∷◌, ◌++◌, Bool, true, false, cond, ◌&&◌, Bor, length, get_or, map, drop, Option, Some}
 use Rattle.std.proofs.Common.{None, nat_eq, refl, ap, sym, ◌∙◌, arith}
 use Rattle.std.specs.Prelude.{reverse, slice_get, if◌then◌else◌}
-use Rattle.std.specs.Cmp.Lexicographic.{pointwise, bytes_decides}
+use Rattle.std.specs.Cmp.Lexicographic.{pointwise, bytes_decides, texts_ties}
 use Rattle.std.specs.Map.{lookup}
 use Rattle.std.proofs.lemmas.Cmp.{nat_list_eq_equiv}
 use Rattle.std.proofs.lemmas.List.{reverse-append, reverse-reverse, length-reverse}
@@ -11,7 +11,7 @@ use Rattle.jade_syntax.specs.Abstract.{Name}
 use Rattle.jade_syntax.specs.Numbering.{same_name}
 use Rattle.jade_syntax.proofs.Limits.{get_front, get_back}
 use Rattle.name_scope.specs.declared.scope.Entry.{Entry}
-use Rattle.name_scope.specs.Entries.{named, newest_place, joined, IsKept}
+use Rattle.name_scope.specs.Entries.{named, newest_place, joined, is_named, IsKept}
 
 pub same_bytes : (x y : Name) → same_name x y ≡ pointwise nat_eq x y
 same_bytes [] [] = refl
@@ -31,8 +31,12 @@ same_self x = same_bytes x x ∙ (bytes_decides x x).1 refl
 abbrev Key : Type 0
 Key = Bor (List ℕ)
 
+-- a key has the bytes of another where their names are the same
+pub named_turned : (x k : Key) → same_name x.now k.now ≡ is_named k.now x
+named_turned x k = same_turned x.now k.now ∙ texts_ties k.now x.now
+
 abbrev pub kept_at : Key → List (Key × Option ℕ) → Option (Option ℕ)
-kept_at x places = lookup (λ k. pointwise nat_eq x.now k.now) places
+kept_at x places = lookup (is_named x.now) places
 
 module _ {V : Type 0} where
   pub last_first : (es : List (Entry V)) (e : Entry V) → reverse (es ++ e ∷ []) ≡ e ∷ reverse es
@@ -44,27 +48,27 @@ module _ {V : Type 0} where
   -- one more entry
   pub kept_more : (es : List (Entry V)) (e : Entry V) (n : ℕ) {places more : List (Key × Option ℕ)} → n ≡ length es → e.hidden
       ≡ joined (kept_at e.name places)
-      → ((x : Key) → kept_at x more ≡ cond (pointwise nat_eq e.name.now x.now) (Some (Some n)) (kept_at x places)) → IsKept es places
+      → ((x : Key) → kept_at x more ≡ cond (is_named e.name.now x) (Some (Some n)) (kept_at x places)) → IsKept es places
       → IsKept (e ∷ es) more
   kept_more es e n {places} {more} last hides u h =
-      record { at = λ x. ap joined (u x) ∙ by_test x (same_name x.now e.name.now) (same_turned x.now e.name.now); hide = (hides ∙ h.at e.name, h.hide) }
+      record { at = λ x. ap joined (u x) ∙ by_test x (same_name x.now e.name.now) (named_turned x e.name); hide = (hides ∙ h.at e.name, h.hide) }
     where
-      by_test : (x : Key) (b : Bool) → b ≡ pointwise nat_eq e.name.now x.now
-          → joined (cond (pointwise nat_eq e.name.now x.now) (Some (Some n)) (kept_at x places)) ≡ (if b then Some (length es) else newest_place x.now es)
+      by_test : (x : Key) (b : Bool) → b ≡ is_named e.name.now x
+          → joined (cond (is_named e.name.now x) (Some (Some n)) (kept_at x places)) ≡ (if b then Some (length es) else newest_place x.now es)
       by_test x true g = ap (λ t. joined (cond t (Some (Some n)) (kept_at x places))) (sym g) ∙ ap Some last
       by_test x false g = ap (λ t. joined (cond t (Some (Some n)) (kept_at x places))) (sym g) ∙ h.at x
 
   -- the newest entry ends
   pub kept_less : (es : List (Entry V)) (e : Entry V) {places more : List (Key × Option ℕ)}
-      → ((x : Key) → kept_at x more ≡ cond (pointwise nat_eq e.name.now x.now) (Some e.hidden) (kept_at x places)) → IsKept (e ∷ es) places
+      → ((x : Key) → kept_at x more ≡ cond (is_named e.name.now x) (Some e.hidden) (kept_at x places)) → IsKept (e ∷ es) places
       → IsKept es more
   kept_less es e {places} {more} u h = record { at = λ x. ap joined (u x) ∙ by_test x (same_name x.now e.name.now) refl (h.at x); hide = h.hide.1 } where
     by_test : (x : Key) (b : Bool) → same_name x.now e.name.now ≡ b → joined (kept_at x places) ≡ (if b then Some (length es) else newest_place x.now es)
-        → joined (cond (pointwise nat_eq e.name.now x.now) (Some e.hidden) (kept_at x places)) ≡ newest_place x.now es
+        → joined (cond (is_named e.name.now x) (Some e.hidden) (kept_at x places)) ≡ newest_place x.now es
     by_test x true g k =
-        ap (λ t. joined (cond t (Some e.hidden) (kept_at x places))) (sym (same_turned x.now e.name.now) ∙ g) ∙ h.hide.0
+        ap (λ t. joined (cond t (Some e.hidden) (kept_at x places))) (sym (named_turned x e.name) ∙ g) ∙ h.hide.0
         ∙ ap (λ y. newest_place y es) (sym (same_from x.now e.name.now g))
-    by_test x false g k = ap (λ t. joined (cond t (Some e.hidden) (kept_at x places))) (sym (same_turned x.now e.name.now) ∙ g) ∙ k
+    by_test x false g k = ap (λ t. joined (cond t (Some e.hidden) (kept_at x places))) (sym (named_turned x e.name) ∙ g) ∙ k
 
   -- the name of the newest entry is kept
   pub newest_kept : (es : List (Entry V)) (e : Entry V) {places : List (Key × Option ℕ)} → IsKept (e ∷ es) places → kept_at e.name places ≡ None → ⊥

@@ -1,7 +1,8 @@
 -- Names in scope, as code keeps them: the newest last, each with the place of the one that it hides.
-use Rattle.std.specs.Prelude.{◌≡◌, ℕ, List, [], ◌∷◌, length, Option, Some, None, nat_eq, if◌then◌else◌}
+use Rattle.std.specs.Prelude.{◌≡◌, ℕ, Bool, List, [], ◌∷◌, length, Option, Some, None, if◌then◌else◌}
 use Rattle.std.specs.Borrow.{Bor}
-use Rattle.std.specs.Cmp.Lexicographic.{pointwise}
+use Rattle.std.specs.Cmp.Lexicographic.{slice_cmp}
+use Rattle.std.specs.Ordering.{is_eq, nat_cmp}
 use Rattle.std.specs.Map.{lookup}
 use Rattle.jade_syntax.specs.Abstract.{Name}
 use Rattle.jade_syntax.specs.Numbering.{same_name}
@@ -26,7 +27,11 @@ abbrev pub joined : Option (Option ℕ) → Option ℕ
 joined None = None
 joined (Some place) = place
 
+-- a key has the bytes of a name
+abbrev pub is_named : Name → Bor (List ℕ) → Bool
+is_named x k = is_eq (slice_cmp nat_cmp x k.now)
+
 -- the newest entry of each name is found by the name
 pub record IsKept {V : Type 0} (newest_first : List (Entry V)) (places : List (Bor (List ℕ) × Option ℕ)) : Type 0 where
-  pub at : (x : Bor (List ℕ)) → joined (lookup (λ k. pointwise nat_eq x.now k.now) places) ≡ newest_place x.now newest_first
+  pub at : (x : Bor (List ℕ)) → joined (lookup (is_named x.now) places) ≡ newest_place x.now newest_first
   pub hide : AllHide newest_first

@@ -1,12 +1,11 @@
-ghost use Rattle.std.specs.Prelude.{◌≡◌, [], ◌∷◌, ◌-◌, length, drop, nat_eq, OnOk, OnErr};
+ghost use Rattle.std.specs.Prelude.{◌≡◌, [], ◌∷◌, ◌-◌, length, drop, OnOk, OnErr};
 ghost use Rattle.std.specs.Map.{lookup};
-ghost use Rattle.std.specs.Cmp.Lexicographic.{pointwise};
-ghost use Rattle.name_scope.specs.Entries.{joined};
+ghost use Rattle.name_scope.specs.Entries.{joined, is_named};
 ghost use Rattle.jade_syntax.specs.Numbering.{same_name};
 
-use indexmap::IndexMap;
 use jade_base::Memory;
 use std::alloc::Global;
+use std::collections::BTreeMap;
 use std::marker::Model;
 
 /// A name with its value, and the place of the newest entry before it that has the same name.
@@ -23,7 +22,7 @@ struct Entry<'n, V> {
 #[derive(Drop)]
 pub struct NameScope<'n, V: Drop> {
     entries: Vec<Entry<'n, V>>,
-    newest: IndexMap<&'n [u8], Option<usize>>,
+    newest: BTreeMap<&'n [u8], Option<usize>>,
 }
 
 impl<'n, V: Drop> Model for NameScope<'n, V> {
@@ -42,8 +41,8 @@ impl<'n, V: Drop> Model for NameScope<'n, V> {
 }
 
 /// The place that is kept for a name.
-fn place_of(newest: &IndexMap<&[u8], Option<usize>>, name: &[u8]) -> Option<usize>
-    ensures { result ≡ joined (lookup (λ k. pointwise nat_eq name.now k.now) newest.now.entries) }
+fn place_of(newest: &BTreeMap<&[u8], Option<usize>>, name: &[u8]) -> Option<usize>
+    ensures { result ≡ joined (lookup (is_named name.now) newest.now.entries) }
 {
     match newest.get(name) {
         Some(place) => *place,
@@ -58,7 +57,7 @@ impl<'n, V: Copy + Drop> NameScope<'n, V> {
     {
         NameScope {
             entries: Vec::new(alloc),
-            newest: IndexMap::new(alloc),
+            newest: BTreeMap::new(alloc),
         }
     }
 
@@ -98,7 +97,8 @@ impl<'n, V: Copy + Drop> NameScope<'n, V> {
         }
     }
 
-    /// The value of the newest entry of a name, by one look-up in a hash map. It takes no memory.
+    /// The value of the newest entry of a name, by one look-up in an ordered map, in time of the
+    /// logarithm of the number of names. It takes no memory.
     pub fn get(&self, name: &[u8]) -> Option<V>
         ensures { result ≡ lookup (same_name name.now) self.now }
     {

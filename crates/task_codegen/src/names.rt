@@ -81,7 +81,7 @@ impl<'m, 'p> Names<'m, 'p> {
         self.next = next;
     }
 
-    /// The slot of a name, where it is a variable, by one look-up in a hash map. It takes no memory.
+    /// The slot of a name, where it is a variable, by one look-up in an ordered map. It takes no memory.
     pub(crate) fn slot_of(&self, name: &Name) -> Option<u32>
         ensures { result ≡ slot_of name.now self.now.scope }
     {

@@ -1,10 +1,10 @@
 -- The names of items, each with what the item is, as code keeps them.
-use Rattle.std.specs.Prelude.{◌≡◌, ℕ, ◌<◌, List, length, map, slice_get, Option, Some, None, nat_eq, MatchOption}
+use Rattle.std.specs.Prelude.{◌≡◌, ℕ, ◌<◌, List, length, map, slice_get, Option, Some, None, MatchOption}
 use Rattle.std.specs.Borrow.{Bor}
-use Rattle.std.specs.Cmp.Lexicographic.{pointwise}
 use Rattle.std.specs.Map.{lookup}
 use Rattle.jade_syntax.specs.Abstract.{Name}
 use Rattle.jade_syntax.specs.Numbering.{same_name}
+use Rattle.name_scope.specs.Entries.{is_named}
 
 -- a name by its bytes
 abbrev pub named : {V : Type 0} → Bor (List ℕ) × V → Name × V
@@ -18,4 +18,4 @@ pub record StandsAt {V : Type 0} (pairs : List (Bor (List ℕ) × V)) (value : O
 -- where the first of each name stands
 pub record IsIndexed {V : Type 0} (pairs : List (Bor (List ℕ) × V)) (places : List (Bor (List ℕ) × ℕ)) : Type 0 where
   pub at : (x : Bor (List ℕ)) → let first = lookup (same_name x.now) (map named pairs) in
-      MatchOption (lookup (λ k. pointwise nat_eq x.now k.now) places) (first ≡ None) (StandsAt pairs first)
+      MatchOption (lookup (is_named x.now) places) (first ≡ None) (StandsAt pairs first)
