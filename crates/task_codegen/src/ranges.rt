@@ -70,8 +70,8 @@ impl<'p> Ranges<'p> {
         self.objects
     }
 
-    /// The objects that a name stands for, by one look-up in an ordered map; one that is not declared has
-    /// the number after the last, and no cell.
+    /// The objects that a name stands for, by one look-up in an ordered map; one that is not declared
+    /// has the number after the last, and no cell.
     pub(crate) fn range(&self, name: &Name) -> Range
         ensures { result ≡ range_from 0 name.now self.now }
     {
