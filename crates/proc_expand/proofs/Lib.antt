@@ -12,8 +12,8 @@ mod SheetFacts
 mod Depths
 mod BodyNames
 mod Outside
-mod WholeHeads
-mod Wholes
+pub mod WholeHeads
+pub mod Wholes
 mod Marking
 mod PenFacts
 mod OpenBodies

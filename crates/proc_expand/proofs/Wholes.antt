@@ -103,6 +103,16 @@ module _ (ts : List TokenAt) (pos : Pos) (ok : refusal ts ≡ None) where
   nothing k l = none_holds (is_shape (signs ts) k) (is_unknown ts k) (is_count ts k) (is_twice ts k)
       (no_reason (suc (length ts)) (reason ts) k ok (omega (arith, l)))
 
+  -- no `;` stands within the brackets of a call before it
+  pub not_within : (j : ℕ) → j ≤ length ts → within (signs ts) j ≡ false
+  not_within j m =
+      let a = none_of (some (length (signs ts)) (λ p. begins (signs ts) p && proc_fails (signs ts) p j))
+      (misplaced (signs ts) j || (within (signs ts) j || some (length (signs ts)) (λ c. is_call (signs ts) c && call_fails (signs ts) c j)))
+      (nothing j m).shape in
+      let b = none_of (misplaced (signs ts) j)
+      (within (signs ts) j || some (length (signs ts)) (λ c. is_call (signs ts) c && call_fails (signs ts) c j)) a.1 in
+      (none_of (within (signs ts) j) (some (length (signs ts)) (λ c. is_call (signs ts) c && call_fails (signs ts) c j)) b.1).0
+
   -- ---- procedures
 
   module _ (p : ℕ) (l : p < length ts) (b : begins (signs ts) p ≡ true) where
@@ -138,13 +148,13 @@ module _ (ts : List TokenAt) (pos : Pos) (ok : refusal ts ≡ None) where
         (λ k m. ap (λ n. fails_at n (body_end (signs ts) p) k) (sym as_many)
         ∙ ap (λ (t : Bool). if t then fails_at (length (signs ts)) (body_end (signs ts) p) k else nat_eq (stop_of p) k) (sym fits) ∙ not_failing k m)
 
-    stop_opens : opens_curly (at (signs ts) (stop_of p)) ≡ true
+    pub stop_opens : opens_curly (at (signs ts) (stop_of p)) ≡ true
     stop_opens = head_opens (signs ts) p inside fits
 
     stop_in : stop_of p < length (signs ts)
     stop_in = lies_within (signs ts) (stop_of p) opens_curly refl stop_opens
 
-    closes : closing (signs ts) (stop_of p) ≡ Closed (end_of_body p)
+    pub closes : closing (signs ts) (stop_of p) ≡ Closed (end_of_body p)
     closes = sym is_body ∙ body_closed
 
     pub body_in : (stop_of p < end_of_body p) × (end_of_body p < length ts)
@@ -204,7 +214,7 @@ module _ (ts : List TokenAt) (pos : Pos) (ok : refusal ts ≡ None) where
   -- ---- calls
 
   module _ (k : ℕ) (l : k < length ts) (c : is_call (signs ts) k ≡ true) where
-    call_not_failing : (j : ℕ) → j ≤ length ts → call_fails (signs ts) k j ≡ false
+    pub call_not_failing : (j : ℕ) → j ≤ length ts → call_fails (signs ts) k j ≡ false
     call_not_failing j m =
         let a = none_of (some (length (signs ts)) (λ p. begins (signs ts) p && proc_fails (signs ts) p j))
         (misplaced (signs ts) j || (within (signs ts) j || some (length (signs ts)) (λ c. is_call (signs ts) c && call_fails (signs ts) c j)))
@@ -291,7 +301,7 @@ module _ (ts : List TokenAt) (pos : Pos) (ok : refusal ts ≡ None) where
         first_in n p j h = first_below n p j h
 
     -- no other of its name begins after it
-    other : (d q : ℕ) → IsMeant d → d < q → q < length ts → (begins (signs ts) q && same_name (bytes_at ts k) (bytes_at ts (q + 1))) ≡ false
+    pub other : (d q : ℕ) → IsMeant d → d < q → q < length ts → (begins (signs ts) q && same_name (bytes_at ts k) (bytes_at ts (q + 1))) ≡ false
     other d q h m n = by_case (begins (signs ts) q && same_name (bytes_at ts k) (bytes_at ts (q + 1))) (λ e. absurd (stuck e)) (λ e. e)
       where
         stuck : (begins (signs ts) q && same_name (bytes_at ts k) (bytes_at ts (q + 1))) ≡ true → ⊥

@@ -167,17 +167,17 @@ module _ (ts : List TokenAt) (end : Pos) where
       ∙ ap Closed (past_after (suc k) body)
 
   -- the signs of parts that need stand in no program
-  lies_signs : (k : ℕ) (ps : Parts) → Lies ts end k ps → drop k (signs ts) ≡ map sign_of (bytes_of ps) ++ drop (after k ps) (signs ts)
+  pub lies_signs : (k : ℕ) (ps : Parts) → Lies ts end k ps → drop k (signs ts) ≡ map sign_of (bytes_of ps) ++ drop (after k ps) (signs ts)
   lies_signs k [] h = refl
   lies_signs k (p ∷ ps) h =
       drop_sign ts end k p h.0 ∙ ap (λ (s : Sign). s ∷ drop (suc k) (signs ts)) (stand_sign ts end k p h.0)
       ∙ ap (λ (l : List Sign). sign_of (token_bytes p.token) ∷ l) (lies_signs (suc k) ps h.1)
 
-  free_bytes : (body : List (List ℕ)) → bytes_of (map free_part body ++ fixed RightBrace ∷ []) ≡ body ++ codes "}" ∷ []
+  pub free_bytes : (body : List (List ℕ)) → bytes_of (map free_part body ++ fixed RightBrace ∷ []) ≡ body ++ codes "}" ∷ []
   free_bytes [] = refl
   free_bytes (b ∷ body) = ap (λ (l : List (List ℕ)). b ∷ l) (free_bytes body)
 
-  free_many : (body : List (List ℕ)) → length (map free_part body) ≡ length body
+  pub free_many : (body : List (List ℕ)) → length (map free_part body) ≡ length body
   free_many [] = refl
   free_many (b ∷ body) = ap suc (free_many body)
 
@@ -206,7 +206,7 @@ module _ (ts : List TokenAt) (end : Pos) where
     pub then_none : open_before (signs ts) (suc j) ≡ 0
     pub up : k ≤ j
 
-  next_sign : (k : ℕ) (s : Sign) (us : List Sign) → drop k (signs ts) ≡ s ∷ us → (at (signs ts) k ≡ s) × (drop (suc k) (signs ts) ≡ us)
+  pub next_sign : (k : ℕ) (s : Sign) (us : List Sign) → drop k (signs ts) ≡ s ∷ us → (at (signs ts) k ≡ s) × (drop (suc k) (signs ts) ≡ us)
   next_sign k s us h = by (signs ts) k h
     where
       by : (ss : List Sign) (k : ℕ) → drop k ss ≡ s ∷ us → (at ss k ≡ s) × (drop (suc k) ss ≡ us)

@@ -195,10 +195,10 @@ even_one p h = record { level = level_one (token_sign p.token) h }
 pub even_next : (p : Part) (ps : Parts) → flat (token_sign p.token) ≡ true → Even ps → Even (p ∷ ps)
 even_next p ps h g = record { level = level_both (token_sign p.token ∷ []) (parts_signs ps) (level_one (token_sign p.token) h) g.level }
 
-even_outer : (e : Expr) → Even (outer e)
+pub even_outer : (e : Expr) → Even (outer e)
 even_outer e = record { level = (outer_quiet e).level }
 
-even_in : (b : Bracket) (p q : Part) (ps : Parts) → token_sign p.token ≡ mark.Opens b → token_sign q.token ≡ mark.Closes b → Even ps
+pub even_in : (b : Bracket) (p q : Part) (ps : Parts) → token_sign p.token ≡ mark.Opens b → token_sign q.token ≡ mark.Closes b → Even ps
     → Even (p ∷ (ps ++ q ∷ []))
 even_in b p q ps o c h = record {
   level = subst Level
@@ -209,17 +209,17 @@ even_in b p q ps o c h = record {
 even_square : (ps : Parts) → Even ps → Even (bracketed ps)
 even_square ps h = even_in Square (fixed LeftBracket) (fixed RightBracket) ps refl refl h
 
-even_index : (o : Option Expr) → Even (outer_index o)
+pub even_index : (o : Option Expr) → Even (outer_index o)
 even_index None = even_none
 even_index (Some e) = even_square (outer e) (even_outer e)
 
-even_target : (c : CellRef) → Even (target_parts c)
+pub even_target : (c : CellRef) → Even (target_parts c)
 even_target c =
     even_next (marked (Called (out-CellRef c).name) (out-CellRef c).pos) _ refl
     (even_both (outer_index (out-CellRef c).family) (bracketed (outer (out-CellRef c).cell)) (even_index (out-CellRef c).family)
     (even_square (outer (out-CellRef c).cell) (even_outer (out-CellRef c).cell)))
 
-even_object : (o : ObjectRef) → Even (object_parts o)
+pub even_object : (o : ObjectRef) → Even (object_parts o)
 even_object o = even_next (marked (Called o.name) o.pos) (outer_index o.member) refl (even_index o.member)
 
 even_more_names : (ns : List Named) → Even (more_names ns)
@@ -227,7 +227,7 @@ even_more_names [] = even_none
 even_more_names (n ∷ ns) =
     even_next (fixed Comma) _ refl (even_next (marked (Called n.name) n.pos) (more_names ns) refl (even_more_names ns))
 
-even_names : (ns : List Named) → Even (name_parts ns)
+pub even_names : (ns : List Named) → Even (name_parts ns)
 even_names [] = even_none
 even_names (n ∷ ns) = even_next (marked (Called n.name) n.pos) (more_names ns) refl (even_more_names ns)
 

@@ -36,10 +36,10 @@ or_true : (a : Bool) → (a || true) ≡ true
 or_true true = refl
 or_true false = refl
 
-or_none : (a b : Bool) → a ≡ false → b ≡ false → (a || b) ≡ false
+pub or_none : (a b : Bool) → a ≡ false → b ≡ false → (a || b) ≡ false
 or_none a b h g = λ i. h i || g i
 
-and_false : (a : Bool) → (a && false) ≡ false
+pub and_false : (a : Bool) → (a && false) ≡ false
 and_false true = refl
 and_false false = refl
 
@@ -61,7 +61,7 @@ not_up a b h = by (nat_le a b) refl
     by true q = absurd (let l = leb-true a b q in omega (arith, l, h))
     by false q = refl
 
-up : (a b : ℕ) → a ≤ b → nat_le a b ≡ true
+pub up : (a b : ℕ) → a ≤ b → nat_le a b ≡ true
 up a b h = le-leb a b h
 
 -- a test of places from k on, which the first has or the others
@@ -88,7 +88,7 @@ filter_none is k (p ∷ ps) h =
     ap (λ t. cond t (k ∷ filter is (places (suc k) ps)) (filter is (places (suc k) ps))) (h k (omega arith) (omega (arith, l)))
     ∙ filter_none is (suc k) ps (λ j a b. h j (omega (arith, a)) b)
 
-some_none : (n : ℕ) (is : ℕ → Bool) → ((j : ℕ) → j < n → is j ≡ false) → some n is ≡ false
+pub some_none : (n : ℕ) (is : ℕ → Bool) → ((j : ℕ) → j < n → is j ≡ false) → some n is ≡ false
 some_none zero is h = refl
 some_none (suc k) is h = or_none (some k is) (is k) (some_none k is (λ j l. h j (omega (arith, l)))) (h k (omega arith))
 
@@ -137,7 +137,7 @@ all_no_proc [] = refl
 all_no_proc (p ∷ ps) =
     ap (λ t. not t && list_all (λ (s : Sign). not (is_proc s)) (parts_signs ps)) (no_proc p.token) ∙ all_no_proc ps
 
-any_both : (is : Procedure → Bool) (a b : List Procedure) → list_any is (a ++ b) ≡ (list_any is a || list_any is b)
+pub any_both : (is : Procedure → Bool) (a b : List Procedure) → list_any is (a ++ b) ≡ (list_any is a || list_any is b)
 any_both is [] b = refl
 any_both is (p ∷ a) b = by (is p) (any_both is a b)
   where
@@ -206,21 +206,21 @@ module _ (ts : List TokenAt) (end : Pos) where
   no_outer_deep j h =
       ap (λ t. is_main (at (signs ts) j) && t) (other_number (open_before (signs ts) j) 0 (λ e. omega (arith, e, h))) ∙ and_false (is_main (at (signs ts) j))
 
-  no_begin : (j : ℕ) → is_proc (at (signs ts) j) ≡ false → begins (signs ts) j ≡ false
+  pub no_begin : (j : ℕ) → is_proc (at (signs ts) j) ≡ false → begins (signs ts) j ≡ false
   no_begin j h =
       ap (λ t. nat_eq (open_before (signs ts) j) 0 && not (some j (is_outer_main (signs ts))) && (t && (nat_eq j 0 || ends_item (before (signs ts) j)))) h
       ∙ and_false (nat_eq (open_before (signs ts) j) 0 && not (some j (is_outer_main (signs ts))))
 
-  no_begin_deep : (j : ℕ) → 0 < open_before (signs ts) j → begins (signs ts) j ≡ false
+  pub no_begin_deep : (j : ℕ) → 0 < open_before (signs ts) j → begins (signs ts) j ≡ false
   no_begin_deep j h =
       ap (λ t. t && not (some j (is_outer_main (signs ts))) && (is_proc (at (signs ts) j) && (nat_eq j 0 || ends_item (before (signs ts) j))))
       (other_number (open_before (signs ts) j) 0 (λ e. omega (arith, e, h)))
 
-  reads_no_begin : (k : ℕ) (ps : Parts) → Reads ts end k ps → (j : ℕ) → k ≤ j → j < after k ps → begins (signs ts) j ≡ false
+  pub reads_no_begin : (k : ℕ) (ps : Parts) → Reads ts end k ps → (j : ℕ) → k ≤ j → j < after k ps → begins (signs ts) j ≡ false
   reads_no_begin k ps r j l m =
       no_begin j (not_true (is_proc (at (signs ts) j)) (each_at (λ (s : Sign). not (is_proc s)) k ps r (all_no_proc ps) j l m))
 
-  item_open : (i : Item) (k : ℕ) → Open k → Reads ts end k (item_parts i) → Open (after k (item_parts i))
+  pub item_open : (i : Item) (k : ℕ) → Open k → Reads ts end k (item_parts i) → Open (after k (item_parts i))
   item_open i k o r = record {
     depth = reads_depth k (item_parts i) r ∙ ap (depth_after (parts_signs (item_parts i))) o.depth ∙ item_depth i;
     no_mains = λ j l. by j l (nat_le k j) refl;
@@ -255,7 +255,7 @@ module _ (ts : List TokenAt) (end : Pos) where
         closes
 
     -- each place after the first is in the title, or the `{`, or after that
-    where_is : (Q : ℕ → Type 0) → ((j : ℕ) → suc k ≤ j → j < stop_of ts end k x p params → Q j) → Q (stop_of ts end k x p params)
+    pub where_is : (Q : ℕ → Type 0) → ((j : ℕ) → suc k ≤ j → j < stop_of ts end k x p params → Q j) → Q (stop_of ts end k x p params)
         → ((j : ℕ) → 0 < open_before (signs ts) j → Q j) → (j : ℕ) → suc k ≤ j → j < suc (after (suc (stop_of ts end k x p params)) body) → Q j
     where_is Q a b c j l m = by (nat_le (stop_of ts end k x p params) j) refl
       where

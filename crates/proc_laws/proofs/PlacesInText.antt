@@ -119,7 +119,7 @@ module _ (ts : List TokenAt) (end : Pos) where
 
   -- ---- tokens that are spelled so
 
-  pos_is : (us : List TokenAt) (k : ℕ) → k < length us → pos_in (map (λ (t : TokenAt). t.pos) us) k ≡ pos_at ts end us k
+  pub pos_is : (us : List TokenAt) (k : ℕ) → k < length us → pos_in (map (λ (t : TokenAt). t.pos) us) k ≡ pos_at ts end us k
   pos_is [] k h = absurd (omega (arith, h))
   pos_is (t ∷ us) zero h = refl
   pos_is (t ∷ us) (suc k) h = pos_is us k (omega (arith, h))

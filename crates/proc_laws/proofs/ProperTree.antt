@@ -111,12 +111,12 @@ none_stand = record {
   by = λ f at args n c. opened c (statement.If (truth_at at) [] None) (Statement-F.If (truth_at at) [] None) (outs-If (truth_at at) [] None);
 }
 
-pub proper_tree : (fresh : ℕ → Name) (q : SourceText) → is_proper q ≡ true → Proper (expanded_tree fresh q)
-proper_tree fresh q h =
+-- the statements of the tree stand where those of the source do
+pub placed_as_source : (fresh : ℕ → Name) (q : SourceText) → list_all (is_placed Main) (expanded_tree fresh q).main ≡ is_proper q
+placed_as_source fresh q =
     let its = map item_name (items_of q.pieces) in
-    record {
-      is = record {
-        is = trees_stand (all_trees its fresh no_trees (spoken_procedures q.pieces)) (calls_stand (λ x place. true) (spoken_procedures q.pieces))
-            (all_calls_stand its fresh no_trees (λ x place. true) none_stand (spoken_procedures q.pieces)) (λ x. x) q.main 0 Main ∙ h;
-      };
-    }
+    trees_stand (all_trees its fresh no_trees (spoken_procedures q.pieces)) (calls_stand (λ x place. true) (spoken_procedures q.pieces))
+    (all_calls_stand its fresh no_trees (λ x place. true) none_stand (spoken_procedures q.pieces)) (λ x. x) q.main 0 Main
+
+pub proper_tree : (fresh : ℕ → Name) (q : SourceText) → is_proper q ≡ true → Proper (expanded_tree fresh q)
+proper_tree fresh q h = record { is = record { is = placed_as_source fresh q ∙ h } }

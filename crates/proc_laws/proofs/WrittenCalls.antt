@@ -201,25 +201,26 @@ module _ (ts : List TokenAt) (end : Pos) where
   procedures_at k (Unread x p params body ∷ ps) =
       procedure_of ts end k x p params (map free_part body) ∷ procedures_at (after k (piece_parts (Unread x p params body))) ps
 
+  -- a name that a call replaces is written as a name
+  pub keeps_replaced : (names : List Name) (n : ℕ) → Keeps (replaced_by ts end names n)
+  keeps_replaced names n = record {
+    name = λ x h l. by x h (is_among (items ts end) x) l;
+    word = λ x h. word_by x h (is_among (items ts end) x);
+  }
+    where
+      by : (x : Name) → is_name x ≡ true → (b : Bool) → nat_le (length (if b then x else fresh_name (text_names ts end) (n + place_among names x))) WORD_LIMIT ≡ true
+          → is_name (if b then x else fresh_name (text_names ts end) (n + place_among names x)) ≡ true
+      by x h true l = h
+      by x h false l = fresh_is_name (text_names ts end) (n + place_among names x) l
+
+      word_by : (x : Name) → is_token x ≡ true → (b : Bool) → is_token (if b then x else fresh_name (text_names ts end) (n + place_among names x)) ≡ true
+      word_by x h true = h
+      word_by x h false =
+          word_token (fresh_name (text_names ts end) (n + place_among names x)) (fresh_is_word (text_names ts end) (n + place_among names x))
+
   module _ (follows : (k : ℕ) → is_call (signs ts) k ≡ true → ends_statement (before (signs ts) k) ≡ true) (own : List Name) (same_items : items ts end ≡ own) where
     abbrev pub fresh : ℕ → Name
     fresh i = fresh_name (text_names ts end) i
-
-    keeps_replaced : (names : List Name) (n : ℕ) → Keeps (replaced_by ts end names n)
-    keeps_replaced names n = record {
-      name = λ x h l. by x h (is_among (items ts end) x) l;
-      word = λ x h. word_by x h (is_among (items ts end) x);
-    }
-      where
-        by : (x : Name) → is_name x ≡ true → (b : Bool) → nat_le (length (if b then x else fresh_name (text_names ts end) (n + place_among names x))) WORD_LIMIT ≡ true
-            → is_name (if b then x else fresh_name (text_names ts end) (n + place_among names x)) ≡ true
-        by x h true l = h
-        by x h false l = fresh_is_name (text_names ts end) (n + place_among names x) l
-
-        word_by : (x : Name) → is_token x ≡ true → (b : Bool) → is_token (if b then x else fresh_name (text_names ts end) (n + place_among names x)) ≡ true
-        word_by x h true = h
-        word_by x h false =
-            word_token (fresh_name (text_names ts end) (n + place_among names x)) (fresh_is_word (text_names ts end) (n + place_among names x))
 
     names_of_params : (ps : List HeadParam) → map (λ (q : HeadParam). q.name) ps ≡ map (λ (a : abstract.Param). a.name) (map param ps)
     names_of_params [] = refl

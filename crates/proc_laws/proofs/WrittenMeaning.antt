@@ -48,7 +48,7 @@ first_of_three : (a b c : Bool) → (a && b && c) ≡ true → a ≡ true
 first_of_three true b c h = refl
 first_of_three false b c h = absurd (cc)
 
-token_short : (t : Token) → is_valid t ≡ true → nat_le (length (token_bytes t)) WORD_LIMIT ≡ true
+pub token_short : (t : Token) → is_valid t ≡ true → nat_le (length (token_bytes t)) WORD_LIMIT ≡ true
 token_short (Fixed s) h = sign_short s
 token_short (Called x) h = first_of_three (nat_le (length x) WORD_LIMIT) (is_word x) (not (is_reserved x)) h
 token_short (Counted (ℤ.pos n)) h =
@@ -59,7 +59,7 @@ token_short (Counted (ℤ.negsuc n)) h = absurd (cc)
 token_short Unknown h = absurd (cc)
 
 -- whatever has the bytes of such parts
-are_short : (us : List MadeToken) (ps : Parts) → bytes_of ps ≡ map (λ (t : TokenAt). t.bytes) (map made_token us)
+pub are_short : (us : List MadeToken) (ps : Parts) → bytes_of ps ≡ map (λ (t : TokenAt). t.bytes) (map made_token us)
     → list_all (λ (p : Part). is_valid p.token) ps ≡ true → list_all (λ (t : MadeToken). nat_le (length t.bytes) WORD_LIMIT) us ≡ true
 are_short [] ps e v = refl
 are_short (u ∷ us) [] e v = absurd (cc)

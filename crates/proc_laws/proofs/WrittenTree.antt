@@ -13,10 +13,10 @@ use Rattle.jade_syntax.specs.declared.tree.Item.TheVariants.{Input, Single, Fami
 use Rattle.jade_syntax.specs.declared.tree.Program.{Program}
 use Rattle.jade_syntax.specs.declared.tree.Statement.{Statement}
 use Rattle.jade_parser.specs.declared.Sign.TheVariants.{MainWord, LeftBrace, RightBrace, LeftBracket, RightBracket, Colon, Semicolon, InputWord, ObjectWord, ObjectsWord}
-use Rattle.jade_parser.specs.Spelled.{Part, Parts, fixed, number_part, is_valid, tokens_of, Agrees}
+use Rattle.jade_parser.specs.Spelled.{Part, Parts, fixed, number_part, is_valid, tokens_of, Agrees, AllValid, AllShort}
 use Rattle.jade_parser.specs.Statements.{braced, statement_parts, block_parts}
 use Rattle.jade_parser.specs.Programs.{item_parts, program_parts}
-use Rattle.jade_parser.specs.Grammar.{IsReading, bytes_of, texts}
+use Rattle.jade_parser.specs.Grammar.{IsReading, bytes_of, texts, positions}
 use Rattle.jade_parser.specs.Kinds.{token_bytes}
 use Rattle.proc_expand.specs.declared.sign.Sign.{Sign}
 use Rattle.proc_expand.specs.declared.sign.Sign.TheVariants.{Other}
@@ -28,7 +28,7 @@ use Rattle.proc_expand.specs.Refusals.{is_call, begins, proc_fails, call_fails, 
 use Rattle.proc_expand.specs.Written.{MadeToken, Written, CallWriter, write_places, all_writers, no_writer, items, text_names, fresh_name, expansion, names_at}
 use Rattle.proc_laws.specs.Expansion.{item_name, block_names}
 use Rattle.proc_laws.specs.SourceTree.{Piece, AnItem, AProcedure, Unread, SourceText, items_of, spoken_procedures, spoken_actions}
-use Rattle.proc_laws.specs.SourceReading.{title_parts, free_part, piece_parts, read_parts, main_parts, source_parts, block_of, IsSourceReading, AreWords, made_token, expanded_tokens}
+use Rattle.proc_laws.specs.SourceReading.{title_parts, free_part, piece_parts, read_parts, main_parts, source_parts, block_of, fits_after, is_proper, IsSourceReading, AreWords, made_token, expanded_tokens}
 use Rattle.proc_laws.specs.ExpandedTree.{CallTrees, trees, all_trees, no_trees, expanded_tree}
 use Rattle.proc_laws.proofs.SignsOfTokens.{token_sign}
 use Rattle.proc_laws.proofs.PlacesInText.{after, places, Sound, Lies, Reads, lies, lies_left, lies_right, left, right, reads, sign_at}
@@ -40,7 +40,7 @@ use Rattle.proc_laws.proofs.PiecesInText.{item_places, procedures_are, outer_are
 
 -- ---- what no refusal says of calls
 
-and_no_reason : (n : ℕ) (why : ℕ → Option Reason) → first_reason n why ≡ None → (k : ℕ) → k < n → why k ≡ None
+pub and_no_reason : (n : ℕ) (why : ℕ → Option Reason) → first_reason n why ≡ None → (k : ℕ) → k < n → why k ≡ None
 and_no_reason zero why h k l = absurd (omega (arith, l))
 and_no_reason (suc n) why h k l = by (first_reason n why) (why n) refl refl h (and_no_reason n why)
   where
@@ -78,7 +78,7 @@ first_of_three : (a b c : Bool) → (a && b && c) ≡ true → a ≡ true
 first_of_three true b c h = refl
 first_of_three false b c h = absurd (cc)
 
-calls_follow : (ts : List TokenAt) → refusal ts ≡ None → (k : ℕ) → is_call (signs ts) k ≡ true → ends_statement (before (signs ts) k) ≡ true
+pub calls_follow : (ts : List TokenAt) → refusal ts ≡ None → (k : ℕ) → is_call (signs ts) k ≡ true → ends_statement (before (signs ts) k) ≡ true
 calls_follow ts h k c =
     let n : reason ts k ≡ None = and_no_reason (suc (length ts)) (reason ts) h k (below (nat_le (length ts) k) refl) in
     then_ends (is_call (signs ts) k) (ends_statement (before (signs ts) k)) c
@@ -258,12 +258,23 @@ run_is : (b : List Statement) → flat_map (λ (t : Parts). t) (map statement_pa
 run_is [] = refl
 run_is (s ∷ b) = ap (λ (l : Parts). statement_parts s ++ l) (run_is b)
 
-as_program : (p : Program) → flat_map item_parts p.items ++ fixed MainWord ∷ braced (map statement_parts p.main) ≡ program_parts p
+pub as_program : (p : Program) → flat_map item_parts p.items ++ fixed MainWord ∷ braced (map statement_parts p.main) ≡ program_parts p
 as_program p =
     ap (λ (l : Parts). flat_map item_parts p.items ++ fixed MainWord ∷ fixed LeftBrace ∷ (l ++ fixed RightBrace ∷ [])) (run_is p.main)
     ∙ sym (append_assoc (flat_map item_parts p.items) (fixed MainWord ∷ []) (block_parts p.main))
 
-module _ (l : TokenList) (q : SourceText) (r : IsSourceReading l q) (none_refused : refusal l.lexemes ≡ None) where
+-- what reading as a source asks, but for where its statements stand
+pub record StandsIn (l : TokenList) (q : SourceText) : Type 0 where
+  pub spelled : bytes_of (source_parts q) ≡ texts l
+  pub placed : Agrees (positions l) 0 (source_parts q)
+  pub valid : AllValid (flat_map read_parts q.pieces ++ main_parts q.main)
+  pub short : AllShort (source_parts q)
+  pub known : fits_after [] q.pieces q.main ≡ true
+
+stands_in : (l : TokenList) (q : SourceText) → IsSourceReading l q → StandsIn l q
+stands_in l q r = record { spelled = r.spelled; placed = r.placed; valid = r.valid; short = r.short; known = r.known }
+
+module _ (l : TokenList) (q : SourceText) (r : StandsIn l q) (none_refused : refusal l.lexemes ≡ None) where
   follows : (k : ℕ) → is_call (signs l.lexemes) k ≡ true → ends_statement (before (signs l.lexemes) k) ≡ true
   follows = calls_follow l.lexemes none_refused
 
@@ -289,8 +300,8 @@ module _ (l : TokenList) (q : SourceText) (r : IsSourceReading l q) (none_refuse
       let b = length-map (tokens_of (source_parts q)) token_bytes in let c = length-map (source_parts q) (λ (p : Part). p.token) in
       let d = length-map l.lexemes (λ (t : TokenAt). t.bytes) in omega (arith, a, b, c, d)
 
-  pub same_items : items l.lexemes l.end ≡ map item_name (items_of q.pieces)
-  same_items = items_are l.lexemes l.end q many here main_here r.known
+  items_there : items l.lexemes l.end ≡ map item_name (items_of q.pieces)
+  items_there = items_are l.lexemes l.end q many here main_here r.known
 
   abbrev makes : CallTrees
   makes = all_trees (map item_name (items_of q.pieces)) (fresh_name (text_names l.lexemes l.end)) no_trees (spoken_procedures q.pieces)
@@ -298,8 +309,8 @@ module _ (l : TokenList) (q : SourceText) (r : IsSourceReading l q) (none_refuse
   abbrev calls : CallWriter l.lexemes l.end
   calls = all_writers l.lexemes l.end (no_writer l.lexemes l.end) (procedures_at l.lexemes l.end 0 q.pieces)
 
-  aw : AllWritten l.lexemes l.end follows (map item_name (items_of q.pieces)) same_items (no_writer l.lexemes l.end) no_trees 0 q.pieces q.main
-  aw = all_written l.lexemes l.end follows (map item_name (items_of q.pieces)) same_items (no_writer l.lexemes l.end) no_trees 0 [] q.pieces q.main
+  aw : AllWritten l.lexemes l.end follows (map item_name (items_of q.pieces)) items_there (no_writer l.lexemes l.end) no_trees 0 q.pieces q.main
+  aw = all_written l.lexemes l.end follows (map item_name (items_of q.pieces)) items_there (no_writer l.lexemes l.end) no_trees 0 [] q.pieces q.main
       (record { by = λ k x p args made n b g t a. absurd (cc) }) here r.known
 
   abbrev made_main : List Statement
@@ -335,18 +346,38 @@ module _ (l : TokenList) (q : SourceText) (r : IsSourceReading l q) (none_refuse
       (sym (is_made ∙ ap (λ (u : List MadeToken). iw.made ++ u) (append-nil wm.made)))
       (subst (Spells (iw.made ++ wm.made)) (as_program (expanded_tree (fresh_name (text_names l.lexemes l.end)) q)) (spells_both iw.spells wm.spells))
 
-  pub written_reads : AreWords l → IsReading (expanded_tokens l) (expanded_tree (fresh_name (text_names l.lexemes l.end)) q)
-  written_reads words = record {
+  -- the tokens of the tree are those that are written
+  pub spelled_there : bytes_of (program_parts (expanded_tree (fresh_name (text_names l.lexemes l.end)) q)) ≡ texts (expanded_tokens l)
+  spelled_there = spelled_by spelt
+
+  pub valid_there : AreWords l → list_all (λ (p : Part). is_valid p.token) (program_parts (expanded_tree (fresh_name (text_names l.lexemes l.end)) q)) ≡ true
+  valid_there words = valid_by spelt words.each
+
+  reads_there : is_proper q ≡ true → AreWords l → IsReading (expanded_tokens l) (expanded_tree (fresh_name (text_names l.lexemes l.end)) q)
+  reads_there proper words = record {
     spelled = spelled_by spelt;
     placed = placed_by spelt;
-    sound = record { proper = proper_tree (fresh_name (text_names l.lexemes l.end)) q r.proper; valid = record { is = valid_by spelt words.each } };
+    sound = record { proper = proper_tree (fresh_name (text_names l.lexemes l.end)) q proper; valid = record { is = valid_there words } };
     short = record { is = short_by spelt };
   }
 
+  names_there : names_at l.lexemes l.end (places (after 0 (flat_map piece_parts q.pieces)) (main_parts q.main)) ≡ block_names (spoken_actions q.main)
+  names_there = wm.names
+
+  tokens_there : list_all (λ (t : MadeToken). is_token t.bytes) (expansion l.lexemes l.end) ≡ true
+  tokens_there = tokens_by spelt
+
+module _ (l : TokenList) (q : SourceText) (r : IsSourceReading l q) (none_refused : refusal l.lexemes ≡ None) where
+  pub same_items : items l.lexemes l.end ≡ map item_name (items_of q.pieces)
+  same_items = items_there l q (stands_in l q r) none_refused
+
+  pub written_reads : AreWords l → IsReading (expanded_tokens l) (expanded_tree (fresh_name (text_names l.lexemes l.end)) q)
+  written_reads = reads_there l q (stands_in l q r) none_refused r.proper
+
   -- the names of `main`
   pub main_names : names_at l.lexemes l.end (places (after 0 (flat_map piece_parts q.pieces)) (main_parts q.main)) ≡ block_names (spoken_actions q.main)
-  main_names = wm.names
+  main_names = names_there l q (stands_in l q r) none_refused
 
   -- what is written is tokens
   pub all_tokens : list_all (λ (t : MadeToken). is_token t.bytes) (expansion l.lexemes l.end) ≡ true
-  all_tokens = tokens_by spelt
+  all_tokens = tokens_there l q (stands_in l q r) none_refused

@@ -6,3 +6,4 @@ pub mod Moved
 pub mod SourceTree
 pub mod ExpandedTree
 pub mod SourceReading
+pub mod AcceptedSource

@@ -21,6 +21,7 @@ ghost use Rattle.jade_syntax.specs.Abstract.{Name};
 ghost use Rattle.proc_laws.specs.Source.{SourceProgram};
 ghost use Rattle.proc_laws.specs.SourceTree.{SourceText, source_of};
 ghost use Rattle.proc_laws.specs.ExpandedTree.{expanded_tree};
+ghost use Rattle.proc_laws.specs.AcceptedSource.{ReadsAsSource, AnswersAsSource};
 ghost use Rattle.proc_laws.specs.SourceReading.{IsSourceReading, AreWords, expanded_tokens};
 ghost use Rattle.jade_syntax.specs.Image.{program};
 ghost use Rattle.jade_meaning.specs.Answer.{answer};
@@ -157,6 +158,30 @@ pub fn text_answers_as_its_source()
         → moved_answer (origin_of (record { tokens = expansion l.lexemes l.end; end = l.end })) (answer (program p) numbers limit turns)
         ≡ source_answer (source_of q) numbers limit turns }
 {
+    erased_is_program();
+    one_tree();
+}
+
+/// A law of programs with procedures, which does nothing. Let the tokens of a text not be refused, and
+/// let the text that is written for them read as a program. Then there is a source that the tokens of
+/// the text read as, so that what is proved of sources holds of each text that is accepted.
+pub fn accepted_text_is_a_source()
+    ensures { (text : List ℕ) → (l : TokenList) → reading text ≡ Whole l → refusal l.lexemes ≡ None
+        → (there : TokenList) → reading (expanded_text l) ≡ Whole there → (p : Program) → IsReading there p → ReadsAsSource l }
+{
+    reading_is_cut();
+}
+
+/// A law of programs with procedures, which does nothing. Let the tokens of a text not be refused, and
+/// let the text that is written for them read as a program without static faults. Then there is a
+/// source that the tokens of the text read as, and by whatever turn lists the program answers, with
+/// its fault at its origin, that is what the source answers.
+pub fn accepted_text_answers_as_its_source()
+    ensures { (text : List ℕ) → (l : TokenList) → reading text ≡ Whole l → refusal l.lexemes ≡ None
+        → (there : TokenList) → reading (expanded_text l) ≡ Whole there
+        → (p : Program) → IsReading there p → static_faults (placed_program p) ≡ [] → AnswersAsSource l p }
+{
+    reading_is_cut();
     erased_is_program();
     one_tree();
 }
