@@ -1,4 +1,5 @@
 mod First
+mod WordBytes
 mod Nested
 mod Heads
 mod CallFacts
@@ -7,6 +8,7 @@ mod Repeated
 mod Joined
 mod NameLists
 mod FreeNumbers
+mod TakenNames
 mod StackOfFrames
 mod SheetFacts
 mod Depths

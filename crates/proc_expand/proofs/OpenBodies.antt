@@ -12,12 +12,12 @@ use Rattle.proc_expand.specs.declared.source.Source.{Source}
 use Rattle.proc_expand.specs.Words.{signs, bytes_at, those, one_if, is_called, at}
 use Rattle.proc_expand.specs.Names.{is_among, place_among}
 use Rattle.proc_expand.specs.Refusals.{head, procedure, param_place}
-use Rattle.proc_expand.specs.Written.{MadeToken, items, text_names, replaced_at, replaced_by, fresh_name, is_variable, token_at, pos_at}
-use Rattle.proc_expand.specs.steps.Replaced.{names_of, IsNumber, IsMark}
+use Rattle.proc_expand.specs.Written.{MadeToken, items, text_names, replaced_at, replaced_by, fresh_name, free_number, is_variable, token_at, pos_at}
+use Rattle.proc_expand.specs.steps.Replaced.{taken_names, IsNumber, IsMark}
 use Rattle.proc_expand.specs.steps.Frames.{names_in}
-use Rattle.proc_expand.specs.steps.Pens.{name_by, number_in, IsSmall, IsPen, Wrote, IsTooLong}
+use Rattle.proc_expand.specs.steps.Pens.{written, name_by, number_in, IsSmall, IsPen, Wrote, IsTooLong}
 use Rattle.proc_expand.specs.steps.Sources.{IsSource, IsOpen, IsInside, StandsIn, param_token}
-use Rattle.proc_expand.proofs.NameLists.{names_count}
+use Rattle.proc_expand.proofs.TakenNames.{same_free, same_by}
 use Rattle.proc_expand.proofs.Wholes.{params_long, stop_within}
 
 -- ---- tokens by their places
@@ -156,23 +156,31 @@ module _ (ts : List TokenAt) (end : Pos) where
     abbrev made : List Name → Option ℕ → Name → Pos → MadeToken
     made names number x o = record { bytes = name_by names number x; origin = o }
 
-    pub few_source : length s.names ≤ 1048576
-    few_source =
-        let a = few_names ts end in let b = is.few in let c = ap length is.names in let d = names_count s.names in omega (arith, a, b, c, d)
+    abbrev taken : List Name
+    taken = taken_names s.taken
+
+    pub few_source : length taken ≤ 1048576
+    few_source = let a = few_names ts end in let b = is.few in let t = is.taken in let c = t.many in omega (arith, a, b, c)
+
+    same_number : (i : ℕ) → free_number taken i ≡ free_number (text_names ts end) i
+    same_number i = let t = is.taken in same_free taken (text_names ts end) t.many t.tells i
+
+    same_made : (number : Option ℕ) (x : Name) (o : Pos) → made taken number x o ≡ made (text_names ts end) number x o
+    same_made number x o = let t = is.taken in ap (λ y. record { bytes = y; origin = o }) (same_by taken (text_names ts end) t.many t.tells number x)
 
     pub name_token : (call : Option Call) (k : ℕ) (number : Option ℕ) (x : Name) (o : Pos) → StandsIn ts end call k → number ≡ number_in call (mark k)
-        → x ≡ bytes_at ts k → o ≡ pos_at ts end ts k → made (names_of s.names) number x o ≡ token_at ts end (names_in ts end call) k
+        → x ≡ bytes_at ts k → o ≡ pos_at ts end ts k → made taken number x o ≡ token_at ts end (names_in ts end call) k
     name_token call k number x o h a b c =
-        ap (λ ns. made ns number x o) is.names ∙ ap (λ m. made (text_names ts end) m x o) a
+        same_made number x o ∙ ap (λ m. made (text_names ts end) m x o) a
         ∙ ap (λ y. made (text_names ts end) (number_in call (mark k)) y o) b
         ∙ ap (λ y. record { bytes = y; origin = o }) (name_inside call k h)
         ∙ ap (λ p. record { bytes = if is_variable ts end k then names_in ts end call (bytes_at ts k) else bytes_at ts k; origin = p }) c
 
     pub param_made : (c : Call) (i : ℕ) (number : Option ℕ) (x : Name) (o : Pos) → IsOpen ts end c → i < (head (signs ts) c.procedure).params
         → number ≡ number_in (Some c) (mark (param_place c.procedure i)) → x ≡ bytes_at ts (param_place c.procedure i) → o ≡ pos_at ts end ts c.place
-        → made (names_of s.names) number x o ≡ param_token ts end c i
+        → made taken number x o ≡ param_token ts end c i
     param_made c i number x o h l a b d =
-        ap (λ ns. made ns number x o) is.names ∙ ap (λ m. made (text_names ts end) m x o) a
+        same_made number x o ∙ ap (λ m. made (text_names ts end) m x o) a
         ∙ ap (λ y. made (text_names ts end) (number_in (Some c) (mark (param_place c.procedure i))) y o) b
         ∙ ap (λ y. record { bytes = y; origin = o }) (name_numbered c (bytes_at ts (param_place c.procedure i)) (mark (param_place c.procedure i)) (param_number c i h l))
         ∙ ap (λ p. made_at_pos p) d
@@ -180,14 +188,16 @@ module _ (ts : List TokenAt) (end : Pos) where
         made_at_pos : Pos → MadeToken
         made_at_pos p = record { bytes = replaced_by ts end (replaced_in c) c.base (bytes_at ts (param_place c.procedure i)); origin = p }
 
-    pub same_pen : (p : Pen) → IsPen (text_names ts end) p → IsPen (names_of s.names) p
-    same_pen p h = subst (λ ns. IsPen ns p) (sym is.names) h
+    pub same_pen : (p : Pen) → IsPen (text_names ts end) p → IsPen taken p
+    same_pen p h = record { sheet = h.sheet; free = record { each = λ i l. (let f = h.free in f.each i l) ∙ sym (same_number i) } }
 
-    pub wrote_made : (number : Option ℕ) (x : Name) (o : Pos) (t : MadeToken) (p q : Pen) → made (names_of s.names) number x o ≡ t
-        → Wrote (names_of s.names) (made (names_of s.names) number x o ∷ []) p q → Wrote (text_names ts end) (t ∷ []) p q
-    wrote_made number x o t p q e h =
-        subst (λ ns. Wrote ns (t ∷ []) p q) is.names (subst (λ u. Wrote (names_of s.names) (u ∷ []) p q) e h)
+    pub wrote_made : (number : Option ℕ) (x : Name) (o : Pos) (t : MadeToken) (p q : Pen) → made taken number x o ≡ t
+        → Wrote taken (made taken number x o ∷ []) p q → Wrote (text_names ts end) (t ∷ []) p q
+    wrote_made number x o t p q e h = record {
+      pen = let g = h.pen in record { sheet = g.sheet; free = record { each = λ i l. (let f = g.free in f.each i l) ∙ same_number i } };
+      tokens = h.tokens ∙ ap (λ u. written p ++ u ∷ []) e;
+    }
 
-    pub long_made : (number : Option ℕ) (x : Name) (o : Pos) (t : MadeToken) (p : Pen) → made (names_of s.names) number x o ≡ t
-        → IsTooLong p (made (names_of s.names) number x o ∷ []) → IsTooLong p (t ∷ [])
+    pub long_made : (number : Option ℕ) (x : Name) (o : Pos) (t : MadeToken) (p : Pen) → made taken number x o ≡ t
+        → IsTooLong p (made taken number x o ∷ []) → IsTooLong p (t ∷ [])
     long_made number x o t p e h = subst (λ u. IsTooLong p (u ∷ [])) e h

@@ -26,7 +26,7 @@ use Rattle.proc_expand.specs.Written.{MadeToken, items, text_names, in_procedure
 use Rattle.proc_expand.specs.steps.Frames.{newest_named, names_in, writer_in, places_left, end_of, left}
 use Rattle.proc_expand.specs.steps.Sheets.{spaced_out}
 use Rattle.proc_expand.specs.steps.Pens.{written, IsPen, Wrote, IsTooLong}
-use Rattle.proc_expand.specs.steps.Sources.{IsSource, IsOpen, IsInside, StandsIn, StandIn, commas_after, InBrackets, EndsArgument, param_token, given_one, given_from, given_all, start_tokens, IsBody, IsFrame, IsNext, IsWriting, whole, GoesOn, IsWholeTooLong}
+use Rattle.proc_expand.specs.steps.Sources.{IsSource, IsOpen, IsInside, StandsIn, StandIn, commas_after, InBrackets, EndsArgument, param_token, given_one, given_from, given_all, start_tokens, IsBody, IsFrame, IsNext, IsWriting, whole, GoesOn, IsWholeTooLong, RunsOn}
 use Rattle.proc_expand.proofs.First.{plus_one, by_case, eq_true, eq_false}
 use Rattle.proc_expand.proofs.Nested.{closed_within, closed_in, closing_opens, step_inside}
 use Rattle.proc_expand.proofs.Heads.{comma_is}
@@ -403,6 +403,59 @@ module _ (ts : List TokenAt) (end : Pos) (s : Source) (is : IsSource ts end s) w
   one_token f g fs k n h t c e u =
       left_token ts end outer f g fs k (places_left ts end outer f.call (f.next + 1) f.stop) n h.next t c
       (ap (λ i. places_left ts end outer f.call i g.stop) e ∙ ap (places_left ts end outer f.call (f.next + 1)) u)
+
+  -- ---- tokens in a row
+
+  pub run_start : (p : Pen) (f : Frame) → IsPen (text_names ts end) p → IsFrame ts end outer f → RunsOn ts end outer p f p f
+  run_start p f h i = record { pen = h; frame = i; same = λ fs n. refl; longer = omega arith; more = omega arith }
+
+  module _ (p q : Pen) (f g : Frame) (k : ℕ) (h : RunsOn ts end outer p f q g) (i : IsNext ts end outer g k) (t : is_call (signs ts) k ≡ false) where
+    abbrev here : List MadeToken
+    here = token_at ts end (names_in ts end g.call) k ∷ []
+
+    abbrev after : Frame
+    after = record { next = g.next + 1; stop = g.stop; call = g.call }
+
+    pub run_step : (r : Pen) → Wrote (text_names ts end) here q r → RunsOn ts end outer p f r after
+    run_step r w = record {
+      pen = w.pen;
+      frame = frame_on g after h.frame refl refl (omega arith);
+      same = λ fs n.
+          ap (λ x. x ++ left ts end outer (after ∷ fs) n) w.tokens ∙ append_assoc (written q) here (left ts end outer (after ∷ fs) n)
+          ∙ ap (λ x. written q ++ x) (sym (one_token g after fs k n i t refl refl refl)) ∙ h.same fs n;
+      longer = let a = h.longer in let b = grows (text_names ts end) here q r h.pen w in omega (arith, a, b);
+      more = let a = h.more in let b = count_grows (text_names ts end) here q r w in omega (arith, a, b);
+    }
+
+    pub run_long : IsTooLong q here → (fs : List Frame) (n : ℕ) → IsWholeTooLong ts end outer p (fs ++ f ∷ []) n
+    run_long l fs n = record {
+      long = let a = whole_long q fs g here (left ts end outer (after ∷ reverse fs) n) n (one_token g after (reverse fs) k n i t refl refl refl) l in
+          subst (λ x. 1048576 < length (spaced_out x))
+          (ap (λ r. written q ++ left ts end outer r n) (reverse_more fs g) ∙ h.same (reverse fs) n
+          ∙ ap (λ r. written p ++ left ts end outer r n) (sym (reverse_more fs f))) a.long;
+    }
+
+  -- after more tokens in a row
+  pub runs_on : (p q r : Pen) (es fs hs : List Frame) (g h : Frame) (n m : ℕ) → GoesOn ts end outer p es n q (fs ++ g ∷ []) m
+      → RunsOn ts end outer q g r h → hs ≡ fs ++ h ∷ [] → All (IsFrame ts end outer) fs → GoesOn ts end outer p es n r hs m
+  runs_on p q r es fs hs g h n m a b e all = record {
+    writing = record {
+      pen = b.pen;
+      frames = subst (All (IsFrame ts end outer)) (sym e) (All-append (IsFrame ts end outer) fs (h ∷ []) all (one_frame h b.frame));
+      few = let w = a.writing in let i = w.few in let j = b.more in omega (arith, i, j);
+    };
+    same = ap (λ x. written r ++ left ts end outer x m) (ap reverse e ∙ reverse_more fs h) ∙ b.same (reverse fs) m
+        ∙ ap (λ x. written q ++ left ts end outer x m) (sym (reverse_more fs g)) ∙ a.same;
+    less = let i = a.less in let j = b.longer in let k = ap length e in let l = length-append fs (h ∷ []) in let m = length-append fs (g ∷ []) in
+        omega (arith, i, j, k, l, m);
+  }
+
+  pub run_too_long : (p q : Pen) (es fs : List Frame) (g : Frame) (n m : ℕ) → GoesOn ts end outer p es n q (fs ++ g ∷ []) m
+      → IsWholeTooLong ts end outer q (fs ++ g ∷ []) m → IsWholeTooLong ts end outer p es n
+  run_too_long p q es fs g n m a b = record { long = subst (λ x. 1048576 < length (spaced_out x)) a.same b.long }
+
+  pub all_but_last : (fs : List Frame) (f : Frame) → All (IsFrame ts end outer) (fs ++ f ∷ []) → All (IsFrame ts end outer) fs
+  all_but_last fs f h = all_front (IsFrame ts end outer) fs f h
 
   -- a call
   module _ (f g b : Frame) (fs : List Frame) (k n d close : ℕ) (h : IsNext ts end outer f k) (t : is_call (signs ts) k ≡ true)

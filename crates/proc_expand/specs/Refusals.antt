@@ -72,7 +72,7 @@ head ss p = head_from (p + 1) (drop (p + 1) ss)
 abbrev pub param_place : (p i : ℕ) → ℕ
 param_place p i = p + 4 + 3 * i
 
--- where the body of a procedure ends
+-- where the body of a procedure ends; never, if its head does not fit
 abbrev pub body_end : List Sign → ℕ → End
 body_end ss p = if (head ss p).fits then closing ss (head ss p).stop else Never
 
@@ -90,7 +90,7 @@ is_call ss k = is_called (at ss k) && opens_round (at ss (k + 1)) && not (is_pro
 abbrev pub call_end : List Sign → ℕ → End
 call_end ss c = closing ss (c + 1)
 
--- the places of the commas directly within brackets, where these are open within them, up to where they are closed, well or not
+-- the places of the commas directly within brackets, where these are open within them, up to where they are closed, well or not, or the text ends
 abbrev pub commas_from : List Bracket → ℕ → List Sign → List ℕ
 commas_from opened k [] = []
 commas_from opened k (Opens b ∷ ss) = commas_from (b ∷ opened) (k + 1) ss
@@ -118,7 +118,7 @@ proc_fails ss p k = if (head ss p).fits then fails_at (length ss) (body_end ss p
 abbrev pub misplaced : List Sign → ℕ → Bool
 misplaced ss k = is_call ss k && not (ends_statement (before ss k))
 
--- a `;` within the brackets of a call before it
+-- a `;` within the brackets of a call before it, up to where these are closed or go wrong
 abbrev pub within : List Sign → ℕ → Bool
 within ss k = is_semicolon (at ss k) && some k (λ c. is_call ss c && nat_lt k (end_place (length ss) (call_end ss c)))
 
@@ -148,27 +148,30 @@ is_shape ss k =
 abbrev pub is_named : List TokenAt → Name → ℕ → Bool
 is_named ts x p = begins (signs ts) p && is_called (at (signs ts) (p + 1)) && same_name x (bytes_at ts (p + 1))
 
--- the first procedure of the name of a call, if its body is closed before the call
+-- a procedure that may be there, if its body is closed before a place
 abbrev pub if_before : List Sign → ℕ → Option ℕ → Option ℕ
 if_before ss k None = None
 if_before ss k (Some p) = if closes_before (body_end ss p) k then Some p else None
 
+-- the procedure that a call means: the first of its name, if its body is closed before the call
 abbrev pub meant : List TokenAt → ℕ → Option ℕ
 meant ts k = if_before (signs ts) k (first (length ts) (is_named ts (bytes_at ts k)))
 
--- a called name that is no procedure before
+-- no place is there
 abbrev pub is_none : Option ℕ → Bool
 is_none None = true
 is_none (Some p) = false
 
+-- a called name that means no procedure before
 abbrev pub is_unknown : List TokenAt → ℕ → Bool
 is_unknown ts k = is_call (signs ts) k && is_none (meant ts k)
 
--- another number of arguments than of parameters
+-- the procedure that is meant, if there is one, has another number of parameters than the call has arguments
 abbrev pub counts_other : List Sign → ℕ → Option ℕ → Bool
 counts_other ss k None = false
 counts_other ss k (Some p) = not (nat_eq (count ss k) (head ss p).params)
 
+-- a call whose brackets are closed, with another number of arguments than of parameters
 abbrev pub is_count : List TokenAt → ℕ → Bool
 is_count ts k = is_call (signs ts) k && is_closed (call_end (signs ts) k) && counts_other (signs ts) k (meant ts k)
 
@@ -193,12 +196,13 @@ reason ts k =
     if is_shape (signs ts) k then Some Shape else (if is_unknown ts k then Some Unknown else (if is_count ts k then Some Count
     else (if is_twice ts k then Some Twice else None)))
 
--- the first place before n with a reason
+-- the refusal that was found, or else one at this place if it has a reason
 abbrev pub or_reason : Option Refusal → Option Reason → ℕ → Option Refusal
 or_reason (Some r) why k = Some r
 or_reason None (Some why) k = Some (record { why = why; place = k })
 or_reason None None k = None
 
+-- the first place before n with a reason
 abbrev pub first_reason : (n : ℕ) → (ℕ → Option Reason) → Option Refusal
 first_reason zero why = None
 first_reason (suc k) why = or_reason (first_reason k why) (why k) k

@@ -121,16 +121,16 @@ same_bracket Square Square = true
 same_bracket Curly Curly = true
 same_bracket _ _ = false
 
--- the sign at a place; past the end there is none
+-- the sign at a place; past the end it is `Other`
 abbrev pub at : List Sign → ℕ → Sign
 at ss k = slice_index_or ss k Other
 
--- the sign before a place
+-- the sign directly before a place; before the first it is `Other`
 abbrev pub before : List Sign → ℕ → Sign
 before ss zero = Other
 before ss (suc k) = at ss k
 
--- the bytes of the token at a place
+-- the bytes of the token at a place; past the end there are none
 abbrev pub bytes_at : List TokenAt → ℕ → List ℕ
 bytes_at [] k = []
 bytes_at (t ∷ ts) zero = t.bytes
@@ -138,7 +138,7 @@ bytes_at (t ∷ ts) (suc k) = bytes_at ts k
 
 -- ---- places
 
--- one of two, or none
+-- this place alone if so, else no place
 abbrev pub one_if : Bool → ℕ → List ℕ
 one_if true k = k ∷ []
 one_if false k = []
@@ -148,17 +148,18 @@ abbrev pub those : (n : ℕ) → (ℕ → Bool) → List ℕ
 those zero is = []
 those (suc k) is = those k is ++ one_if (is k) k
 
--- a place before n has it
+-- some place before n has it
 abbrev pub some : (n : ℕ) → (ℕ → Bool) → Bool
 some zero is = false
 some (suc k) is = some k is || is k
 
--- the first of them
+-- the place that was found, or else this one if it has the property
 abbrev pub or_here : Option ℕ → Bool → ℕ → Option ℕ
 or_here (Some j) here k = Some j
 or_here None true k = Some k
 or_here None false k = None
 
+-- the first of the places before n with some property
 abbrev pub first : (n : ℕ) → (ℕ → Bool) → Option ℕ
 first zero is = None
 first (suc k) is = or_here (first k is) (is k) k
@@ -176,24 +177,27 @@ abbrev pub open_before : List Sign → ℕ → ℕ
 open_before ss zero = 0
 open_before ss (suc k) = open_after (at ss k) (open_before ss k)
 
--- a closing bracket at a place, where these are open: the last of them is of its kind or not, and if others are open before it, that is found further on
+-- what a closing bracket at a place comes to, where these are open, the newest first: it goes wrong if none is open or the newest is of another
+-- kind; it closes the only one that is open; and if more are open, these are closed, or go wrong, further on
 abbrev pub closed_by : Bracket → ℕ → List Bracket → (List Bracket → End) → End
 closed_by b k [] go = Wrong k
 closed_by b k (a ∷ []) go = if same_bracket a b then Closed k else Wrong k
 closed_by b k (a ∷ c ∷ opened) go = if same_bracket a b then go (c ∷ opened) else Wrong k
 
--- where all of the open brackets, the newest first, are closed, each by its own kind, in the signs from a place on; or the first place at which
--- a closing bracket is not of the kind of what it would close
+-- where all of these open brackets, the newest first, are closed, each by its own kind, in the signs from a place on; if none is open, where the
+-- next that opens is closed. Or the first place at which a closing bracket is not of the kind of what it would close, or closes nothing; never, if
+-- the text ends before
 abbrev pub closing_from : List Bracket → ℕ → List Sign → End
 closing_from opened k [] = Never
 closing_from opened k (Opens b ∷ ss) = closing_from (b ∷ opened) (k + 1) ss
 closing_from opened k (Closes b ∷ ss) = closed_by b k opened (λ more. closing_from more (k + 1) ss)
 closing_from opened k (s ∷ ss) = closing_from opened (k + 1) ss
 
--- of the opening bracket at a place
+-- where the bracket that opens at a place is closed
 abbrev pub closing : List Sign → ℕ → End
 closing ss k = closing_from [] k (drop k ss)
 
+-- it is closed by its own kind
 abbrev pub is_closed : End → Bool
 is_closed (Closed j) = true
 is_closed (Wrong j) = false

@@ -130,21 +130,12 @@ fn origin_in(pieces: &[Piece], start: usize, end: Pos) -> Pos
     requires { Ascend pieces.now }
     ensures { result ≡ origin_among end (start + 1) pieces.now }
 {
-    let mut low = 0;
-    let mut high = pieces.len();
-    'halving: while low < high {
-        let middle = low + (high - low) / 2;
-        if pieces[middle].start < start {
-            low = middle + 1;
-        } else {
-            high = middle;
-        }
-    }
-    if low == pieces.len() {
+    let place = pieces.partition_point(|piece| piece.start < start);
+    if place == pieces.len() {
         return end;
     }
-    if pieces[low].start == start {
-        pieces[low].origin
+    if pieces[place].start == start {
+        pieces[place].origin
     } else {
         end
     }
@@ -157,6 +148,13 @@ impl Expanded {
         ensures { result.now ≡ text_of self.now }
     {
         &self.text
+    }
+
+    /// The bytes of the text in their own memory, without a copy. It takes no memory.
+    pub fn into_text(self) -> Vec<u8>
+        ensures { result.items ≡ text_of self }
+    {
+        self.text
     }
 
     /// Where a token comes from whose first byte stands at a position of the text; for other

@@ -24,6 +24,7 @@ mod scan;
 mod sheet;
 pub mod sign;
 mod source;
+mod taken;
 #[cfg(test)]
 mod tests;
 mod twice;

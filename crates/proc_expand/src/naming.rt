@@ -5,7 +5,7 @@ ghost use Rattle.std.specs.Prelude.{ℕ, suc, not};
 ghost use Rattle.proc_expand.specs.Names.{is_among};
 ghost use Rattle.proc_expand.specs.Words.{at, bytes_at, is_called, is_item_word, those, one_if, signs as signs_of};
 ghost use Rattle.proc_expand.specs.Refusals.{param_place, is_call};
-ghost use Rattle.proc_expand.specs.Written.{items, text_names, is_variable, names_at, from, in_procedure};
+ghost use Rattle.proc_expand.specs.Written.{items, is_variable, names_at, from, in_procedure};
 ghost use Rattle.proc_expand.specs.steps.Replaced.{names_of, with_name, with_names, AreNumbered, IsNumber, IsMark};
 
 use crate::calls::is_call;
@@ -66,40 +66,6 @@ pub(crate) fn items<'t>(
     let mut found: NameScope<'t, usize> = NameScope::none(alloc);
     for i in 0..outer.len() {
         add_item(&mut found, tokens, signs, outer[i])?;
-    }
-    Ok(found)
-}
-
-/// Adds the name that stands at a place, if one does.
-#[tactic(auto, using(crate::proofs::NameLists::not_added, crate::proofs::NameLists::added))]
-fn add_name<'t>(
-    found: &mut NameScope<'t, usize>,
-    tokens: &Tokens<'t>,
-    signs: &[Sign],
-    place: usize,
-) -> Result<(), Memory>
-    requires { place < length signs.now }
-    ensures { OnOk result (names_of found.new ≡ names_of found.old ++ map (bytes_at tokens.now.lexemes) (one_if (is_called (at signs.now place)) place)) }
-{
-    if !is_called(signs[place]) {
-        return Ok(());
-    }
-    found.declare(bytes_at(tokens, place), place)?;
-    Ok(())
-}
-
-/// The names of a text.
-pub(crate) fn text_names<'t>(
-    alloc: Global,
-    tokens: &Tokens<'t>,
-    signs: &[Sign],
-) -> Result<NameScope<'t, usize>, Memory>
-    requires { signs.now ≡ signs_of tokens.now.lexemes }
-    ensures { IfOk result (λ found. names_of found ≡ text_names tokens.now.lexemes tokens.now.end) }
-{
-    let mut found: NameScope<'t, usize> = NameScope::none(alloc);
-    for place in 0..signs.len() {
-        add_name(&mut found, tokens, signs, place)?;
     }
     Ok(found)
 }

@@ -3,15 +3,16 @@
 ghost use Rattle.std.specs.Prelude.{◌≡◌, if◌then◌else◌, Some};
 ghost use Rattle.proc_expand.specs.steps.Looking.{earliest};
 
-/// The first of two places that may be there.
+/// The first of two places that may be there. The second is seldom there, and is looked at first.
+#[tactic(auto, using(crate::proofs::First::earliest_none))]
 pub(crate) fn earliest(first: Option<usize>, second: Option<usize>) -> Option<usize>
     ensures { result ≡ earliest first second }
 {
-    match first {
-        None => second,
-        Some(place) => match second {
-            None => Some(place),
-            Some(other) => {
+    match second {
+        None => first,
+        Some(other) => match first {
+            None => Some(other),
+            Some(place) => {
                 if other < place {
                     Some(other)
                 } else {

@@ -1,6 +1,6 @@
 //! Text that is written token by token.
 
-ghost use Rattle.std.specs.Prelude.{◌≡◌, ◌++◌, ◌∷◌, ◌<◌, [], length, OnOk, Err};
+ghost use Rattle.std.specs.Prelude.{◌≡◌, ◌++◌, ◌∷◌, ◌<◌, [], length, OnOk, IfErr, Err};
 ghost use Rattle.proc_expand.specs.steps.Sheets.{tokens_of, spaced_out, IsSheet};
 ghost use Rattle.proc_expand.specs.declared.sheet.Stop.TheVariants.{Grown, Memory};
 
@@ -56,7 +56,24 @@ pub(crate) fn blank(alloc: Global) -> Sheet
     }
 }
 
+/// Writes bytes at the end of others; a byte alone is most often written, and is no copy of many.
+#[inline(always)]
+fn append(text: &mut Vec<u8>, bytes: &[u8]) -> Result<(), Stop>
+    ensures written { OnOk result (text.new.items ≡ text.old.items ++ bytes.now) }
+    ensures refused { IfErr result (λ stop. stop ≡ Memory) }
+{
+    match bytes {
+        [byte] => text.push(*byte)?,
+        _ => match text.extend_from_slice(bytes) {
+            Ok(()) => {}
+            Err(_) => return Err(Stop::Memory),
+        },
+    }
+    Ok(())
+}
+
 /// Writes a token.
+#[inline(always)]
 #[tactic(auto, using(crate::proofs::SheetFacts::put_tokens, crate::proofs::SheetFacts::put_sheet, crate::proofs::SheetFacts::too_long))]
 pub(crate) fn put(sheet: &mut Sheet, bytes: &[u8], origin: Pos) -> Result<(), Stop>
     requires { IsSheet sheet.old }
@@ -68,10 +85,7 @@ pub(crate) fn put(sheet: &mut Sheet, bytes: &[u8], origin: Pos) -> Result<(), St
     if bytes.len() >= 1_048_576 - start {
         return Err(Stop::Grown);
     }
-    match sheet.text.extend_from_slice(bytes) {
-        Ok(()) => {}
-        Err(_) => return Err(Stop::Memory),
-    }
+    append(&mut sheet.text, bytes)?;
     sheet.text.push(b' ')?;
     sheet.pieces.push(Piece {
         start,

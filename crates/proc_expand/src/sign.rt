@@ -1,10 +1,11 @@
 //! What tokens are to procedures and calls.
 
-ghost use Rattle.std.specs.Prelude.{◌≡◌, IfOk};
+ghost use Rattle.std.specs.Prelude.{◌≡◌, ◌∷◌, [], IfOk};
 ghost use Rattle.proc_expand.specs.Words.{sign_of, word_of, signs, at, before, bytes_at, is_proc, is_main, is_else};
 ghost use Rattle.proc_expand.specs.Words.{is_kind, is_semicolon, is_comma, is_called, opens_round};
 ghost use Rattle.proc_expand.specs.Words.{ends_statement, ends_item, same_bracket};
 
+use jade_alphabet::is_letter;
 use jade_base::Memory;
 use jade_lexer::Tokens;
 use jade_syntax::name::{is_name, same_name};
@@ -48,27 +49,44 @@ pub enum End {
 }
 
 /// What some bytes are.
+#[tactic(auto, using(crate::proofs::WordBytes::one_byte, crate::proofs::WordBytes::sign_of_word))]
 fn sign_of(text: &[u8]) -> Sign
     ensures { result ≡ sign_of text.now }
 {
-    if same_name(text, b";") {
-        Sign::Semicolon
-    } else if same_name(text, b",") {
-        Sign::Comma
-    } else if same_name(text, b"(") {
-        Sign::Opens(Bracket::Round)
-    } else if same_name(text, b")") {
-        Sign::Closes(Bracket::Round)
-    } else if same_name(text, b"[") {
-        Sign::Opens(Bracket::Square)
-    } else if same_name(text, b"]") {
-        Sign::Closes(Bracket::Square)
-    } else if same_name(text, b"{") {
-        Sign::Opens(Bracket::Curly)
-    } else if same_name(text, b"}") {
-        Sign::Closes(Bracket::Curly)
+    if text.len() == 1 {
+        sign_alone(text[0])
     } else {
         word_of(text)
+    }
+}
+
+/// What a byte is that stands alone.
+#[tactic(auto, using(crate::proofs::WordBytes::other_alone))]
+fn sign_alone(byte: u8) -> Sign
+    ensures { result ≡ sign_of (byte ∷ []) }
+{
+    match byte {
+        b';' => Sign::Semicolon,
+        b',' => Sign::Comma,
+        b'(' => Sign::Opens(Bracket::Round),
+        b')' => Sign::Closes(Bracket::Round),
+        b'[' => Sign::Opens(Bracket::Square),
+        b']' => Sign::Closes(Bracket::Square),
+        b'{' => Sign::Opens(Bracket::Curly),
+        b'}' => Sign::Closes(Bracket::Curly),
+        _ => letter_alone(byte),
+    }
+}
+
+/// What a byte is that stands alone and is no bracket, `;` or `,`.
+#[tactic(auto, using(crate::proofs::WordBytes::letter_alone))]
+fn letter_alone(byte: u8) -> Sign
+    ensures { result ≡ word_of (byte ∷ []) }
+{
+    if is_letter(byte) {
+        Sign::Called
+    } else {
+        Sign::Other
     }
 }
 

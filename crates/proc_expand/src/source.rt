@@ -6,10 +6,11 @@ ghost use Rattle.proc_expand.specs.steps.Looking.{IsScan, Knows};
 ghost use Rattle.proc_expand.specs.steps.Sources.{IsSource};
 
 use crate::marks::{Marks, marks_of};
-use crate::naming::{items, text_names};
+use crate::naming::items;
 use crate::outer::outer_places;
 use crate::procedures::Procedure;
 use crate::scan::Scan;
+use crate::taken::{Taken, taken_of};
 use jade_base::Memory;
 use jade_lexer::Tokens;
 use name_scope::NameScope;
@@ -21,7 +22,7 @@ use std::alloc::Global;
 pub(crate) struct Source<'t> {
     pub(crate) scan: Scan,
     pub(crate) known: NameScope<'t, Procedure>,
-    pub(crate) names: NameScope<'t, usize>,
+    pub(crate) taken: Taken<'t>,
     pub(crate) outer: Vec<usize>,
     pub(crate) marks: Marks,
 }
@@ -42,11 +43,11 @@ pub(crate) fn source_of<'t>(
     let outer = outer_places(alloc, tokens, &scan)?;
     let items = items(alloc, tokens, &scan.signs, &outer)?;
     let marks = marks_of(alloc, tokens, &scan, &items)?;
-    let names = text_names(alloc, tokens, &scan.signs)?;
+    let taken = taken_of(alloc, tokens, &scan.signs)?;
     Ok(Source {
         scan,
         known,
-        names,
+        taken,
         outer,
         marks,
     })

@@ -1,6 +1,6 @@
 //! The tokens of an expanded text, written one after the other with open bodies on a stack.
 
-ghost use Rattle.std.specs.Prelude.{◌≡◌, ◌∷◌, ◌++◌, ◌+◌, ◌-◌, ◌^◌, ◌<◌, ◌≤◌, [], ℕ, length, map, true, None, Some, IfOk, OnOk, Err};
+ghost use Rattle.std.specs.Prelude.{◌≡◌, ◌∷◌, ◌++◌, ◌+◌, ◌-◌, ◌^◌, ◌<◌, ◌≤◌, [], ℕ, List, length, map, true, None, Some, IfOk, OnOk, Err};
 ghost use Rattle.std.specs.Prelude.{slice_index_or};
 ghost use Rattle.proc_expand.specs.Words.{signs};
 ghost use Rattle.proc_expand.specs.steps.Brackets.{AreEndsFrom};
@@ -10,10 +10,11 @@ ghost use Rattle.proc_expand.specs.steps.Frames.{names_in, end_of};
 ghost use Rattle.proc_expand.specs.steps.Sheets.{tokens_of, spaced_out, IsSheet};
 ghost use Rattle.proc_expand.specs.steps.Pens.{IsPen, Wrote, IsTooLong, number_in};
 ghost use Rattle.proc_expand.specs.steps.Sources.{IsSource, IsOpen, StandsIn, StandIn, InBrackets, EndsArgument, param_token, given_one, given_all, start_tokens};
-ghost use Rattle.proc_expand.specs.steps.Sources.{IsFrame, IsNext, IsWriting, GoesOn, IsWholeTooLong};
+ghost use Rattle.proc_expand.specs.steps.Sources.{IsFrame, IsNext, IsWriting, GoesOn, IsWholeTooLong, RunsOn};
 ghost use Rattle.proc_expand.specs.declared.sheet.Stop.TheVariants.{Grown};
 ghost use Rattle.proc_expand.specs.declared.sign.End.TheVariants.{Closed};
 ghost use Rattle.proc_expand.specs.declared.frame.Call.{Call};
+ghost use Rattle.proc_expand.specs.declared.frame.Frame.{Frame};
 
 use crate::brackets::next_place;
 use crate::calls::{call_end, end_place, is_call};
@@ -56,6 +57,7 @@ fn number_at(source: &Source<'_>, call: Option<Call>, place: usize) -> Option<us
 }
 
 /// Writes the token at a place of the text or of an open body.
+#[inline(always)]
 fn put_token(
     tokens: &Tokens<'_>,
     source: &Source<'_>,
@@ -71,7 +73,7 @@ fn put_token(
 {
     let number = number_at(source, call, place);
     put_name(
-        &source.names,
+        &source.taken,
         pen,
         number,
         bytes_at(tokens, place),
@@ -127,7 +129,7 @@ fn put_param(
     let param = call.procedure + 4 + 3 * i;
     let number = number_at(source, Some(call), param);
     put_name(
-        &source.names,
+        &source.taken,
         pen,
         number,
         bytes_at(tokens, param),
@@ -340,7 +342,33 @@ fn write_call(
     Ok(given + source.marks.counts[callee.place])
 }
 
-/// Writes what comes next: a token, what a call begins with, or the end of a body. The number from
+/// Writes the tokens of an open body, or of what lies outside of procedures, that come before its
+/// next call or its end, and says what is left of it.
+fn put_run(
+    tokens: &Tokens<'_>,
+    source: &Source<'_>,
+    pen: &mut Pen,
+    frame: Frame,
+) -> Result<Frame, Stop>
+    requires source { IsSource tokens.now.lexemes tokens.now.end source.now }
+    requires pen { IsPen (text_names tokens.now.lexemes tokens.now.end) pen.old }
+    requires frame { IsFrame tokens.now.lexemes tokens.now.end source.now.outer.items frame }
+    ensures runs { IfOk result (RunsOn tokens.now.lexemes tokens.now.end source.now.outer.items pen.old frame pen.new) }
+    ensures grown { result ≡ Err Grown → (fs : List Frame) (n : ℕ) → IsWholeTooLong tokens.now.lexemes tokens.now.end source.now.outer.items pen.old (fs ++ frame ∷ []) n }
+{
+    let mut rest = frame;
+    'running: while rest.next < rest.stop {
+        let place = place_in(tokens, source, rest);
+        if is_call(&source.scan.signs, place) {
+            return Ok(rest);
+        }
+        put_token(tokens, source, pen, rest.call, place)?;
+        rest.next += 1;
+    }
+    Ok(rest)
+}
+
+/// Writes what comes next: tokens, what a call begins with, or the end of a body. The number from
 /// which the next call's names are given.
 fn write_next(
     tokens: &Tokens<'_>,
@@ -364,11 +392,12 @@ fn write_next(
         return write_call(tokens, source, pen, frames, frame, place, given);
     }
     put_token(tokens, source, pen, frame.call, place)?;
-    frames.push(Frame {
+    let rest = Frame {
         next: frame.next + 1,
         stop: frame.stop,
         call: frame.call,
-    })?;
+    };
+    frames.push(put_run(tokens, source, pen, rest)?)?;
     Ok(given)
 }
 

@@ -1,5 +1,5 @@
 -- The names that calls replace, as they are met one by one.
-use Rattle.std.specs.Prelude.{◌≡◌, ℕ, ◌<◌, true, false, ◌||◌, List, [], ◌∷◌, ◌++◌, length, Option, Some, None}
+use Rattle.std.specs.Prelude.{◌≡◌, ℕ, zero, suc, ◌<◌, Bool, nat_eq, true, false, ◌||◌, List, [], ◌∷◌, ◌++◌, length, Option, Some, None}
 use Rattle.std.specs.Prelude.{slice_index_or, if◌then◌else◌}
 use Rattle.std.specs.Map.{lookup}
 use Rattle.jade_base.specs.declared.place.Pos.{Pos}
@@ -8,7 +8,8 @@ use Rattle.jade_syntax.specs.Abstract.{Name}
 use Rattle.jade_syntax.specs.Numbering.{same_name}
 use Rattle.proc_expand.specs.Words.{bytes_at}
 use Rattle.proc_expand.specs.Names.{is_among, place_among}
-use Rattle.proc_expand.specs.Written.{is_variable, free_number}
+use Rattle.proc_expand.specs.declared.taken.Taken.{Taken}
+use Rattle.proc_expand.specs.Written.{is_variable, free_number, numbered_name}
 
 -- the names of some entries, the newest first, in the order in which they were declared
 abbrev pub names_of : List (Name × ℕ) → List Name
@@ -45,6 +46,27 @@ pub record IsNumber (own names : List Name) (x : Name) (number : Option ℕ) : T
 pub record IsMark (ts : List TokenAt) (end : Pos) (own names : List Name) (k : ℕ) (number : Option ℕ) : Type 0 where
   pub variable : is_variable ts end k ≡ true → IsNumber own names (bytes_at ts k) number
   pub other : is_variable ts end k ≡ false → number ≡ None
+
+-- ---- the names of a text, which a new name is to be none of
+
+-- a name begins as a numbered one does
+abbrev pub begins_numbered : Name → Bool
+begins_numbered [] = false
+begins_numbered (b ∷ x) = nat_eq b 118
+
+-- so many names of which no more is known, as empty ones
+abbrev pub unknown_names : ℕ → List Name
+unknown_names zero = []
+unknown_names (suc n) = [] ∷ unknown_names n
+
+-- the names that are known, and the others
+abbrev pub taken_names : Taken → List Name
+taken_names t = names_of t.names ++ unknown_names t.others
+
+-- they are as many as some names, and tell which numbered names are among these
+pub record IsTaken (names : List Name) (t : Taken) : Type 0 where
+  pub many : length (taken_names t) ≡ length names
+  pub tells : (n : ℕ) → is_among (taken_names t) (numbered_name n) ≡ is_among names (numbered_name n)
 
 -- the free numbers from the first on
 pub record AreFree (names : List Name) (numbers : List ℕ) : Type 0 where

@@ -15,7 +15,7 @@ use Rattle.proc_expand.specs.Words.{signs, bytes_at, those, closing_from}
 use Rattle.proc_expand.specs.Refusals.{begins, head, body_end, procedure, param_place, commas_from, refusal}
 use Rattle.proc_expand.specs.steps.Looking.{IsScan, Knows}
 use Rattle.proc_expand.specs.Written.{MadeToken, text_names, in_procedure, closed_at, replaced_at, replaced_by, from, spans, token_at, given_at, made_at, param_places, arguments}
-use Rattle.proc_expand.specs.steps.Replaced.{names_of}
+use Rattle.proc_expand.specs.steps.Replaced.{IsTaken}
 use Rattle.proc_expand.specs.steps.Marks.{IsMarked}
 use Rattle.proc_expand.specs.steps.Frames.{names_in, places_left, left}
 use Rattle.proc_expand.specs.steps.Sheets.{spaced_out}
@@ -27,7 +27,7 @@ pub record IsSource (ts : List TokenAt) (end : Pos) (s : Source) : Type 0 where
   pub few : length ts ≤ 1048576
   pub scan : IsScan ts s.scan
   pub known : Knows ts (length ts) s.known
-  pub names : names_of s.names ≡ text_names ts end
+  pub taken : IsTaken (text_names ts end) s.taken
   pub outer : s.outer.items ≡ those (length ts) (λ k. not (in_procedure ts end k))
   pub marks : IsMarked ts end s.marks
 
@@ -142,3 +142,11 @@ pub record GoesOn (ts : List TokenAt) (end : Pos) (outer : List ℕ) (p : Pen) (
 -- the whole would be too long
 pub record IsWholeTooLong (ts : List TokenAt) (end : Pos) (outer : List ℕ) (p : Pen) (fs : List Frame) (n : ℕ) : Type 0 where
   pub long : 1048576 < length (spaced_out (whole ts end outer p fs n))
+
+-- tokens of a body are written in a row; what was and what is left of it, whatever else is open
+pub record RunsOn (ts : List TokenAt) (end : Pos) (outer : List ℕ) (p : Pen) (f : Frame) (q : Pen) (g : Frame) : Type 0 where
+  pub pen : IsPen (text_names ts end) q
+  pub frame : IsFrame ts end outer g
+  pub same : (fs : List Frame) (n : ℕ) → written q ++ left ts end outer (g ∷ fs) n ≡ written p ++ left ts end outer (f ∷ fs) n
+  pub longer : length p.sheet.text.items ≤ length q.sheet.text.items
+  pub more : length (written p) ≤ length (written q)

@@ -2,7 +2,7 @@ use Rattle.std.proofs.Common.{ℕ, ◌+◌, [], ◌∷◌, length, subst, arith}
 use Rattle.std.proofs.lemmas.Nat.{mul-le}
 use Rattle.std.proofs.lemmas.Result.{on_ok_weaker}
 use Rattle.proc_expand.specs.Written.{numbered_name}
-use Rattle.proc_expand.specs.steps.Replaced.{names_of}
+use Rattle.proc_expand.specs.steps.Replaced.{taken_names}
 use Rattle.proc_expand.specs.steps.Pens.{Wrote, IsTooLong}
 use Rattle.proc_expand.proofs.pen.put_fresh.Goals as goal
 
@@ -12,14 +12,14 @@ free_number-requires-clause-free c = c.requires.pen.free
 pub free_number-requires-clause-few : goal.free_number-requires-clause-few
 free_number-requires-clause-few c =
     let a = c.requires.few in let b = c.requires.small in
-    let m = mul-le (c.args.number + 1) (length c.args.names.now + 1) 2199023255552 1048577 (omega (arith, b)) (omega (arith, a)) in omega (arith, m)
+    let m = mul-le (c.args.number + 1) (length (taken_names c.args.taken.now) + 1) 2199023255552 1048577 (omega (arith, b)) (omega (arith, a)) in omega (arith, m)
 
 pub put_numbered-requires : goal.put_numbered-requires
 put_numbered-requires c = c.requires.pen.sheet
 
 pub returns-clause-wrote : goal.returns-clause-wrote
 returns-clause-wrote c =
-    let names = names_of c.args.names.now in
+    let names = taken_names c.args.taken.now in
     let P : ℕ → Type 0 = λ n. Wrote names (record { bytes = numbered_name n; origin = c.args.origin } ∷ []) c.args.pen.now c.put_numbered.new.pen in
     on_ok_weaker c.put_numbered.result
     (λ f. subst P c.in_ok-free.ensures.value

@@ -7,7 +7,7 @@ returns-clause-sheet c =
     let l : c.len-start.result ≡ length c.args.sheet.now.text.items = omega (arith, c.len-start.ensures) in
     put_sheet c.args.sheet.now (record { text = c.push.new.self; pieces = c.push-2.new.self }) c.args.bytes.now
     (record { start = c.len-start.result; stop = c.len-start.result + length c.args.bytes.now; origin = c.args.origin }) c.requires
-    (c.in_ok-push.ensures.items ∙ ap (λ u. u ++ 32 ∷ []) c.in-Ok.ensures.items) c.in_ok-push-2.ensures.items l (ap (λ n. n + length c.args.bytes.now) l)
+    (c.in_ok-push.ensures.items ∙ ap (λ u. u ++ 32 ∷ []) c.in_ok-append.ensures.written) c.in_ok-push-2.ensures.items l (ap (λ n. n + length c.args.bytes.now) l)
     (let f = c.if-bytes-start.false in omega (arith, f, l))
 
 pub returns-clause-tokens : goal.returns-clause-tokens
@@ -15,4 +15,4 @@ returns-clause-tokens c =
     let l : c.len-start.result ≡ length c.args.sheet.now.text.items = omega (arith, c.len-start.ensures) in
     put_tokens c.args.sheet.now (record { text = c.push.new.self; pieces = c.push-2.new.self }) c.args.bytes.now
     (record { start = c.len-start.result; stop = c.len-start.result + length c.args.bytes.now; origin = c.args.origin }) c.requires
-    (c.in_ok-push.ensures.items ∙ ap (λ u. u ++ 32 ∷ []) c.in-Ok.ensures.items) c.in_ok-push-2.ensures.items l (ap (λ n. n + length c.args.bytes.now) l)
+    (c.in_ok-push.ensures.items ∙ ap (λ u. u ++ 32 ∷ []) c.in_ok-append.ensures.written) c.in_ok-push-2.ensures.items l (ap (λ n. n + length c.args.bytes.now) l)
