@@ -273,15 +273,6 @@ all_items ts end ss ks e h =
     ap (λ u. items_among ts u ks) e ∙ ap (items_among ts (signs ts)) h
     ∙ ap (map (λ k. bytes_at ts (suc k))) (those_filter (length ts) (stands (signs ts)) (λ k. not (in_procedure ts end k)))
 
-pub not_added : (ts : List TokenAt) (es : List (Name × ℕ)) (b : Bool) (k : ℕ) → b ≡ false
-    → names_of es ≡ names_of es ++ map (bytes_at ts) (one_if b k)
-not_added ts es b k h = sym (append-nil (names_of es)) ∙ ap (λ t. names_of es ++ map (bytes_at ts) (one_if t k)) (sym h)
-
-pub added : (ts : List TokenAt) (es more : List (Name × ℕ)) (x : Name) (v : ℕ) (b : Bool) (k : ℕ) → more ≡ (x, v) ∷ es → x ≡ bytes_at ts k → b ≡ true
-    → names_of more ≡ names_of es ++ map (bytes_at ts) (one_if b k)
-added ts es more x v b k h e t =
-    ap names_of h ∙ ap (λ y. names_of es ++ y ∷ []) e ∙ ap (λ u. names_of es ++ map (bytes_at ts) (one_if u k)) (sym t)
-
 -- ---- marks that are set
 
 pub set_number : (own names : List Name) (ms : List (Option ℕ)) (x y : Name) (k j : ℕ) (m : Option ℕ) → k < length ms → IsNumber own names y m → x ≡ y

@@ -1,12 +1,12 @@
 -- Names that a new one is to be none of, as far as they are known.
-use Rattle.std.proofs.Common.{◌≡◌, ℕ, zero, suc, ◌+◌, ◌<◌, ◌≤◌, Bool, true, false, ◌&&◌, ◌||◌, List, [], ◌∷◌, ◌++◌, length, Option, Some, None, refl, sym, ap, ◌∙◌, subst, arith}
-use Rattle.std.specs.Prelude.{nat_eq, map, if◌then◌else◌}
-use Rattle.std.proofs.lemmas.List.{length-append, append_assoc, map-append, append-nil}
+use Rattle.std.proofs.Common.{◌≡◌, ℕ, zero, suc, ◌+◌, Bool, true, false, ◌&&◌, ◌||◌, List, [], ◌∷◌, ◌++◌, length, Option, Some, None, refl, sym, ap, ◌∙◌, arith}
+use Rattle.std.specs.Prelude.{map, if◌then◌else◌}
+use Rattle.std.proofs.lemmas.List.{length-append, map-append, append-nil}
 use Rattle.jade_syntax.specs.Abstract.{Name}
 use Rattle.jade_syntax.specs.Numbering.{same_name}
 use Rattle.proc_expand.specs.declared.taken.Taken.{Taken}
 use Rattle.proc_expand.specs.Names.{is_among}
-use Rattle.proc_expand.specs.Written.{numeral, numbered_name, next_free, free_number, fresh_name}
+use Rattle.proc_expand.specs.Written.{numeral, numbered_name, next_free, free_number}
 use Rattle.proc_expand.specs.steps.Replaced.{names_of, begins_numbered, unknown_names, taken_names, IsTaken}
 use Rattle.proc_expand.specs.steps.Pens.{name_by}
 use Rattle.jade_lexer.specs.Lexemes.{TokenAt}

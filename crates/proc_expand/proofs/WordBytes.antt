@@ -1,7 +1,7 @@
 -- Which bytes are which words.
-use Rattle.std.proofs.Common.{◌≡◌, ◌≢◌, ℕ, zero, suc, ◌+◌, ◌<◌, ◌≤◌, Bool, true, false, ◌&&◌, ◌||◌, not, List, [], ◌∷◌, length, refl, sym, ap, ◌∙◌, arith}
+use Rattle.std.proofs.Common.{◌≡◌, ◌≢◌, ℕ, suc, Bool, true, false, ◌&&◌, ◌||◌, not, List, [], ◌∷◌, length, refl, sym, ap, ◌∙◌, arith}
 use Rattle.std.specs.Prelude.{nat_eq, nat_le, codes, slice_index_or, if◌then◌else◌}
-use Rattle.std.specs.List.{list_any, list_all}
+use Rattle.std.specs.List.{list_any}
 use Rattle.jade_alphabet.specs.Letters.{is_letter, is_word}
 use Rattle.jade_syntax.specs.Abstract.{Name}
 use Rattle.jade_syntax.specs.Names.{item_words, statement_words, declare_words, is_reserved, is_name}
@@ -11,7 +11,7 @@ use Rattle.proc_expand.specs.declared.sign.Sign.TheVariants.{Called, Other}
 use Rattle.proc_expand.specs.Words.{word_of, sign_of}
 use Rattle.proc_expand.proofs.First.{by_case, eq_true, eq_not}
 
--- words of other lengths, and with other first bytes
+-- words of other lengths
 pub other_length : (x y : Name) → length x ≢ length y → same_name x y ≡ false
 other_length [] [] h = absurd (h refl)
 other_length [] (b ∷ y) h = refl
@@ -21,11 +21,6 @@ other_length (a ∷ x) (b ∷ y) h = by (nat_eq a b) (other_length x y (λ e. h 
     by : (t : Bool) → same_name x y ≡ false → (t && same_name x y) ≡ false
     by true g = g
     by false g = refl
-
-pub other_first : (x y : Name) (d e : ℕ) → length x ≡ length y → 0 < length y → slice_index_or x 0 d ≢ slice_index_or y 0 e → same_name x y ≡ false
-other_first x [] d e l p h = absurd (omega (arith, p))
-other_first [] (b ∷ y) d e l p h = refl
-other_first (a ∷ x) (b ∷ y) d e l p h = ap (λ t. t && same_name x y) (eq_not a b h)
 
 -- a word with some property is none of those that do not have it
 same_is : (a b : Name) → same_name a b ≡ true → a ≡ b

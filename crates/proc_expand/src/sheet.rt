@@ -56,7 +56,7 @@ pub(crate) fn blank(alloc: Global) -> Sheet
     }
 }
 
-/// Writes bytes at the end of others; a byte alone is most often written, and is no copy of many.
+/// Writes bytes at the end of others. Often it is one byte, which is written without a call.
 #[inline(always)]
 fn append(text: &mut Vec<u8>, bytes: &[u8]) -> Result<(), Stop>
     ensures written { OnOk result (text.new.items ≡ text.old.items ++ bytes.now) }

@@ -108,7 +108,11 @@ fn expands_to(alloc: Global, text: &[u8], expanded: &[u8]) -> Result<bool, Fail>
         return Ok(false);
     }
     match expand(alloc, &tokens(alloc, text)?) {
-        Ok(found) => Ok(found.text() == expanded),
+        Ok(found) => {
+            let same = found.text() == expanded;
+            let text = found.into_text();
+            Ok(same && text.as_slice() == expanded)
+        }
         Err(_) => Ok(false),
     }
 }

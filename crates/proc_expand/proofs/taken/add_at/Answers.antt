@@ -1,9 +1,8 @@
-use Rattle.std.proofs.Common.{◌≡◌, ◌+◌, ◌++◌, [], ◌∷◌, length, List, refl, sym, ap, ◌∙◌, subst, arith}
+use Rattle.std.proofs.Common.{◌++◌, [], ◌∷◌, sym, ap, ◌∙◌, subst, arith}
 use Rattle.std.specs.Prelude.{map}
 use Rattle.std.proofs.lemmas.List.{length-map}
 use Rattle.std.proofs.lemmas.Result.{on_ok_weaker}
-use Rattle.jade_syntax.specs.Abstract.{Name}
-use Rattle.proc_expand.specs.Words.{at, bytes_at, is_called, those, one_if}
+use Rattle.proc_expand.specs.Words.{at, bytes_at, is_called, those}
 use Rattle.proc_expand.specs.steps.Replaced.{IsTaken}
 use Rattle.proc_expand.proofs.OpenBodies.{those_few}
 use Rattle.proc_expand.proofs.TakenNames.{taken_count, not_here, also_here}
