@@ -38,7 +38,6 @@ fn place_from(spec: &Spec, from: ObjectId) -> usize
 }
 
 // Whether the entry at a place is that of an object.
-#[inline(always)]
 fn is_at(spec: &Spec, place: usize, object: ObjectId) -> bool
     ensures there { result ≡ true → IsPlaceOf object place spec.now.entries }
     ensures other { result ≡ false → IsNotAt object place spec.now.entries }
@@ -53,7 +52,6 @@ fn is_at(spec: &Spec, place: usize, object: ObjectId) -> bool
 }
 
 // The place of an object's entry, if it has one, found by a look at one after another.
-#[inline(always)]
 fn place_among_few(spec: &Spec, object: ObjectId) -> Option<usize>
     ensures found { IfSome result (λ place. IsPlaceOf object place spec.now.entries) }
     ensures none { IfNone result (HasNoEntry object spec.now.entries) }
@@ -68,26 +66,8 @@ fn place_among_few(spec: &Spec, object: ObjectId) -> Option<usize>
     None
 }
 
-// The place of an object's entry among many, if it has one, found by halves. It is called, so that no
-// such search stands where an object is touched.
-#[cold]
-#[inline(never)]
-fn place_by_halves(spec: &Spec, object: ObjectId) -> Option<usize>
-    ensures found { IfSome result (λ place. IsPlaceOf object place spec.now.entries) }
-    ensures none { IfNone result (HasNoEntry object spec.now.entries) }
-    ensures ascending { IsAscending spec.now.entries }
-{
-    let place = place_from(spec, object);
-    if is_at(spec, place, object) {
-        Some(place)
-    } else {
-        None
-    }
-}
-
 /// The place of an object's entry, if it has one. Where a task has rights on all objects, it is the
-/// object's number; else it is sought one by one among few, or by halves. It takes no memory.
-#[inline(always)]
+/// object's number. It takes no memory.
 pub(crate) fn place_of(spec: &Spec, object: ObjectId) -> Option<usize>
     ensures found { IfSome result (λ place. IsPlaceOf object place spec.now.entries) }
     ensures none { IfNone result (HasNoEntry object spec.now.entries) }
@@ -98,9 +78,13 @@ pub(crate) fn place_of(spec: &Spec, object: ObjectId) -> Option<usize>
         return Some(number);
     }
     if spec.len() <= FEW {
-        place_among_few(spec, object)
+        return place_among_few(spec, object);
+    }
+    let place = place_from(spec, object);
+    if is_at(spec, place, object) {
+        Some(place)
     } else {
-        place_by_halves(spec, object)
+        None
     }
 }
 

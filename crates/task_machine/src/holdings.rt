@@ -183,7 +183,6 @@ fn place_from(rows: &[Row], object: usize) -> usize
 }
 
 // The place of an object's row, found by a look at one after another.
-#[inline(always)]
 fn place_among_few(rows: &[Row], object: usize) -> Option<usize>
     ensures row { result ≡ row_from object 0 rows.now }
     ensures within { IfSome result (λ place. place < length rows.now) }
@@ -196,25 +195,8 @@ fn place_among_few(rows: &[Row], object: usize) -> Option<usize>
     None
 }
 
-// The place of an object's row among many, found by halves. It is called, so that no such search
-// stands where an object is touched.
-#[cold]
-#[inline(never)]
-fn place_by_halves(rows: &[Row], object: usize) -> Option<usize>
-    requires { RowsAscend rows.now }
-    ensures row { result ≡ row_from object 0 rows.now }
-    ensures within { IfSome result (λ place. place < length rows.now) }
-{
-    let place = place_from(rows, object);
-    if place < rows.len() && rows[place].object.0 as usize == object {
-        return Some(place);
-    }
-    None
-}
-
 // The place of an object's row. Where all objects of a program are there, it is the object's number;
-// else it is sought one by one among few, or by halves.
-#[inline(always)]
+// else it is sought by halves, or one by one among few.
 fn place_of(rows: &[Row], object: usize) -> Option<usize>
     requires { RowsAscend rows.now }
     ensures row { result ≡ row_from object 0 rows.now }
@@ -224,14 +206,16 @@ fn place_of(rows: &[Row], object: usize) -> Option<usize>
         return Some(object);
     }
     if rows.len() <= FEW {
-        place_among_few(rows, object)
-    } else {
-        place_by_halves(rows, object)
+        return place_among_few(rows, object);
     }
+    let place = place_from(rows, object);
+    if place < rows.len() && rows[place].object.0 as usize == object {
+        return Some(place);
+    }
+    None
 }
 
 // The number in a cell; one that is not there has 0.
-#[inline(always)]
 fn at_cell(content: &Content, cell: usize) -> i64
     ensures { result ≡ cell_of content.now cell }
 {
@@ -243,7 +227,6 @@ fn at_cell(content: &Content, cell: usize) -> i64
 }
 
 // The number in a cell of an object, where the object is held.
-#[inline(always)]
 fn cell_among(rows: &[Row], object: usize, cell: usize) -> Option<i64>
     requires { RowsAscend rows.now }
     ensures { result ≡ cell_in (contents_of rows.now object) cell }
@@ -272,7 +255,6 @@ fn mode_among(rows: &[Row], object: usize) -> Option<Mode>
 }
 
 // Writes a number into a cell of an object; whether the object is held for more than reading.
-#[inline(always)]
 fn write_among(rows: &mut [Row], object: usize, cell: usize, number: i64) -> bool
     requires { RowsAscend rows.old }
     ensures written { Written (contents_of rows.old) object cell number result (contents_of rows.new) }
@@ -299,7 +281,6 @@ fn put_among(rows: &mut [Row], object: usize, content: Option<Content>) -> Optio
 }
 
 // Writes a number into a cell of a content; whether it is held for more than reading.
-#[inline(always)]
 fn write_at(content: &mut Option<Content>, cell: usize, number: i64) -> bool
     ensures { WrittenIn content.old cell number result content.new }
 {

@@ -4,7 +4,6 @@
 //! `spec_cover` and `task_code`.
 #![tactic(auto)]
 
-mod alone;
 mod entries;
 pub mod execution;
 pub mod frame;
@@ -15,6 +14,7 @@ pub mod machine;
 pub mod next;
 mod numbers;
 pub mod play;
+mod quick;
 pub mod section;
 mod slots;
 

@@ -52,7 +52,6 @@ pub enum Said {
 }
 
 // The rights on an object.
-#[inline(always)]
 fn rights_among(spec: &Spec, object: ObjectId) -> Rights
     ensures { result ≡ rights_in spec.now.entries object }
 {
@@ -63,7 +62,6 @@ fn rights_among(spec: &Spec, object: ObjectId) -> Rights
 }
 
 // The rights of the task on an object.
-#[inline(always)]
 fn rights_on(own: &Own, object: usize) -> Rights
     ensures rights { result ≡ rights_on (rights_of own.now) object }
     ensures narrow { 2 ^ 32 ≤ object → result ≡ no_rights }
@@ -114,7 +112,6 @@ pub(crate) fn made_for(own: &Own, object: ObjectId) -> Rights
 }
 
 /// Whether the task may read an object now.
-#[inline(always)]
 pub fn may_read(own: &Own, object: usize) -> bool
     ensures right { result ≡ may_read (rights_on (rights_of own.now) object) }
     ensures narrow { result ≡ true → object < 2 ^ 32 }
@@ -123,7 +120,6 @@ pub fn may_read(own: &Own, object: usize) -> bool
 }
 
 /// Whether the task may write an object now.
-#[inline(always)]
 pub fn may_write(own: &Own, object: usize) -> bool
     ensures right { result ≡ may_write (rights_on (rights_of own.now) object) }
     ensures narrow { result ≡ true → object < 2 ^ 32 }
