@@ -16,9 +16,9 @@ use Rattle.task_codegen.specs.Compiled.{created}
 
 -- the inputs from a place on are in scope
 abbrev pub given : List Item → List Item → InBody
-given items rest = record { items = items; scope = given_scope rest; next = inputs_in rest }
+given items rest = record { items = items; kept = []; scope = given_scope rest; next = inputs_in rest }
 
-pub none_given : (items : List Item) (n : ℕ) → length items ≤ n → record { items = items; scope = []; next = 0 } ≡ given items (drop n items)
+pub none_given : (items : List Item) (n : ℕ) → length items ≤ n → record { items = items; kept = []; scope = []; next = 0 } ≡ given items (drop n items)
 none_given items n le = ap (given items) (sym (drop_all n items le))
 
 module _ (items : List Item) (i j : ℕ) (item : Item) (at_i : slice_get items i ≡ Some item) (next : i + 1 ≡ j) (b : InBody) (h : b
@@ -27,12 +27,13 @@ module _ (items : List Item) (i j : ℕ) (item : Item) (at_i : slice_get items i
   opens k e = drop_item items i item at_i ∙ ap₂ (λ y n. y ∷ drop n items) e next
 
   pub given_input : (x : Name) (at : Pos) (c : InBody) (s : ℕ) → item ≡ Input x at → s ≡ b.next → c
-      ≡ record { items = b.items; scope = entry x s ∷ b.scope; next = s + 1 } → c ≡ given items (drop i items)
+      ≡ record { items = b.items; kept = b.kept; scope = entry x s ∷ b.scope; next = s + 1 } → c ≡ given items (drop i items)
   given_input x at c s e g f =
-      f ∙ ap (λ k. record { items = b.items; scope = entry x k ∷ b.scope; next = k + 1 }) g
-      ∙ ap (λ (d : InBody). record { items = d.items; scope = entry x d.next ∷ d.scope; next = d.next + 1 }) h
+      f ∙ ap (λ k. record { items = b.items; kept = b.kept; scope = entry x k ∷ b.scope; next = k + 1 }) g
+      ∙ ap (λ (d : InBody). record { items = d.items; kept = d.kept; scope = entry x d.next ∷ d.scope; next = d.next + 1 }) h
       ∙ ap (λ n. record {
         items = items;
+        kept = [];
         scope = entry x (inputs_in (drop j items)) ∷ given_scope (drop j items);
         next =
             n;
@@ -57,17 +58,17 @@ pub none_created : (items : List Item) (names : List Named) (n : ℕ) (b : InBod
     ≡ created items (names_of (drop n names))
 none_created items names n b le h =
     let z : inputs_in items ≡ inputs_in items + 0 = omega arith in
-    h ∙ ap (λ k. record { items = items; scope = given_scope items; next = k }) z ∙ ap (λ ns. created items (names_of ns)) (sym (drop_all n names le))
+    h ∙ ap (λ k. record { items = items; kept = []; scope = given_scope items; next = k }) z ∙ ap (λ ns. created items (names_of ns)) (sym (drop_all n names le))
 
 pub one_created : (items : List Item) (names : List Named) (i j : ℕ) (m : Named) (b c : InBody) (s : ℕ) → slice_get names i ≡ Some m → i + 1 ≡ j → b
-    ≡ created items (names_of (drop j names)) → s ≡ b.next → c ≡ record { items = b.items; scope = entry m.name s ∷ b.scope; next = s + 1 } → c
+    ≡ created items (names_of (drop j names)) → s ≡ b.next → c ≡ record { items = b.items; kept = b.kept; scope = entry m.name s ∷ b.scope; next = s + 1 } → c
     ≡ created items (names_of (drop i names))
 one_created items names i j m b c s at e h g f =
     let n = length (names_of (drop j names)) in
     let more : inputs_in items + n + 1 ≡ inputs_in items + suc n = omega arith in
-    f ∙ ap (λ k. record { items = b.items; scope = entry m.name k ∷ b.scope; next = k + 1 }) g
-    ∙ ap (λ (d : InBody). record { items = d.items; scope = entry m.name d.next ∷ d.scope; next = d.next + 1 }) h
-    ∙ ap (λ k. record { items = items; scope = parameters items (m.name ∷ names_of (drop j names)); next = k }) more
+    f ∙ ap (λ k. record { items = b.items; kept = b.kept; scope = entry m.name k ∷ b.scope; next = k + 1 }) g
+    ∙ ap (λ (d : InBody). record { items = d.items; kept = d.kept; scope = entry m.name d.next ∷ d.scope; next = d.next + 1 }) h
+    ∙ ap (λ k. record { items = items; kept = []; scope = parameters items (m.name ∷ names_of (drop j names)); next = k }) more
     ∙ ap (λ ns. created items (names_of ns)) (sym (drop_item names i m at ∙ ap (λ k. m ∷ drop k names) e))
 
 pub all_created : (items : List Item) (names : List Named) (n : ℕ) (b : InBody) → n ≤ 0 → b ≡ created items (names_of (drop n names)) → b

@@ -1,9 +1,13 @@
 //! A body as it is gone through: the variables in scope with their slots, and the next free slot.
 
-ghost use Rattle.std.specs.Prelude.{◌≡◌, [], ◌∷◌, ◌+◌, ◌-◌, length, drop, map, IfOk, OnOk};
+ghost use Rattle.std.specs.Prelude.{◌≡◌, [], ◌∷◌, ◌+◌, ◌-◌, length, drop, map, IfOk, OnOk, IsTrue};
+ghost use Rattle.task_translation.specs.Keys.{look};
+ghost use Rattle.task_codegen.specs.Variables.{key_shown};
+ghost use Rattle.task_codegen.specs.Bodies.{kept_of};
 ghost use Rattle.task_translation.specs.Compile.{slot_of, entry, inputs_in, given_scope};
 ghost use Rattle.task_codegen.specs.Compiled.{created};
 
+use crate::keys::{Kept, Key, look};
 use crate::ranges::Ranges;
 use jade_base::Memory;
 use jade_syntax::Name;
@@ -11,6 +15,7 @@ use jade_syntax::tree::{Item, NameList};
 use name_scope::NameScope;
 use std::alloc::Global;
 use std::marker::Model;
+use std::mem::replace;
 
 /// A body: its variables in scope, of which the newest of a name counts, the items, and the next
 /// free slot. Contracts see the variables with the newest first.
@@ -19,26 +24,32 @@ pub(crate) struct Names<'m, 'p> {
     variables: NameScope<'p, u32>,
     ranges: &'m Ranges<'p>,
     next: u32,
+    kept: Vec<Kept>,
 }
 
 impl<'m, 'p> Model for Names<'m, 'p> {
     ghost use Rattle.task_codegen.specs.Bodies.{InBody};
     ghost use Rattle.task_codegen.specs.Variables.{in_scope};
+    ghost use Rattle.task_codegen.specs.contracts.keys.Key as e;
+    ghost use Rattle.std.specs.Coded.{codes};
 
     ghost Value = { InBody };
 
-    ghost view = { λ b. record { items = b.ranges.now; scope = in_scope b.variables; next = b.next } };
+    ghost coded = { Prim.hlevel (codes, e.the_row.coded) };
+
+    ghost view = { λ b. record { items = b.ranges.now; kept = b.kept.items; scope = in_scope b.variables; next = b.next } };
 }
 
 impl<'m, 'p> Names<'m, 'p> {
     /// A body with no variables. It takes no memory.
     fn none(alloc: Global, ranges: &'m Ranges<'p>) -> Names<'m, 'p>
-        ensures { result ≡ record { items = ranges.now; scope = []; next = 0 } }
+        ensures { result ≡ record { items = ranges.now; kept = []; scope = []; next = 0 } }
     {
         Names {
             variables: NameScope::none(alloc),
             ranges,
             next: 0,
+            kept: Vec::new(alloc),
         }
     }
 
@@ -65,7 +76,7 @@ impl<'m, 'p> Names<'m, 'p> {
 
     /// Brings a variable into scope, which has this slot; the one after it is free then.
     pub(crate) fn declare(&mut self, name: &'p Name, slot: u32) -> Result<(), Memory>
-        ensures { OnOk result (self.new ≡ record { items = self.old.items; scope = entry name.now slot ∷ self.old.scope; next = slot + 1 }) }
+        ensures { OnOk result (self.new ≡ record { items = self.old.items; kept = self.old.kept; scope = entry name.now slot ∷ self.old.scope; next = slot + 1 }) }
     {
         let next = slot.checked_add(1).ok_or(Memory)?;
         self.variables.declare(name.bytes(), slot)?;
@@ -75,7 +86,7 @@ impl<'m, 'p> Names<'m, 'p> {
 
     /// Ends the newest variables, so that `len` stay, if there are more. It takes no memory.
     pub(crate) fn leave(&mut self, len: usize, next: u32)
-        ensures { self.new ≡ record { items = self.old.items; scope = drop (length self.old.scope - len) self.old.scope; next = next } }
+        ensures { self.new ≡ record { items = self.old.items; kept = self.old.kept; scope = drop (length self.old.scope - len) self.old.scope; next = next } }
     {
         self.variables.leave(len);
         self.next = next;
@@ -88,9 +99,38 @@ impl<'m, 'p> Names<'m, 'p> {
         self.variables.get(name.bytes())
     }
 
+    /// Nothing is kept. It takes no memory.
+    pub(crate) fn keeps_nothing(&self) -> bool
+        ensures { IsTrue result → self.now.kept ≡ [] }
+    {
+        self.kept.len() == 0
+    }
+
+    /// The slot that has the value of a key. It takes no memory.
+    pub(crate) fn look(&self, key: &Key) -> Option<u32>
+        ensures { result ≡ look (key_shown key.now) (kept_of self.now) }
+    {
+        look(&self.kept, key)
+    }
+
+    /// These values are kept from here on, and the answer is those before. It takes no memory.
+    pub(crate) fn keep(&mut self, kept: Vec<Kept>) -> Vec<Kept>
+        ensures next { self.new ≡ record { items = self.old.items; kept = kept.items; scope = self.old.scope; next = self.old.next } }
+        ensures before { result.items ≡ self.old.kept }
+    {
+        replace(&mut self.kept, kept)
+    }
+
+    /// The next free slot is another. It takes no memory.
+    pub(crate) fn reserve(&mut self, next: u32)
+        ensures { self.new ≡ record { items = self.old.items; kept = self.old.kept; scope = self.old.scope; next = next } }
+    {
+        self.next = next;
+    }
+
     /// The inputs are in scope.
     fn given(alloc: Global, ranges: &'m Ranges<'p>) -> Result<Names<'m, 'p>, Memory>
-        ensures { IfOk result (λ b. b ≡ record { items = ranges.now; scope = given_scope ranges.now; next = inputs_in ranges.now }) }
+        ensures { IfOk result (λ b. b ≡ record { items = ranges.now; kept = []; scope = given_scope ranges.now; next = inputs_in ranges.now }) }
     {
         let mut body = Names::none(alloc, ranges);
         let items = ranges.items();

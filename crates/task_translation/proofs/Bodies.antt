@@ -36,8 +36,8 @@ unsized_follows : (p : AbstractProgram) (limit : ℕ) → Follows (unsized p) p 
 unsized_follows p limit zs long =
     let bodies = bodies_for_all p.items (given_scope p.items) (inputs_in p.items + 0) 1 p.main in
     let inner = by_number 1 (bodies_from zs limit 1 bodies) in
-    body_goes p.items zs long limit p.main inner [] [] 1 (λ code to h on k. all_goes p.items zs long limit p.main inner code (given_scope p.items)
-    (inputs_in p.items + 0) 1 (λ ss. Unit {0}) (nothing p.items zs long limit) (below_parameters p.items []) 0 to h (table_knows zs limit 1 bodies) on k)
+    body_goes p.items zs long limit p.main inner [] [] 1 (λ code to h on k. all_goes p.items zs long limit p.main inner code [] (given_scope p.items)
+    (inputs_in p.items + 0) 1 (λ ss. Unit {0}) (nothing p.items zs long limit) (below_parameters p.items []) tt (λ ss p. tt) 0 to h (table_knows zs limit 1 bodies) on k)
     (λ k. pos 0) [] (root_spec p) tt
 
 -- the numbers of slots change nothing

@@ -44,10 +44,15 @@ IsIn k (e ∷ scope) = (k ≡ e.slot) ⊎ IsIn k scope
 abbrev pub Agree : ℕ → Slots → Slots → Type 0
 Agree n ss ss' = (k : ℕ) → k < n → ss' k ≡ ss k
 
--- what holds of slots goes on to hold where free ones change, or one in scope
-pub record Stable (P : Slots → Type 0) (scope : Scope) (n : ℕ) : Type 0 where
+-- what holds of slots goes on to hold where free ones change, or one in scope that may be assigned to
+pub record Stable (P : Slots → Type 0) (scope : Scope) (n : ℕ) (may : ℕ → Bool) : Type 0 where
   pub free : (ss ss' : Slots) → Agree n ss ss' → P ss → P ss'
-  pub bound : (ss : Slots) (k : ℕ) (z : ℤ) → IsIn k scope → P ss → P (with_slot k z ss)
+  pub bound : (ss : Slots) (k : ℕ) (z : ℤ) → IsIn k scope → may k ≡ true → P ss → P (with_slot k z ss)
+
+-- the same, where fewer may be assigned to
+pub narrow : (P : Slots → Type 0) (scope : Scope) (n : ℕ) (may less : ℕ → Bool) → ((k : ℕ) → less k ≡ true → may k ≡ true) → Stable P scope n may
+    → Stable P scope n less
+narrow P scope n may less f st = record { free = st.free; bound = λ ss k z h w p. st.bound ss k z h (f k w) p }
 
 pub slot_same : (k : ℕ) (z : ℤ) (ss : Slots) → with_slot k z ss k ≡ z
 slot_same k z ss = ap (λ b. if b then z else ss k) (eq-eqb k k refl)
@@ -245,26 +250,27 @@ below_after scope n (Withonly at section names body) h = h
 below_after scope n (With at section) h = h
 below_after scope n (Declare how at o) h = h
 
-stable_local : (P : Slots → Type 0) (scope : Scope) (n : ℕ) (x : Name) → Stable P scope n → Stable P (entry x n ∷ scope) (n + 1)
-stable_local P scope n x st = record {
+stable_local : (P : Slots → Type 0) (scope : Scope) (n : ℕ) (may : ℕ → Bool) (x : Name) → Stable P scope n may → Stable P (entry x n ∷ scope) (n + 1) may
+stable_local P scope n may x st = record {
   free = λ a b f p. st.free a b (agree_less n (n + 1) a b (omega arith) f) p;
-  bound = λ ss k v h p. at_bound ss k v h p;
+  bound = λ ss k v h w p. at_bound ss k v h w p;
 }
   where
-    at_bound : (ss : Slots) (k : ℕ) (v : ℤ) → IsIn k (entry x n ∷ scope) → P ss → P (with_slot k v ss)
-    at_bound ss k v (inl e) p = st.free ss (with_slot k v ss) (put n k v ss ss (omega (arith, e)) (agree_all n ss)) p
-    at_bound ss k v (inr h) p = st.bound ss k v h p
+    at_bound : (ss : Slots) (k : ℕ) (v : ℤ) → IsIn k (entry x n ∷ scope) → may k ≡ true → P ss → P (with_slot k v ss)
+    at_bound ss k v (inl e) w p = st.free ss (with_slot k v ss) (put n k v ss ss (omega (arith, e)) (agree_all n ss)) p
+    at_bound ss k v (inr h) w p = st.bound ss k v h w p
 
-pub stable_after : (P : Slots → Type 0) (scope : Scope) (n : ℕ) (a : Action) → Stable P scope n → Stable P (scope_after scope n a) (next_after n a)
-stable_after P scope n (Local kind x e) st = stable_local P scope n x st
-stable_after P scope n (Assign x e) st = st
-stable_after P scope n (Store o e v) st = st
-stable_after P scope n (If e first) st = st
-stable_after P scope n (IfElse e first other) st = st
-stable_after P scope n (For x low high body) st = st
-stable_after P scope n (Withonly at section names body) st = st
-stable_after P scope n (With at section) st = st
-stable_after P scope n (Declare how at o) st = st
+pub stable_after : (P : Slots → Type 0) (scope : Scope) (n : ℕ) (may : ℕ → Bool) (a : Action) → Stable P scope n may
+    → Stable P (scope_after scope n a) (next_after n a) may
+stable_after P scope n may (Local kind x e) st = stable_local P scope n may x st
+stable_after P scope n may (Assign x e) st = st
+stable_after P scope n may (Store o e v) st = st
+stable_after P scope n may (If e first) st = st
+stable_after P scope n may (IfElse e first other) st = st
+stable_after P scope n may (For x low high body) st = st
+stable_after P scope n may (Withonly at section names body) st = st
+stable_after P scope n may (With at section) st = st
+stable_after P scope n may (Declare how at o) st = st
 
 below_given : (items : List Item) → Below (inputs_in items) (given_scope items)
 below_given [] = tt

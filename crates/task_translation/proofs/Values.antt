@@ -37,6 +37,15 @@ given_same (Fails kind) at m m' f h e = refl
 pub given_too : (g' g : Given) (at : Pos) (m m' : Mine) (f h : Value → Course) → g' ≡ g → ((v : Value) → f v ≡ h v) → given g' at m f ≡ given g at m' h
 given_too g' g at m m' f h same e = ap (λ x. given x at m f) same ∙ given_same g at m m' f h e
 
+given_from : (g : Given) (at : Pos) (m m' : Mine) (f h : Value → Course) → ((v : Value) → g ≡ Gives v → f v ≡ h v) → given g at m f ≡ given g at m' h
+given_from (Gives v) at m m' f h e = e v refl
+given_from (Fails kind) at m m' f h e = refl
+
+-- the same, where it is known what was given
+pub given_seen : (g' g : Given) (at : Pos) (m m' : Mine) (f h : Value → Course) → g' ≡ g → ((v : Value) → g ≡ Gives v → f v ≡ h v)
+    → given g' at m f ≡ given g at m' h
+given_seen g' g at m m' f h same e = ap (λ x. given x at m f) same ∙ given_from g at m m' f h e
+
 pub read_same : (o c : ℕ) (at : Pos) (m : Mine) (d : Draft) (f g : Value → Course) → ((v : Value) → f v ≡ g v) → read_cell o c at (own m.spec d) f
     ≡ read_cell o c at m g
 read_same o c at m d f g h =

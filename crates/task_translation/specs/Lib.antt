@@ -1,3 +1,4 @@
 pub mod Room
+pub mod Keys
 pub mod Compile
 pub mod Correct
