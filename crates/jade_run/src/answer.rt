@@ -236,6 +236,9 @@ pub fn expand_text(alloc: Global, text: &[u8]) -> Result<Answer, Memory>
     };
     match standing {
         Standing::Itself(_tokens) => written(alloc, text),
-        Standing::Expanded(expanded) => written(alloc, expanded.text()),
+        Standing::Expanded(expanded) => Ok(Answer {
+            text: expanded.into_text(),
+            status: Status::Good,
+        }),
     }
 }

@@ -33,7 +33,8 @@ use steal_workers::Gate;
 /// them, and `record` writes a recording of the run, by which `replay` checks its answer. What they
 /// write does not depend on that, nor on the gate, but for the order in which tasks take their
 /// turns that commute. The witness is shown what such a run did, with the turns, where it comes to an
-/// answer, before that is written; what is written is the outcome by these turns.
+/// answer, before that is written; what is written is the outcome by these turns. `replay` runs its
+/// tasks on the caller alone, lets them through no gate and shows the witness nothing.
 ///
 /// The words are tested first, then the length of the text, then the text. The whole text of the
 /// answer is built before its first byte is written.

@@ -1,3 +1,6 @@
+use Rattle.std.proofs.Common.{refl}
+use Rattle.std.specs.Prelude.{Ok}
+use Rattle.jade_run.specs.declared.status.Status.TheVariants.{Good}
 use Rattle.jade_run.proofs.Calls.{refused_expanded}
 use Rattle.jade_run.proofs.Given.{itself_expanded, text_expanded}
 use Rattle.jade_run.proofs.answer.expand_text.Goals as goal
@@ -12,5 +15,5 @@ returns-in-Itself c =
 
 pub returns-in-Expanded : goal.returns-in-Expanded
 returns-in-Expanded c =
-    text_expanded c.args.text.now c.text.result.now c.in-Expanded.expanded c.written-in-Expanded.result (rw c.in-Expanded.is at c.in-Ok.ensures.standing)
-    c.text.ensures c.written-in-Expanded.ensures.text c.written-in-Expanded.ensures.status
+    text_expanded c.args.text.now c.into_text.result.items c.in-Expanded.expanded (Ok (record { text = c.into_text.result; status = Good })) (rw c.in-Expanded.is at c.in-Ok.ensures.standing)
+    c.into_text.ensures refl refl
