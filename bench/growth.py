@@ -9,7 +9,7 @@ def timed(words, data):
         begun = time.monotonic()
         ran = subprocess.run([program, *words], input=data.encode(), stdout=subprocess.PIPE)
         spent.append(time.monotonic() - begun)
-        assert ran.returncode == 0, ran.stdout[:80]
+        assert ran.returncode <= 1, ran.stdout[:80]
     return min(spent)
 
 def serial(text):
@@ -45,11 +45,12 @@ def names(form, count):
 base = serial(falling(0, 0))
 few, many = (serial(falling(count, 100)) - base for count in (1024, 4096))
 print("falling: 1,024 objects %.4f s, 4,096 objects %.4f s, ratio %.2f" % (few, many, many / few))
-few, many = (serial(sections(rights, 10000)) - serial(sections(rights, 0)) for rights in (4, 4096))
+few, many = (serial(sections(rights, 1000)) - serial(sections(rights, 0)) for rights in (4, 4096))
 print("sections: 4 rights %.4f s, 4,096 rights %.4f s, ratio %.2f" % (few, many, many / few))
 text = items(60000)
-print("items: check %.3f s, serial %.3f s, %d bytes" % (timed(("check",), text), serial(text), len(text)))
-none, many = (serial(locals_of(count, 1000)) - serial(locals_of(count, 0)) for count in (0, 60000))
-print("locals: none %.4f s, 60,000 %.4f s, ratio %.2f" % (none, many, many / none))
+print("items: check %.3f s, serial 1 %.3f s, %d bytes" % (timed(("check",), text), timed(("serial", "1"), text), len(text)))
+none, many = ((serial(locals_of(count, tasks)) - serial(locals_of(count, 0))) / tasks * 1e6
+    for count, tasks in ((0, 100000), (60000, 1000)))
+print("locals: a task with none %.2f us, with 60,000 %.1f us, %.2f ns a local" % (none, many, (many - none) / 60))
 apart, alike = (timed(("check",), names(form, 50000)) for form in ("n%05daaaaaaa", "aaaaaaaa%05d"))
 print("names: apart %.3f s, with 8 letters in common %.3f s, ratio %.2f" % (apart, alike, alike / apart))
