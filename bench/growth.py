@@ -42,6 +42,12 @@ def names(form, count):
     assert len(text) <= 1048576, len(text)
     return text
 
+def indexes(count):
+    """One loop with so many stores, each to a member of another index."""
+    text = "objects o[16]:1;main{for i in 0..1{" + "".join("o[i+%d][0]=0;" % i for i in range(count)) + "}}"
+    assert len(text) <= 1048576, len(text)
+    return text
+
 base = serial(falling(0, 0))
 few, many = (serial(falling(count, 100)) - base for count in (1024, 4096))
 print("falling: 1,024 objects %.4f s, 4,096 objects %.4f s, ratio %.2f" % (few, many, many / few))
@@ -54,3 +60,5 @@ none, many = ((serial(locals_of(count, tasks)) - serial(locals_of(count, 0))) / 
 print("locals: a task with none %.2f us, with 60,000 %.1f us, %.2f ns a local" % (none, many, (many - none) / 60))
 apart, alike = (timed(("check",), names(form, 50000)) for form in ("n%05daaaaaaa", "aaaaaaaa%05d"))
 print("names: apart %.3f s, with 8 letters in common %.3f s, ratio %.2f" % (apart, alike, alike / apart))
+few, many = (timed(("serial", "1"), indexes(count)) for count in (10000, 40000))
+print("indexes: 10,000 in one loop %.3f s, 40,000 %.3f s, ratio %.2f" % (few, many, many / few))
