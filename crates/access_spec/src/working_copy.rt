@@ -150,7 +150,9 @@ mod tests {
         );
         assert_eq!(rt; copy.next_change(ObjectId(4)), Some((ObjectId(5), NOW)));
         assert_eq!(rt; copy.spec().rights(ObjectId(5)), LATER);
+        assert!(rt; copy.spec().is_drafted());
         let spec = copy.commit();
+        assert!(rt; !spec.is_drafted());
         assert_eq!(rt; spec.len(), 1);
         assert_eq!(rt; spec.rights(ObjectId(5)), NOW);
         Ok(())

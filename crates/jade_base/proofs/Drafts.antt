@@ -103,3 +103,14 @@ pub is-settled : (xs : List Entry) (es : List (ObjectId × Rights)) → specific
 is-settled xs es h =
     let entries = ap (λ s. s.entries) h in
     ap (λ s. s.draft) h ∙ (ap (λ t. map (λ e. e.1) t) (sym entries) ∙ rights-shown xs)
+
+-- a draft that says the same is kept with no change
+kept_all : (es : List (ObjectId × Rights)) → IsAscending es → kept es (map (λ e. e.1) es) ≡ es
+kept_all [] h = refl
+kept_all (e ∷ es) h = rw h.0 (ap (λ t. e ∷ t) (kept_all es h.2))
+
+pub kept-settled : (xs : List Entry) → IsAscending (shown_all xs) → IsSettled xs
+    → specification xs ≡ settled (kept (shown_all xs) (map (λ e. e.draft) xs))
+kept-settled xs up h =
+    let same = ap (λ ds. kept (shown_all xs) ds) (h ∙ sym (rights-shown xs)) in
+    settled-is xs h ∙ ap settled (sym (same ∙ kept_all (shown_all xs) up))

@@ -1,18 +1,19 @@
 -- Where an object stands among the entries of a specification, and what becomes of them when rights are declared.
 use Rattle.std.proofs.Common.{◌≡◌, ◌≢◌, ℕ, zero, suc, ◌+◌, ◌<◌, ◌≤◌, true, false, cond, ◌||◌, eqb, ltb, List, [], ◌∷◌, ◌++◌, length, get_or, set, take, drop}
-use Rattle.std.proofs.Common.{map, Some, None, Result, Ok, Err, MatchResult, refl, sym, ap, subst, ◌∙◌, arith}
+use Rattle.std.proofs.Common.{map, Option, Some, None, Result, Ok, Err, MatchOption, MatchResult, refl, sym, ap, subst, ◌∙◌, arith}
 use Rattle.std.specs.Result.{result_ok}
-use Rattle.std.specs.List.{insert, position_from}
+use Rattle.std.specs.List.{All, insert, position_from}
 use Rattle.std.specs.List.Sorted.{IsPartitionPoint, IsPartitionedBy}
-use Rattle.std.proofs.lemmas.Bool.{ltb-true, ltb-false, lt-ltb, eq-eqb, ne_eqb, eqb-true, eqb-false}
+use Rattle.std.proofs.lemmas.Bool.{ltb-true, ltb-false, le-ltb, lt-ltb, eq-eqb, ne_eqb, eqb-true, eqb-false}
 use Rattle.std.proofs.lemmas.List.{drop-map, get_or_default, map-append, map-set, take-append-drop, take-map}
+use Rattle.std.proofs.lemmas.List.Elements.{All-append}
 use Rattle.jade_base.specs.declared.place.ObjectId.{ObjectId}
 use Rattle.jade_base.specs.declared.rights.Right.{Right}
 use Rattle.jade_base.specs.declared.rights.Right.TheVariants.{Absent, Deferred, Immediate}
 use Rattle.jade_base.specs.declared.rights.Rights.{Rights}
 use Rattle.jade_base.specs.declared.spec.Entry.{Entry}
 use Rattle.jade_base.specs.Rights.{no_rights, has_rights, is_there, join, joined}
-use Rattle.jade_base.specs.Specification.{AllAbove, IsAscending, IsAbsent, IsSettled, IsThere, is_of, joined_in, place_in, rights_in}
+use Rattle.jade_base.specs.Specification.{AllAbove, IsAscending, IsAbsent, IsAt, IsMissing, IsSettled, IsThere, is_of, joined_in, place_in, rights_in}
 use Rattle.jade_base.specs.Specification.{shown, shown_all, with_first}
 
 AllAbove-weaker : (m n : ℕ) (es : List (ObjectId × Rights)) → m < n → AllAbove n es → AllAbove m es
@@ -99,11 +100,39 @@ pub position-of_absent : (xs : List Entry) (o : ObjectId) (place : ℕ) → IsAs
 position-of_absent xs o place up h =
     position-absent xs o 0 up (λ d k. subst (λ p. p < length xs → (get_or xs p d).object.0 ≢ o.0) h.0 (h.2 d) k)
 
+-- the object's entry stands where those with lesser numbers end
+place_in-at : (xs : List Entry) (o : ObjectId) (k : ℕ) (d : Entry) → IsAscending (shown_all xs) → k < length xs → (get_or xs k d).object.0 ≡ o.0
+    → k ≡ place_in xs o
+place_in-at [] o k d up h same = absurd (omega (arith, h))
+place_in-at (e ∷ es) o zero d up h same = rw (le-ltb e.object.0 o.0 (omega (arith, same))) refl
+place_in-at (e ∷ es) o (suc k) d up h same =
+    let above = above-at e.object.0 es k d up.1 (omega (arith, h)) in
+    rw (lt-ltb e.object.0 o.0 (omega (arith, above, same))) (ap suc (place_in-at es o k d up.2 (omega (arith, h)) same))
+
+pub there_from : (xs : List Entry) (o : ObjectId) (place : ℕ) → IsAscending (shown_all xs) → IsAt xs o place → IsThere xs o place
+there_from [] o place up h = absurd (omega (arith, h.0))
+there_from (e ∷ es) o place up h = (place_in-at (e ∷ es) o place e up h.0 (h.1 e), h.0, h.1)
+
 -- the answer of a search, as the first entry that is the object's
-pub found_as : (xs : List Entry) (o : ObjectId) (r : Result ℕ ℕ) → IsAscending (shown_all xs) → MatchResult r (IsThere xs o) (IsAbsent xs o)
-    → result_ok r ≡ position_from (is_of o) 0 (shown_all xs)
-found_as xs o (Ok place) up h = sym (position-of_there xs o place h)
-found_as xs o (Err place) up h = sym (position-of_absent xs o place up h)
+pub found_at : (xs : List Entry) (o : ObjectId) (r : Option ℕ) → IsAscending (shown_all xs) → MatchOption r (IsMissing xs o) (IsAt xs o)
+    → r ≡ position_from (is_of o) 0 (shown_all xs)
+found_at xs o (Some place) up h = sym (position-of_there xs o place (there_from xs o place up h))
+found_at xs o None up h = sym h
+
+-- the answer of a search by halves, without the place where the object would be
+pub found_by_halves : (xs : List Entry) (o : ObjectId) (r : Result ℕ ℕ) → IsAscending (shown_all xs) → MatchResult r (IsThere xs o) (IsAbsent xs o)
+    → MatchOption (result_ok r) (IsMissing xs o) (IsAt xs o)
+found_by_halves xs o (Ok place) up h = (h.1, h.2)
+found_by_halves xs o (Err place) up h = position-of_absent xs o place up h
+
+-- a search through one run of entries, and through the one after it
+missing_from : (xs : List Entry) (o : ObjectId) (n : ℕ) → All (λ e. e.object.0 ≢ o.0) xs → position_from (is_of o) n (shown_all xs) ≡ None
+missing_from [] o n h = refl
+missing_from (e ∷ es) o n h =
+    rw (ne_eqb e.object.0 o.0 (h 0 e (omega arith))) (missing_from es o (n + 1) (λ k d lt. h (suc k) d (omega (arith, lt))))
+
+pub missing_in_runs : (xs ys : List Entry) (o : ObjectId) → All (λ e. e.object.0 ≢ o.0) xs → All (λ e. e.object.0 ≢ o.0) ys → IsMissing (xs ++ ys) o
+missing_in_runs xs ys o h g = missing_from (xs ++ ys) o 0 (All-append (λ e. e.object.0 ≢ o.0) xs ys h g)
 
 -- what it tells of the rights
 rights-at : (xs : List Entry) (o : ObjectId) (d : Entry) → IsAscending (shown_all xs) → place_in xs o < length xs
@@ -124,17 +153,13 @@ rights-of_there xs o place x up h q =
     let there = rights-at xs o x up (subst (λ p. p < length xs) h.0 h.1) same in
     ap (λ e. e.rights) q ∙ (ap (λ p. (get_or xs p x).rights) h.0 ∙ sym there)
 
-rights-without : (es : List (ObjectId × Rights)) (o : ObjectId) (n : ℕ) → position_from (is_of o) n es ≡ None → rights_in es o ≡ no_rights
+pub rights-without : (es : List (ObjectId × Rights)) (o : ObjectId) (n : ℕ) → position_from (is_of o) n es ≡ None → rights_in es o ≡ no_rights
 rights-without [] o n h = refl
 rights-without (e ∷ es) o n h =
     elim (eqb e.0.0 o.0) as (λ b. cond b (Some n) (position_from (is_of o) (n + 1) es) ≡ None → cond b e.1 (rights_in es o) ≡ no_rights) [
       | true ↦ λ q. absurd (cc)
       | false ↦ λ q. rights-without es o (n + 1) q
     ] h
-
-pub rights-of_absent : (xs : List Entry) (o : ObjectId) (place : ℕ) → IsAscending (shown_all xs) → IsAbsent xs o place
-    → rights_in (shown_all xs) o ≡ no_rights
-rights-of_absent xs o place up h = rights-without (shown_all xs) o 0 (position-of_absent xs o place up h)
 
 -- rights on an object that is there are joined at its place
 pub joined-there : (xs : List Entry) (o : ObjectId) (r : Rights) (x : Entry) → place_in xs o < length xs → x ≡ get_or xs (place_in xs o) x → x.object.0 ≡ o.0

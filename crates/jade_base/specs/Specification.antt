@@ -1,5 +1,6 @@
 -- What a task may do with which objects, and a draft of it.
-use Rattle.std.specs.Prelude.{◌≡◌, ◌≢◌, ℕ, suc, ◌<◌, ◌≤◌, ◌==◌, nat_lt, Bool, false, List, [], ◌∷◌, length, map, IsTrue, if◌then◌else◌, slice_index_or}
+use Rattle.std.specs.Prelude.{◌≡◌, ◌≢◌, ℕ, suc, ◌<◌, ◌≤◌, ◌==◌, nat_lt, Bool, false, List, [], ◌∷◌, length, map, IsTrue, if◌then◌else◌, slice_index_or, None}
+use Rattle.std.specs.List.{position_from}
 use Rattle.jade_base.specs.declared.place.ObjectId.{ObjectId}
 use Rattle.jade_base.specs.declared.rights.Rights.{Rights}
 use Rattle.jade_base.specs.declared.spec.Entry.{Entry}
@@ -70,6 +71,14 @@ IsSettled xs = map (λ e. e.draft) xs ≡ map (λ e. e.rights) xs
 abbrev pub place_in : List Entry → ObjectId → ℕ
 place_in [] o = 0
 place_in (e ∷ es) o = if nat_lt e.object.0 o.0 then suc (place_in es o) else 0
+
+-- the entry at this place is the object's
+abbrev pub IsAt : List Entry → ObjectId → ℕ → Type 0
+IsAt xs o place = (place < length xs) × ((d : Entry) → (slice_index_or xs place d).object.0 ≡ o.0)
+
+-- the object has no entry
+abbrev pub IsMissing : List Entry → ObjectId → Type 0
+IsMissing xs o = position_from (is_of o) 0 (shown_all xs) ≡ None
 
 -- the object has its entry at this place
 abbrev pub IsThere : List Entry → ObjectId → ℕ → Type 0

@@ -1,17 +1,22 @@
-ghost use Rattle.std.specs.Prelude.{◌≡◌, ◌≢◌, ◌<◌, [], length, map, filter, false, IfOk, OnOk, OnErr, MatchResult, Some, slice_get, slice_set};
-ghost use Rattle.std.specs.List.{position_from};
+ghost use Rattle.std.specs.Prelude.{◌≡◌, ◌≢◌, ◌<◌, [], length, map, filter, true, false, IfOk, OnOk, OnErr, MatchOption, MatchResult, Some, slice_get, slice_set};
+ghost use Rattle.std.specs.List.{All, position_from};
 ghost use Rattle.jade_base.specs.Rights.{no_rights, has_rights, join};
-ghost use Rattle.jade_base.specs.Specification.{IsAscending, joined_in, kept, IsAbsent, IsSettled, IsThere, IsUncommuting, is_of, rights_in, settled, shown_all, specification};
+ghost use Rattle.jade_base.specs.Specification.{IsAscending, joined_in, kept, IsAbsent, IsAt, IsMissing, IsSettled, IsThere, IsUncommuting, is_of, rights_in, settled, shown_all, specification};
 
 use crate::{Memory, ObjectId, Rights};
 use std::alloc::Global;
+use std::collections::VecDeque;
 use std::marker::Model;
+
+// Among so few entries one is found sooner by a look at one after another than by halves.
+const FEW: usize = 8;
 
 /// What a task may do with which objects, by ascending number of the object, and beside it a draft
 /// of other rights on the same objects. Contracts see both as lists.
 #[derive(Debug, Drop)]
 pub struct Spec {
-    entries: Vec<Entry>,
+    // They grow at either end without a move of the others.
+    entries: VecDeque<Entry>,
     // Whether the draft may differ from the rights: where it can't, nothing is to be done to drop it.
     drafted: bool,
     // Whether some right to commute may be there: where none can be, none is to be looked for.
@@ -44,7 +49,7 @@ impl Spec {
         ensures { result ≡ settled [] }
     {
         Spec {
-            entries: Vec::new(alloc),
+            entries: VecDeque::new(alloc),
             drafted: false,
             commuting: false,
         }
@@ -75,9 +80,9 @@ impl Spec {
     pub fn rights(&self, object: ObjectId) -> Rights
         ensures { result ≡ rights_in self.now.entries object }
     {
-        match place_of(&self.entries, object) {
-            Ok(place) => self.entries[place].rights,
-            Err(_) => Rights::NONE,
+        match found_place(&self.entries, object) {
+            Some(place) => self.entries[place].rights,
+            None => Rights::NONE,
         }
     }
 
@@ -86,7 +91,7 @@ impl Spec {
         ensures place { result ≡ position_from (is_of object) 0 self.now.entries }
         ensures drafted { length self.now.draft ≡ length self.now.entries }
     {
-        place_of(&self.entries, object).ok()
+        found_place(&self.entries, object)
     }
 
     /// The number of objects with rights.
@@ -103,6 +108,14 @@ impl Spec {
         ensures { result ≡ false → IsUncommuting self.now }
     {
         self.commuting
+    }
+
+    /// Whether the draft may differ from the rights; where this is not so, it does not. It takes no
+    /// memory.
+    pub fn is_drafted(&self) -> bool
+        ensures { result ≡ false → self.now ≡ settled self.now.entries }
+    {
+        self.drafted
     }
 
     /// The object at a place, counted from 0 by ascending number, with its rights.
@@ -136,7 +149,7 @@ impl Spec {
     pub fn keep_draft(&mut self)
         ensures { self.new ≡ settled (kept self.old.entries self.old.draft) }
     {
-        keep_drafts(&mut self.entries);
+        keep(&mut self.entries, self.drafted);
         self.drafted = false;
     }
 
@@ -152,20 +165,75 @@ impl Spec {
     pub fn copy(&self, alloc: Global) -> Result<Spec, Memory>
         ensures { IfOk result (λ copy. copy ≡ self.now) }
     {
-        let entries = Vec::from_slice(alloc, self.entries.as_slice())?;
+        let (head, wrapped) = self.entries.as_slices();
+        let mut entries = Vec::with_capacity(alloc, self.entries.len())?;
+        entries.extend_from_slice(head)?;
+        entries.extend_from_slice(wrapped)?;
         Ok(Spec {
-            entries,
+            entries: VecDeque::from_vec(entries),
             drafted: self.drafted,
             commuting: self.commuting,
         })
     }
 }
 
+// The place of an object's entry, if it has one. Where a task has rights on all objects, it is the
+// object's number.
+fn found_place(entries: &VecDeque<Entry>, object: ObjectId) -> Option<usize>
+    requires { IsAscending (shown_all entries.now.items) }
+    ensures { MatchOption result (IsMissing entries.now.items object) (IsAt entries.now.items object) }
+{
+    let number = object.0 as usize;
+    if is_at(entries, number, object) {
+        return Some(number);
+    }
+    if entries.len() <= FEW {
+        return place_among_few(entries, object);
+    }
+    place_of(entries, object).ok()
+}
+
+// Whether the entry at a place is that of an object.
+fn is_at(entries: &VecDeque<Entry>, place: usize, object: ObjectId) -> bool
+    ensures { result ≡ true → IsAt entries.now.items object place }
+{
+    match entries.get(place) {
+        Some(entry) => entry.object.0 == object.0,
+        None => false,
+    }
+}
+
+// The place of an object's entry, if it has one, found by a look at one after another.
+fn place_among_few(entries: &VecDeque<Entry>, object: ObjectId) -> Option<usize>
+    ensures { MatchOption result (IsMissing entries.now.items object) (IsAt entries.now.items object) }
+{
+    let (head, wrapped) = entries.as_slices();
+    match place_in_run(head, object) {
+        Some(place) => Some(place),
+        None => match place_in_run(wrapped, object) {
+            Some(place) => Some(head.len() + place),
+            None => None,
+        },
+    }
+}
+
+// The same among entries that lie in one run.
+fn place_in_run(run: &[Entry], object: ObjectId) -> Option<usize>
+    ensures { MatchOption result (All (λ e. e.object.0 ≢ object.0) run.now) (IsAt run.now object) }
+{
+    for place in 0..run.len() {
+        if run[place].object.0 == object.0 {
+            return Some(place);
+        }
+    }
+    None
+}
+
 // The place of an object among the entries, found by halves; the error is the place where it would
 // be.
-fn place_of(entries: &[Entry], object: ObjectId) -> Result<usize, usize>
-    requires { IsAscending (shown_all entries.now) }
-    ensures { MatchResult result (IsThere entries.now object) (IsAbsent entries.now object) }
+fn place_of(entries: &VecDeque<Entry>, object: ObjectId) -> Result<usize, usize>
+    requires { IsAscending (shown_all entries.now.items) }
+    ensures { MatchResult result (IsThere entries.now.items object) (IsAbsent entries.now.items object) }
 {
     let place = entries.partition_point(|entry| entry.object.0 < object.0);
     if place < entries.len() && entries[place].object.0 == object.0 {
@@ -177,7 +245,11 @@ fn place_of(entries: &[Entry], object: ObjectId) -> Result<usize, usize>
 
 // Joins rights to those of an object, which gets an entry where it has none. Its draft is then its
 // rights, and the other drafts stand as they were.
-fn declare_among(entries: &mut Vec<Entry>, object: ObjectId, rights: Rights) -> Result<(), Memory>
+fn declare_among(
+    entries: &mut VecDeque<Entry>,
+    object: ObjectId,
+    rights: Rights,
+) -> Result<(), Memory>
     requires { IsAscending (shown_all entries.old.items) }
     ensures joined { MatchResult result
         (λ _. shown_all entries.new.items ≡ joined_in (shown_all entries.old.items) object rights)
@@ -210,7 +282,7 @@ fn settled_entry(object: ObjectId, rights: Rights) -> Entry
 }
 
 // Makes each draft equal to the rights, where it may differ from them.
-fn settle(entries: &mut Vec<Entry>, drafted: bool)
+fn settle(entries: &mut VecDeque<Entry>, drafted: bool)
     requires { drafted ≡ false → IsSettled entries.old.items }
     ensures { specification entries.new.items ≡ settled (shown_all entries.old.items) }
 {
@@ -220,7 +292,7 @@ fn settle(entries: &mut Vec<Entry>, drafted: bool)
 }
 
 // Makes each draft equal to the rights.
-fn drop_drafts(entries: &mut Vec<Entry>)
+fn drop_drafts(entries: &mut VecDeque<Entry>)
     ensures { specification entries.new.items ≡ settled (shown_all entries.old.items) }
 {
     for i in 0..entries.len() {
@@ -232,8 +304,20 @@ fn drop_drafts(entries: &mut Vec<Entry>)
     }
 }
 
+// Makes the drafts the rights, where they may differ from them, and takes out the entries that have
+// none then.
+fn keep(entries: &mut VecDeque<Entry>, drafted: bool)
+    requires settled { drafted ≡ false → IsSettled entries.old.items }
+    requires ascending { IsAscending (shown_all entries.old.items) }
+    ensures { specification entries.new.items ≡ settled (kept (shown_all entries.old.items) (map (λ e. e.draft) entries.old.items)) }
+{
+    if drafted {
+        keep_drafts(entries);
+    }
+}
+
 // Makes the drafts the rights, and takes out the entries that have none then.
-fn keep_drafts(entries: &mut Vec<Entry>)
+fn keep_drafts(entries: &mut VecDeque<Entry>)
     ensures { specification entries.new.items ≡ settled (kept (shown_all entries.old.items) (map (λ e. e.draft) entries.old.items)) }
 {
     for i in 0..entries.len() {

@@ -104,4 +104,35 @@ mod tests {
         assert_eq!(rt; uncovered(&parent, &child), Some(ObjectId(5)));
         Ok(())
     }
+
+    #[test]
+    fn finds_objects_declared_in_falling_order(rt: HostRuntime) -> Result<(), Fail> {
+        let mut parent = Spec::empty(rt.alloc());
+        for number in 0..20 {
+            parent.declare(rt.alloc(), ObjectId(60 - 3 * number), READS)?;
+        }
+        parent.declare(rt.alloc(), ObjectId(61), COMMUTES)?;
+        assert_eq!(rt; parent.len(), 21);
+        assert_eq!(rt; parent.place_of(ObjectId(3)), Some(0));
+        assert_eq!(rt; parent.place_of(ObjectId(30)), Some(9));
+        assert_eq!(rt; parent.place_of(ObjectId(31)), None);
+        assert_eq!(rt; parent.rights(ObjectId(60)), READS);
+        assert_eq!(rt; parent.rights(ObjectId(61)), COMMUTES);
+        let copy = parent.copy(rt.alloc())?;
+        assert_eq!(rt; copy.place_of(ObjectId(61)), Some(20));
+        assert_eq!(rt; uncovered(&parent, &copy), Some(ObjectId(61)));
+        Ok(())
+    }
+
+    #[test]
+    fn finds_objects_among_few(rt: HostRuntime) -> Result<(), Fail> {
+        let mut parent = Spec::empty(rt.alloc());
+        for object in [1, 7, 0, 4] {
+            parent.declare(rt.alloc(), ObjectId(object), READS)?;
+        }
+        assert_eq!(rt; parent.place_of(ObjectId(0)), Some(0));
+        assert_eq!(rt; parent.place_of(ObjectId(7)), Some(3));
+        assert_eq!(rt; parent.place_of(ObjectId(3)), None);
+        Ok(())
+    }
 }

@@ -4,9 +4,8 @@ use Rattle.jade_base.proofs.spec.declare_among.Goals as goal
 
 pub returns-in-Ok-clause-joined : goal.returns-in-Ok-clause-joined
 returns-in-Ok-clause-joined c =
-    let there = rw c.deref.ensures.value at c.in-Ok.ensures in
     let entry = c.settled_entry.ensures in
-    joined-at c.args.entries.now.items c.args.object c.args.rights c.in-Ok.place c.index.result.now c.settled_entry.result there c.index.ensures
+    joined-at c.args.entries.now.items c.args.object c.args.rights c.in-Ok.place c.index.result.now c.settled_entry.result c.in-Ok.ensures c.index.ensures
     (ap (λ e. e.object.0) entry) (ap (λ e. e.rights) entry ∙ c.join-rights.ensures)
 
 pub returns-in-Ok-clause-settled : goal.returns-in-Ok-clause-settled
@@ -15,9 +14,8 @@ returns-in-Ok-clause-settled c =
 
 pub returns-in_ok-insert-in-Err-clause-joined : goal.returns-in_ok-insert-in-Err-clause-joined
 returns-in_ok-insert-in-Err-clause-joined c =
-    let absent = rw c.deref.ensures.value at c.in-Err.ensures in
     let entry = c.settled_entry-then-any.ensures in
-    rw c.in_ok-insert-in-Err.ensures.items (joined-new c.args.entries.now.items c.args.object c.args.rights c.in-Err.place _ absent (sym c.any.ensures
+    rw c.in_ok-insert-in-Err.ensures.items (joined-new c.args.entries.now.items c.args.object c.args.rights c.in-Err.place _ c.in-Err.ensures (sym c.any.ensures
     ∙ c.if-any.true) (ap (λ e. e.object) entry) (ap (λ e. e.rights) entry))
 
 pub returns-in_ok-insert-in-Err-clause-settled : goal.returns-in_ok-insert-in-Err-clause-settled
@@ -26,5 +24,4 @@ returns-in_ok-insert-in-Err-clause-settled c =
 
 pub returns-else-any-clause-joined : goal.returns-else-any-clause-joined
 returns-else-any-clause-joined c =
-    let absent = rw c.deref.ensures.value at c.in-Err.ensures in
-    sym (joined-none c.args.entries.now.items c.args.object c.args.rights c.in-Err.place absent (sym c.any.ensures ∙ c.if-any.false))
+    sym (joined-none c.args.entries.now.items c.args.object c.args.rights c.in-Err.place c.in-Err.ensures (sym c.any.ensures ∙ c.if-any.false))

@@ -8,7 +8,7 @@ pub invariant_of-self : goal.invariant_of-self
 invariant_of-self c =
     let xs = c.self.inside.entries.items in
     let drafts = map (λ e. e.draft) xs in (
-      subst (λ es. IsAscending es) (sym (ap (λ s. s.entries) c.keep_drafts.ensures)) (IsAscending-kept (shown_all xs) drafts c.self.invariant.0),
-      λ q. is-settled c.keep_drafts.new.entries.items (kept (shown_all xs) drafts) c.keep_drafts.ensures,
-      λ q. subst IsUncommuting (sym c.keep_drafts.ensures) (kept_plain (shown_all xs) drafts (c.self.invariant.2 q).drafts),
+      subst (λ es. IsAscending es) (sym (ap (λ s. s.entries) c.keep.ensures)) (IsAscending-kept (shown_all xs) drafts c.self.invariant.0),
+      λ q. is-settled c.keep.new.entries.items (kept (shown_all xs) drafts) c.keep.ensures,
+      λ q. subst IsUncommuting (sym c.keep.ensures) (kept_plain (shown_all xs) drafts (c.self.invariant.2 q).drafts),
     )
