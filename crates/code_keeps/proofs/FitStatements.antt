@@ -1,6 +1,6 @@
 -- The code of the statements of a program without static faults, and the bodies that they create.
 use Rattle.std.proofs.Common.{◌≡◌, ℕ, zero, suc, ◌+◌, ◌≤◌, List, [], ◌∷◌, ◌++◌, length, map, Option, Some, None, refl, subst, arith}
-use Rattle.std.specs.Prelude.{slice_get, false}
+use Rattle.std.specs.Prelude.{slice_get}
 use Rattle.std.proofs.lemmas.Bool.{eq-eqb}
 use Rattle.std.proofs.lemmas.Option.{none-some, same_Some}
 use Rattle.jade_syntax.specs.declared.tree.Item.{Item}
@@ -13,12 +13,11 @@ use Rattle.jade_syntax.specs.Erased.{erased, erased_object, erased_mention, eras
 use Rattle.jade_syntax.specs.StaticFaults.{Names, known, Holds, Turns, kind_of_name, found, Needs, needed, given, term_sites, object_sites, names_after}
 use Rattle.jade_syntax.specs.StaticFaults.{parameters as handed, mention_sites, sites, block_sites}
 use Rattle.code_meaning.specs.declared.code.Operand.{Operand}
-use Rattle.code_meaning.specs.declared.code.Operand.TheVariants as operand
 use Rattle.code_meaning.specs.declared.code.Instruction.{Instruction}
 use Rattle.code_meaning.specs.declared.code.Instruction.TheVariants as i
 use Rattle.code_meaning.specs.Meaning.{Body}
 use Rattle.task_translation.specs.Keys.{Kept}
-use Rattle.task_translation.specs.Compile.{candidates, inside, is_steady, kept_from, looping, either_code}
+use Rattle.task_translation.specs.Compile.{candidates, inside, is_steady, kept_from, looping, loop_code}
 use Rattle.task_translation.specs.Compile.{Scope, entry, slot_of, code_of, code_at, code_of_place, call_of, inputs_in, parameters, scope_after, next_after}
 use Rattle.task_translation.specs.Compile.{bodies_in, bodies_in_all, code_for, code_for_all, body_for, bodies_for, bodies_for_all}
 use Rattle.task_translation.proofs.Statements.{bodies_many, bodies_many_all}
@@ -79,19 +78,19 @@ knows_after items (With at section) names k = k
 knows_after items (Declare how at o) names k = k
 
 -- a loop
+loop_fits : {sizes : List ℕ} {lo hi : ℕ} (n : ℕ) (body : List Instruction) → AllFit sizes lo hi body → AllFit sizes lo hi (loop_code n body)
+loop_fits n body f = before_fit _ _ (record { objects = refl; creates = tt }) (both_fit body _ f (one_fits _ refl tt))
+
 looping_fits : {sizes : List ℕ} {lo hi : ℕ} (n : ℕ) (es : List Expression) (plain keep fast : List Instruction) → AllFit sizes lo hi plain
     → AllFit sizes lo hi keep → AllFit sizes lo hi fast → AllFit sizes lo hi (looping n es plain keep fast)
-looping_fits n [] plain keep fast f g h = before_fit _ _ (record { objects = refl; creates = tt }) (both_fit plain _ f (one_fits _ refl tt))
+looping_fits n [] plain keep fast f g h = loop_fits n plain f
 looping_fits n (e ∷ es) plain keep fast f g h =
-    let one : List Instruction = plain ++ (i.Set (n + 3) (operand.Truth false) ∷ keep) in
-    let two : List Instruction = either_code (operand.Slot (n + 3)) one fast in
+    let first = plain ++ keep in
+    let led = i.Jump (length first + 2) ∷ first in
     before_fit _ _ (record { objects = refl; creates = tt })
     (before_fit _ _ (record { objects = refl; creates = tt })
-    (both_fit two _
-    (before_fit _ _ (record { objects = refl; creates = tt })
-    (both_fit one _ (both_fit plain _ f (before_fit _ _ (record { objects = refl; creates = tt }) g))
-    (before_fit _ _ (record { objects = refl; creates = tt }) h)))
-    (one_fits _ refl tt)))
+    (both_fit (loop_code n led) (loop_code n fast)
+    (loop_fits n led (before_fit _ first (record { objects = refl; creates = tt }) (both_fit plain keep f g))) (loop_fits n fast h)))
 
 -- the names of the items, known within every task
 module _ (items : List Item) (base : Names) (all : Knows items base) where
@@ -128,9 +127,9 @@ module _ (items : List Item) (base : Names) (all : Knows items base) where
         (phrases_fit body lo hi (known x Turns ∷ names) (knows_more items x Turns names (λ o. o) k) g.1 ks (entry x (n + 2) ∷ scope)
         (inside (entry x (n + 2) ∷ scope) n (erased_phrases body)) b low high)
         (keeping_fits items lo hi names k (candidates (entry x (n + 2) ∷ scope) n (erased_phrases body)) (is_steady (entry x (n + 2) ∷ scope) n (erased_phrases body)) ks
-        (entry x (n + 2) ∷ scope) (n + 4))
+        (entry x (n + 2) ∷ scope) (n + 3))
         (phrases_fit body lo hi (known x Turns ∷ names) (knows_more items x Turns names (λ o. o) k) g.1
-        (kept_from (is_steady (entry x (n + 2) ∷ scope) n (erased_phrases body)) (entry x (n + 2) ∷ scope) (n + 4) (candidates (entry x (n + 2) ∷ scope) n (erased_phrases body))) (entry x (n + 2) ∷ scope) (inside (entry x (n + 2) ∷ scope) n (erased_phrases body)) b low high)))
+        (kept_from (is_steady (entry x (n + 2) ∷ scope) n (erased_phrases body)) (entry x (n + 2) ∷ scope) (n + 3) (candidates (entry x (n + 2) ∷ scope) n (erased_phrases body))) (entry x (n + 2) ∷ scope) (inside (entry x (n + 2) ∷ scope) n (erased_phrases body)) b low high)))
     phrase_fits (Withonly at section params body) lo hi names k f ks scope n b low high =
         let inner = handed names [] params ++ base in
         let g = split (block_sites base names section ++ mention_sites names [] params) (block_sites base inner body) f in

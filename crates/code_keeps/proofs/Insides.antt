@@ -1,11 +1,12 @@
 -- Instructions that go only to places among them, or directly behind them.
 use Rattle.std.proofs.Common.{◌≡◌, ℕ, zero, suc, ◌+◌, ◌-◌, ◌<◌, ◌≤◌, ◌⊎◌, inl, inr, List, [], ◌∷◌, ◌++◌, length, true, ◌&&◌, Some, refl}
-use Rattle.std.proofs.Common.{sym, ap, ap₂, ◌∙◌, subst, arith, length-append}
+use Rattle.std.proofs.Common.{sym, ap, ap₂, ◌∙◌, subst, arith, length-append, append_assoc}
 use Rattle.std.specs.Prelude.{slice_get, nat_lt}
 use Rattle.std.proofs.lemmas.Bool.{lt-ltb, eq-eqb, cases_lt}
 use Rattle.std.proofs.lemmas.Option.{none-some, same_Some, slice_get_within}
 use Rattle.code_meaning.specs.declared.code.Instruction.{Instruction}
 use Rattle.code_meaning.specs.declared.code.Instruction.TheVariants as i
+use Rattle.task_translation.specs.Compile.{loop_code, peeled_code}
 use Rattle.task_code.specs.Rules.{is_turn, places_are_there}
 
 -- an instruction at a place goes to a place among these, or directly behind them; none of them ends the task
@@ -127,35 +128,69 @@ before_inside x a s f = record { each = λ p y h. by_case p y h }
 pub alone_inside : (x : Instruction) → Stays (x ∷ []) 0 x → Inside (x ∷ [])
 alone_inside x s = before_inside x [] s none_inside
 
--- a loop
-pub loop_inside : (n : ℕ) (body : List Instruction) → Inside body → Inside (i.Turn n (length body + 1) ∷ (body ++ (i.Next n (length body) ∷ [])))
-loop_inside n body f = record { each = λ p x h. by_case p x h }
+-- a loop before others, to which an instruction of its body may go
+pub loop_before : (n : ℕ) (body more : List Instruction)
+    → ((k : ℕ) (x : Instruction) → slice_get body k ≡ Some x → Stays (body ++ (i.Next n (length body) ∷ more)) k x) → Inside more
+    → Inside (i.Turn n (length body + 1) ∷ (body ++ (i.Next n (length body) ∷ more)))
+loop_before n body more f g = record { each = λ p x h. by_case p x h }
   where
-    later : (k : ℕ) (x : Instruction) → slice_get (body ++ (i.Next n (length body) ∷ [])) k ≡ Some x → (k < length body) ⊎ (length body ≤ k)
-        → Stays (i.Turn n (length body + 1) ∷ (body ++ (i.Next n (length body) ∷ []))) (suc k) x
-    later k x h (inl lt) =
-        stays_behind (i.Turn n (length body + 1)) (body ++ (i.Next n (length body) ∷ [])) k x
-        (stays_left body (i.Next n (length body) ∷ []) k x lt (f.each k x (sym (at_left body (i.Next n (length body) ∷ []) k lt) ∙ h)))
-    later k x h (inr le) =
-        let within = slice_get_within (body ++ (i.Next n (length body) ∷ [])) k x h in
-        let e : length body + 0 ≡ k = omega (arith, le, within, length-append body (i.Next n (length body) ∷ [])) in
-        let is : i.Next n (length body) ≡ x = same_Some (i.Next n (length body)) x (sym (at_right body (i.Next n (length body) ∷ []) 0)
-        ∙ ap (slice_get (body ++ (i.Next n (length body) ∷ []))) e ∙ h) in
-        let z : suc k - length body - 1 ≡ 0 = omega (arith, e) in
-        let turn : is_turn n (length body + 1) (slice_get (i.Turn n (length body + 1) ∷ (body ++ (i.Next n (length body) ∷ []))) (suc k - length body - 1))
-        ≡ true =
-        ap (λ j. is_turn n (length body + 1) (slice_get (i.Turn n (length body + 1) ∷ (body ++ (i.Next n (length body) ∷ []))) j)) z
+    behind : (j : ℕ) (x : Instruction) → slice_get (i.Next n (length body) ∷ more) j ≡ Some x
+        → Stays (i.Turn n (length body + 1) ∷ (body ++ (i.Next n (length body) ∷ more))) (suc (length body + j)) x
+    behind zero x h =
+        let z : suc (length body + 0) - length body - 1 ≡ 0 = omega arith in
+        let turn : is_turn n (length body + 1) (slice_get (i.Turn n (length body + 1) ∷ (body ++ (i.Next n (length body) ∷ more)))
+        (suc (length body + 0) - length body - 1)) ≡ true =
+        ap (λ j. is_turn n (length body + 1) (slice_get (i.Turn n (length body + 1) ∷ (body ++ (i.Next n (length body) ∷ more))) j)) z
         ∙ ap₂ (λ a b. a && b) (eq-eqb n n refl) (eq-eqb (length body + 1) (length body + 1) refl) in
-        let P : Instruction → Type 0 = Stays (i.Turn n (length body + 1) ∷ (body ++ (i.Next n (length body) ∷ []))) (suc k) in
-        subst P is (omega (arith, e), turn)
+        let P : Instruction → Type 0 = Stays (i.Turn n (length body + 1) ∷ (body ++ (i.Next n (length body) ∷ more))) (suc (length body + 0)) in
+        subst P (same_Some (i.Next n (length body)) x h) (omega arith, turn)
+    behind (suc j) x h =
+        stays_behind (i.Turn n (length body + 1)) (body ++ (i.Next n (length body) ∷ more)) (length body + suc j) x
+        (stays_right body (i.Next n (length body) ∷ more) (suc j) x (stays_behind (i.Next n (length body)) more j x (g.each j x h)))
 
-    by_case : (p : ℕ) (x : Instruction) → slice_get (i.Turn n (length body + 1) ∷ (body ++ (i.Next n (length body) ∷ []))) p ≡ Some x
-        → Stays (i.Turn n (length body + 1) ∷ (body ++ (i.Next n (length body) ∷ []))) p x
+    later : (k : ℕ) (x : Instruction) → slice_get (body ++ (i.Next n (length body) ∷ more)) k ≡ Some x → (k < length body) ⊎ (length body ≤ k)
+        → Stays (i.Turn n (length body + 1) ∷ (body ++ (i.Next n (length body) ∷ more))) (suc k) x
+    later k x h (inl lt) =
+        stays_behind (i.Turn n (length body + 1)) (body ++ (i.Next n (length body) ∷ more)) k x
+        (f k x (sym (at_left body (i.Next n (length body) ∷ more) k lt) ∙ h))
+    later k x h (inr le) =
+        let j = k - length body in
+        let e : length body + j ≡ k = omega (arith, le) in
+        subst (λ p. Stays (i.Turn n (length body + 1) ∷ (body ++ (i.Next n (length body) ∷ more))) (suc p) x) e
+        (behind j x (sym (at_right body (i.Next n (length body) ∷ more) j) ∙ ap (slice_get (body ++ (i.Next n (length body) ∷ more))) e ∙ h))
+
+    by_case : (p : ℕ) (x : Instruction) → slice_get (i.Turn n (length body + 1) ∷ (body ++ (i.Next n (length body) ∷ more))) p ≡ Some x
+        → Stays (i.Turn n (length body + 1) ∷ (body ++ (i.Next n (length body) ∷ more))) p x
     by_case zero x h =
-        let long = length-append body (i.Next n (length body) ∷ []) in
-        let P : Instruction → Type 0 = Stays (i.Turn n (length body + 1) ∷ (body ++ (i.Next n (length body) ∷ []))) 0 in
+        let long = length-append body (i.Next n (length body) ∷ more) in
+        let P : Instruction → Type 0 = Stays (i.Turn n (length body + 1) ∷ (body ++ (i.Next n (length body) ∷ more))) 0 in
         subst P (same_Some (i.Turn n (length body + 1)) x h) (omega (arith, long))
     by_case (suc k) x h = later k x h (cases_lt k (length body))
+
+-- a loop
+pub loop_inside : (n : ℕ) (body : List Instruction) → Inside body → Inside (loop_code n body)
+loop_inside n body f = loop_before n body [] (λ k x h. stays_left body _ k x (slice_get_within body k x h) (f.each k x h)) none_inside
+
+-- a loop with a first turn of its own
+pub peeled_inside : (n : ℕ) (first fast : List Instruction) → Inside first → Inside fast → Inside (peeled_code n first fast)
+peeled_inside n first fast f g =
+    let led = i.Jump (length first + 2) ∷ first in
+    let later = loop_code n fast in
+    let end = i.Next n (length led) in
+    let e : loop_code n led ++ later ≡ i.Turn n (length led + 1) ∷ (led ++ (end ∷ later)) =
+    ap (λ l. i.Turn n (length led + 1) ∷ l) (append_assoc led (end ∷ []) later) in
+    let long = length-append led (end ∷ later) in
+    let all : Inside (loop_code n led ++ later) = subst Inside (sym e) (loop_before n led later (λ k x h. in_led k x h) (loop_inside n fast g)) in
+    let many : length (loop_code n led ++ later) ≡ suc (length led + suc (length later)) = ap length e ∙ ap suc long in
+    before_inside _ (i.Jump 2 ∷ (loop_code n led ++ later)) (omega arith) (before_inside (i.Jump 2) (loop_code n led ++ later) (omega (arith, many)) all)
+  where
+    in_led : (k : ℕ) (x : Instruction) → slice_get (i.Jump (length first + 2) ∷ first) k ≡ Some x
+        → Stays ((i.Jump (length first + 2) ∷ first) ++ (i.Next n (length (i.Jump (length first + 2) ∷ first)) ∷ loop_code n fast)) k x
+    in_led zero x h =
+        let all = (i.Jump (length first + 2) ∷ first) ++ (i.Next n (length (i.Jump (length first + 2) ∷ first)) ∷ loop_code n fast) in
+        let long = length-append first (i.Next n (length (i.Jump (length first + 2) ∷ first)) ∷ loop_code n fast) in
+        subst (Stays all 0) (same_Some (i.Jump (length first + 2)) x h) (omega (arith, long))
+    in_led (suc k) x h = stays_behind _ _ k x (stays_left first _ k x (slice_get_within first k x h) (f.each k x h))
 
 -- ---- a body ends with `Finish`
 

@@ -1,7 +1,7 @@
 -- The code of a program stays among its instructions.
 use Rattle.std.proofs.Common.{◌≡◌, ℕ, zero, suc, ◌+◌, List, [], ◌∷◌, ◌++◌, length, true, Option, Some, None, refl, ap, subst, arith}
 use Rattle.std.proofs.Common.{length-append}
-use Rattle.std.specs.Prelude.{Bool, false, ◌||◌, slice_get, nat_lt, nat_le, nat_eq}
+use Rattle.std.specs.Prelude.{Bool, ◌||◌, slice_get, nat_lt, nat_le, nat_eq}
 use Rattle.std.proofs.lemmas.Bool.{lt-ltb, le-leb, eq-eqb}
 use Rattle.std.proofs.lemmas.Option.{none-some, same_Some}
 use Rattle.jade_base.specs.declared.place.Pos.{Pos}
@@ -11,20 +11,19 @@ use Rattle.jade_syntax.specs.Abstract.{Link, Place, Alone, Member, Action, Local
 use Rattle.jade_syntax.specs.Abstract.{AbstractProgram}
 use Rattle.jade_meaning.specs.declared.resolve.Range.{Range}
 use Rattle.code_meaning.specs.declared.code.Operand.{Operand}
-use Rattle.code_meaning.specs.declared.code.Operand.TheVariants as operand
 use Rattle.code_meaning.specs.declared.code.Instruction.{Instruction}
 use Rattle.code_meaning.specs.declared.code.Instruction.TheVariants as i
 use Rattle.code_meaning.specs.Meaning.{Body}
 use Rattle.task_translation.specs.Room.{room, with_slots, calls_of}
 use Rattle.task_translation.specs.Keys.{Key, Kept, pick}
-use Rattle.task_translation.specs.Compile.{key_of, index_of, index_at, index_operand, keeping, only, candidates, inside, is_steady, kept_from, looping, either_code}
+use Rattle.task_translation.specs.Compile.{key_of, index_of, index_at, index_operand, keeping, only, candidates, inside, is_steady, kept_from, looping}
 use Rattle.task_translation.specs.Compile.{Scope, entry, slot_of, brought, stored, operand_of, unless, range_of, member_read, member_reached}
 use Rattle.task_translation.specs.Compile.{code_of, code_of_links, code_at, code_of_place, store_code, call_of, inputs_in, given_scope, parameters, scope_after}
 use Rattle.task_translation.specs.Compile.{next_after, bodies_in, bodies_in_all, code_for, code_for_all, body_for, bodies_for, bodies_for_all, unsized}
 use Rattle.task_code.specs.Rules.{begins, places_are_there}
 use Rattle.code_keeps.specs.Keeps.{whole_code, KeepsPlaces, KeepsBeginnings}
 use Rattle.code_keeps.proofs.Rooms.{from_map, and_true, room_least}
-use Rattle.code_keeps.proofs.Insides.{Inside, none_inside, both_inside, before_inside, alone_inside, loop_inside, ends_well}
+use Rattle.code_keeps.proofs.Insides.{Inside, none_inside, both_inside, before_inside, alone_inside, loop_inside, peeled_inside, ends_well}
 
 brought_inside : (t : ℕ) (o : Option Operand) → Inside (brought t o)
 brought_inside t None = none_inside
@@ -126,13 +125,7 @@ module _ (items : List Item) where
   looping_inside : (n : ℕ) (es : List Expression) (plain keep fast : List Instruction) → Inside plain → Inside keep → Inside fast
       → Inside (looping n es plain keep fast)
   looping_inside n [] plain keep fast f g h = loop_inside n plain f
-  looping_inside n (e ∷ es) plain keep fast f g h =
-      let one : List Instruction = plain ++ (i.Set (n + 3) (operand.Truth false) ∷ keep) in
-      let long = length-append one (i.Jump (length fast) ∷ fast) in
-      before_inside _ _ tt
-      (loop_inside n (either_code (operand.Slot (n + 3)) one fast)
-      (before_inside _ (one ++ (i.Jump (length fast) ∷ fast)) (omega (arith, long))
-      (both_inside one _ (both_inside plain _ f (before_inside _ keep tt g)) (before_inside _ fast (omega arith) h))))
+  looping_inside n (e ∷ es) plain keep fast f g h = peeled_inside n (plain ++ keep) fast (both_inside plain keep f g) h
 
   mutual
     for_inside : (a : Action) (ks : List Kept) (scope : Scope) (n b : ℕ) → Inside (code_for items ks scope n b a)
@@ -155,8 +148,8 @@ module _ (items : List Item) where
         (let inner = entry x (n + 2) ∷ scope in
         let es = candidates inner n body in
         let ok = is_steady inner n body in
-        looping_inside n es _ _ _ (all_inside body ks inner (inside inner n body) b) (keeping_inside es ok ks inner (n + 4))
-        (all_inside body (kept_from ok inner (n + 4) es) inner (inside inner n body) b)))
+        looping_inside n es _ _ _ (all_inside body ks inner (inside inner n body) b) (keeping_inside es ok ks inner (n + 3))
+        (all_inside body (kept_from ok inner (n + 3) es) inner (inside inner n body) b)))
     for_inside (Withonly at section names body) ks scope n b =
         before_inside _ _ tt (both_inside (code_for_all items ks scope n (b + 1 + bodies_in_all body) section) _
         (all_inside section ks scope n (b + 1 + bodies_in_all body)) (alone_inside _ tt))
