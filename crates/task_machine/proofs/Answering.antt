@@ -400,7 +400,7 @@ mark_rows o b h (r ∷ rs) (d ∷ ds) = go (mark_rows o b h rs ds) (cases_eq r.o
     go more (inl q) = rw (eq-eqb r.object.0 o q) (rw (eq-eqb r.object.0 o q) refl)
     go more (inr ne) = rw (ne_eqb r.object.0 o ne) (rw (ne_eqb r.object.0 o ne) (ap (λ l. d ∷ l) more))
 
-mark_back : (o : ℕ) (rs : List Row) (ds : List Bool) → due_in rs ds o ≡ false → with_mark o false rs ds ≡ ds
+pub mark_back : (o : ℕ) (rs : List Row) (ds : List Bool) → due_in rs ds o ≡ false → with_mark o false rs ds ≡ ds
 mark_back o [] ds h = refl
 mark_back o (r ∷ rs) [] h = refl
 mark_back o (r ∷ rs) (d ∷ ds) h = at (λ q. mark_back o rs ds q) (nat_eq r.object.0 o) h

@@ -1,10 +1,10 @@
 -- What stands first among ascending entries, from an object on.
 use Rattle.std.proofs.Common.{◌≡◌, ℕ, zero, suc, ◌+◌, ◌-◌, ◌<◌, ◌≤◌, ◌⊎◌, inl, inr, List, [], ◌∷◌, ◌++◌, length, Bool, true, false, Some}
 use Rattle.std.proofs.Common.{refl, sym, ap, ◌∙◌, subst, arith, ⊎_elim}
-use Rattle.std.specs.Prelude.{slice_get, slice_index_or, ◌&&◌}
+use Rattle.std.specs.Prelude.{slice_get, ◌&&◌}
 use Rattle.std.specs.List.{flat_map}
 use Rattle.std.proofs.lemmas.Bool.{cases_eq, eq-eqb, ne_eqb, true≢false}
-use Rattle.std.proofs.lemmas.Option.{none-some, same_Some, slice_get-get_or}
+use Rattle.std.proofs.lemmas.Option.{none-some, same_Some}
 use Rattle.jade_base.specs.declared.place.ObjectId.{ObjectId}
 use Rattle.jade_base.specs.declared.rights.Rights.{Rights}
 use Rattle.jade_base.specs.declared.rights.Right.{Right}
@@ -13,7 +13,7 @@ use Rattle.jade_base.specs.Rights.{no_rights, has_rights, same_right, same_right
 use Rattle.jade_base.specs.Specification.{Specification as Sparse, AllAbove, IsAscending, rights_in}
 use Rattle.access_spec.specs.Copies.{IsSameBetween, copied_in}
 use Rattle.jade_meaning.specs.Specification.{numbers}
-use Rattle.task_machine.specs.steps.Finding.{AreBelow, AreFrom, AreSame, HasNoEntry, IsFreeBetween, IsNextChange, IsNextEntry, IsNotAt, IsPlaceFrom, IsPlaceOf}
+use Rattle.task_machine.specs.steps.Finding.{AreBelow, AreFrom, AreSame, IsFreeBetween, IsNextChange, IsNextEntry, IsPlaceFrom}
 
 pub get_within : (es : List (ObjectId × Rights)) (k : ℕ) (e : ObjectId × Rights) → slice_get es k ≡ Some e → k < length es
 get_within [] k e h = absurd (none-some e h)
@@ -85,44 +85,6 @@ copied_get (x ∷ es) (y ∷ ds) zero e d asc h g =
 copied_get (x ∷ es) (y ∷ ds) (suc k) e d asc h g =
     let far = above_get x.0.0 es k e asc.1 h in
     rw (ne_eqb x.0.0 e.0.0 (λ q. omega (arith, far, q))) (copied_get es ds k e d asc.2 h g)
-
-pub copied_none : (es : List (ObjectId × Rights)) (ds : List Rights) (o : ObjectId) → HasNoEntry o es → copied_in es ds o ≡ no_rights
-copied_none [] ds o h = refl
-copied_none (e ∷ es) [] o h = refl
-copied_none (e ∷ es) (d ∷ ds) o h = rw (ne_eqb e.0.0 o.0 (h 0 e refl)) (copied_none es ds o (λ k x g. h (suc k) x g))
-
-pub copied_here : (es : List (ObjectId × Rights)) (ds : List Rights) (o : ObjectId) (k : ℕ) (d : Rights) → IsAscending es → IsPlaceOf o k es
-    → slice_get ds k ≡ Some d → copied_in es ds o ≡ d
-copied_here es ds o k d asc at g =
-    let none : ObjectId × Rights = (o, no_rights) in
-    let e = slice_index_or es k none in
-    let h = slice_get-get_or es k none at.within in
-    let same : e.0 ≡ o = ap (λ n. record { 0 = n }) (at.object e h) in
-    ap (copied_in es ds) (sym same) ∙ copied_get es ds k e d asc h g
-
--- the first entry that is not below the object is of another, so no entry is the object's
-pub entry_absent : (es : List (ObjectId × Rights)) (o : ObjectId) (place : ℕ) → IsAscending es → IsPlaceFrom o.0 place es → IsNotAt o place es
-    → HasNoEntry o es
-entry_absent es o place asc at other k e g q = apart (lt_or_le k place)
-  where
-    lt_or_le : (i m : ℕ) → (i < m) ⊎ (m ≤ i)
-    lt_or_le i zero = inr (omega arith)
-    lt_or_le zero (suc m) = inl (omega arith)
-    lt_or_le (suc i) (suc m) = ⊎_elim (λ lt. inl (omega (arith, lt))) (λ le. inr (omega (arith, le))) (lt_or_le i m)
-
-    past : (place < k) ⊎ (place ≡ k) → ⊥
-    past (inl lt) =
-        let within = get_within es k e g in
-        let d = slice_index_or es place e in
-        let h = slice_get-get_or es place e (omega (arith, within, lt)) in
-        let far = get_ascend es place k d e asc lt h g in
-        let least = at.above place d (omega arith) h in
-        absurd (omega (arith, far, least, q))
-    past (inr i) = other e (ap (slice_get es) i ∙ g) q
-
-    apart : (k < place) ⊎ (place ≤ k) → ⊥
-    apart (inl lt) = let a = at.below k e lt g in absurd (omega (arith, a, q))
-    apart (inr le) = past (less_or_same place k (omega (arith, le)))
 
 -- where the entries of an object have the same rights in the copy, so has the object
 copied_same : (es : List (ObjectId × Rights)) (ds : List Rights) (o : ObjectId) → length ds ≡ length es

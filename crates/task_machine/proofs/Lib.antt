@@ -8,6 +8,7 @@ mod Following
 mod Naming
 pub mod Acting
 mod Running
+mod Leaving
 pub mod Executing
 mod Filling
 pub mod Telling
@@ -26,3 +27,4 @@ mod Entering
 mod Finding
 mod Halving
 mod Sought
+mod Quiet

@@ -47,7 +47,7 @@ content_other o h (r ∷ rs) j no_o = go (cases_eq r.object.0 o) (content_other 
     go (inl e) more = rw (eq-eqb r.object.0 o e, ne_eqb r.object.0 j (λ q. no_o (sym q ∙ e))) refl
     go (inr ne) more = rw (ne_eqb r.object.0 o ne) (ap (λ x. if nat_eq r.object.0 j then r.content else x) more)
 
-lt_or_le : (i k : ℕ) → (i < k) ⊎ (k < suc i)
+pub lt_or_le : (i k : ℕ) → (i < k) ⊎ (k < suc i)
 lt_or_le i zero = inr (omega arith)
 lt_or_le zero (suc k) = inl (omega arith)
 lt_or_le (suc i) (suc k) = next (lt_or_le i k)

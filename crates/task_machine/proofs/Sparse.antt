@@ -88,7 +88,7 @@ rights_here (x ∷ es) (suc k) e o h g q =
     let far = above-at x.0.0 es k e h.1 g in
     rw (ne_eqb x.0.0 o.0 (λ z. omega (arith, far, q, z))) (rights_here es k e o h.2 g q)
 
-settled_is : (es : List (ObjectId × Rights)) (o : ObjectId) → copied_in es (map (λ e. e.1) es) o ≡ rights_in es o
+pub settled_is : (es : List (ObjectId × Rights)) (o : ObjectId) → copied_in es (map (λ e. e.1) es) o ≡ rights_in es o
 settled_is [] o = refl
 settled_is (e ∷ es) o = ap (cond (eqb e.0.0 o.0) e.1) (settled_is es o)
 

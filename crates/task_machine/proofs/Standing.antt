@@ -234,7 +234,7 @@ marks_clear [] ds o = refl
 marks_clear (r ∷ rs) [] o = refl
 marks_clear (r ∷ rs) (d ∷ ds) o = either (nat_eq r.object.0 o) (due_in rs (replicate (length ds) false) o) false (marks_clear rs ds o)
 
-clear_long : (ds : List Bool) → length (replicate (length ds) false) ≡ length ds
+pub clear_long : (ds : List Bool) → length (replicate (length ds) false) ≡ length ds
 clear_long [] = refl
 clear_long (d ∷ ds) = ap suc (clear_long ds)
 

@@ -1,5 +1,6 @@
 pub mod Numbers
 pub mod Holding
+pub mod Knowing
 pub mod Owning
 pub mod Acting
 pub mod Running

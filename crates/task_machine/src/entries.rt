@@ -1,13 +1,13 @@
-//! The entries of a specification: that of an object, and those from one on.
+//! The entries of a specification from an object on, and the rule for those that commute.
 
 ghost use Rattle.std.specs.Prelude.{◌≡◌, ◌<◌, IfNone, IfSome, Some, None, true, false, length, map, slice_get};
 ghost use Rattle.jade_meaning.specs.Specification.{commuting_on, fits_commuting, may_commute, rights_on};
 ghost use Rattle.jade_meaning.specs.Spread.{spread};
 ghost use Rattle.task_machine.specs.steps.Searching.{ObjectsAscend};
 ghost use Rattle.jade_base.specs.Rights.{same_rights};
-ghost use Rattle.jade_base.specs.Specification.{IsAscending};
+ghost use Rattle.jade_base.specs.Specification.{IsAscending, settled};
 ghost use Rattle.access_spec.specs.Copies.{IsSameBetween};
-ghost use Rattle.task_machine.specs.steps.Finding.{HasNoEntry, IsFreeBetween, IsNextChange, IsNextEntry, IsNotAt, IsPlaceFrom, IsPlaceOf};
+ghost use Rattle.task_machine.specs.steps.Finding.{IsFreeBetween, IsNextChange, IsNextEntry, IsPlaceFrom};
 
 use crate::halves::FEW;
 use jade_base::{ObjectId, Right, Rights, Spec};
@@ -35,57 +35,6 @@ fn place_from(spec: &Spec, from: ObjectId) -> usize
         }
     }
     high
-}
-
-// Whether the entry at a place is that of an object.
-fn is_at(spec: &Spec, place: usize, object: ObjectId) -> bool
-    ensures there { result ≡ true → IsPlaceOf object place spec.now.entries }
-    ensures other { result ≡ false → IsNotAt object place spec.now.entries }
-    ensures ascending { IsAscending spec.now.entries }
-{
-    if place < spec.len() {
-        let (found, _) = spec.entry(place);
-        found.0 == object.0
-    } else {
-        false
-    }
-}
-
-// The place of an object's entry, if it has one, found by a look at one after another.
-fn place_among_few(spec: &Spec, object: ObjectId) -> Option<usize>
-    ensures found { IfSome result (λ place. IsPlaceOf object place spec.now.entries) }
-    ensures none { IfNone result (HasNoEntry object spec.now.entries) }
-    ensures ascending { IsAscending spec.now.entries }
-{
-    'few: for place in 0..spec.len() {
-        let (found, _) = spec.entry(place);
-        if found.0 == object.0 {
-            return Some(place);
-        }
-    }
-    None
-}
-
-/// The place of an object's entry, if it has one. Where a task has rights on all objects, it is the
-/// object's number. It takes no memory.
-pub(crate) fn place_of(spec: &Spec, object: ObjectId) -> Option<usize>
-    ensures found { IfSome result (λ place. IsPlaceOf object place spec.now.entries) }
-    ensures none { IfNone result (HasNoEntry object spec.now.entries) }
-    ensures ascending { IsAscending spec.now.entries }
-{
-    let number = object.0 as usize;
-    if is_at(spec, number, object) {
-        return Some(number);
-    }
-    if spec.len() <= FEW {
-        return place_among_few(spec, object);
-    }
-    let place = place_from(spec, object);
-    if is_at(spec, place, object) {
-        Some(place)
-    } else {
-        None
-    }
 }
 
 // Whether the two are the same rights.
@@ -116,6 +65,9 @@ pub(crate) fn next_amended(spec: &Spec, objects: u32, from: ObjectId) -> Option<
     ensures found { IfSome result (λ next. IsNextChange spec.now from.0 objects next.0 next.1) }
     ensures none { IfNone result (IsSameBetween spec.now from.0 objects) }
 {
+    if !spec.is_drafted() {
+        return None;
+    }
     let first = place_from(spec, from);
     'places: for place in first..spec.len() {
         let (object, rights) = spec.entry(place);

@@ -1,6 +1,6 @@
 //! The execution of the body of one task.
 
-ghost use Rattle.std.specs.Prelude.{◌≡◌, ◌+◌, ◌<◌, ◌≤◌, ◌^◌, [], length, map, replicate, slice_get, slice_set, Some, None, IfOk, IfSome, IfNone, OnOk, OnErr};
+ghost use Rattle.std.specs.Prelude.{◌≡◌, ◌+◌, ◌<◌, ◌≤◌, ◌^◌, false, [], length, map, replicate, slice_get, slice_set, Some, None, IfOk, IfSome, IfNone, OnOk, OnErr};
 ghost use Rattle.task_machine.specs.Stages.{copy_spread, slots_of, rights_at};
 ghost use Rattle.code_meaning.specs.Meaning.{given_slots, passed};
 ghost use Rattle.jade_base.specs.Rights.{both_rights};
@@ -356,6 +356,13 @@ impl<'c> Execution<'c> {
         ensures { result.now ≡ self.now.stage.spec }
     {
         &self.own.spec
+    }
+
+    /// Whether the copy that a section changes may say other than the specification does.
+    pub(crate) fn is_drafted(&self) -> bool
+        ensures { result ≡ false → self.now.stage.spec ≡ settled self.now.stage.spec.entries }
+    {
+        self.own.spec.spec().is_drafted()
     }
 
     /// The number of objects.

@@ -105,21 +105,23 @@ impl Holdings {
         mode_among(self.rows.as_slice(), object)
     }
 
-    /// The number in a cell of an object, where the object is held; a cell that is not there has 0.
+    /// The number in a cell of an object, where the object is held; a cell that is not there has 0. The
+    /// object's row is looked for at the place `near` first.
     #[inline(always)]
-    pub fn cell(&self, object: usize, cell: usize) -> Option<i64>
+    pub(crate) fn cell(&self, near: usize, object: usize, cell: usize) -> Option<i64>
         ensures { result ≡ cell_in (contents_of self.now object) cell }
     {
-        cell_among(self.rows.as_slice(), object, cell)
+        cell_among(self.rows.as_slice(), near, object, cell)
     }
 
-    /// Writes a number into a cell of an object; whether the object is held for more than reading.
+    /// Writes a number into a cell of an object; whether the object is held for more than reading. The
+    /// object's row is looked for at the place `near` first.
     #[inline(always)]
-    pub fn write(&mut self, object: usize, cell: usize, number: i64) -> bool
+    pub(crate) fn write(&mut self, near: usize, object: usize, cell: usize, number: i64) -> bool
         ensures written { Written (contents_of self.old) object cell number result (contents_of self.new) }
         ensures objects { objects_in self.new ≡ objects_in self.old }
     {
-        write_among(self.rows.as_mut_slice(), object, cell, number)
+        write_among(self.rows.as_mut_slice(), near, object, cell, number)
     }
 
     /// Another content of an object, or none, in place of the one that it has, which is the result.
@@ -195,8 +197,23 @@ fn place_among_few(rows: &[Row], object: usize) -> Option<usize>
     None
 }
 
+// The place of an object's row among many, found by halves.
+fn place_by_halves(rows: &[Row], object: usize) -> Option<usize>
+    requires { RowsAscend rows.now }
+    ensures row { result ≡ row_from object 0 rows.now }
+    ensures within { IfSome result (λ place. place < length rows.now) }
+{
+    let place = place_from(rows, object);
+    if place < rows.len() && rows[place].object.0 as usize == object {
+        return Some(place);
+    }
+    None
+}
+
 // The place of an object's row. Where all objects of a program are there, it is the object's number;
-// else it is sought by halves, or one by one among few.
+// else it is sought one by one among few, or by halves. It is called, so that no such search stands
+// where an object is touched.
+#[inline(never)]
 fn place_of(rows: &[Row], object: usize) -> Option<usize>
     requires { RowsAscend rows.now }
     ensures row { result ≡ row_from object 0 rows.now }
@@ -206,16 +223,27 @@ fn place_of(rows: &[Row], object: usize) -> Option<usize>
         return Some(object);
     }
     if rows.len() <= FEW {
-        return place_among_few(rows, object);
+        place_among_few(rows, object)
+    } else {
+        place_by_halves(rows, object)
     }
-    let place = place_from(rows, object);
-    if place < rows.len() && rows[place].object.0 as usize == object {
-        return Some(place);
+}
+
+// The place of an object's row, which is looked for at one place first.
+#[inline(always)]
+fn place_near(rows: &[Row], near: usize, object: usize) -> Option<usize>
+    requires { RowsAscend rows.now }
+    ensures row { result ≡ row_from object 0 rows.now }
+    ensures within { IfSome result (λ place. place < length rows.now) }
+{
+    if near < rows.len() && rows[near].object.0 as usize == object {
+        return Some(near);
     }
-    None
+    place_of(rows, object)
 }
 
 // The number in a cell; one that is not there has 0.
+#[inline(always)]
 fn at_cell(content: &Content, cell: usize) -> i64
     ensures { result ≡ cell_of content.now cell }
 {
@@ -227,11 +255,12 @@ fn at_cell(content: &Content, cell: usize) -> i64
 }
 
 // The number in a cell of an object, where the object is held.
-fn cell_among(rows: &[Row], object: usize, cell: usize) -> Option<i64>
+#[inline(always)]
+fn cell_among(rows: &[Row], near: usize, object: usize, cell: usize) -> Option<i64>
     requires { RowsAscend rows.now }
     ensures { result ≡ cell_in (contents_of rows.now object) cell }
 {
-    match place_of(rows, object) {
+    match place_near(rows, near, object) {
         None => None,
         Some(place) => match &rows[place].content {
             None => None,
@@ -255,13 +284,14 @@ fn mode_among(rows: &[Row], object: usize) -> Option<Mode>
 }
 
 // Writes a number into a cell of an object; whether the object is held for more than reading.
-fn write_among(rows: &mut [Row], object: usize, cell: usize, number: i64) -> bool
+#[inline(always)]
+fn write_among(rows: &mut [Row], near: usize, object: usize, cell: usize, number: i64) -> bool
     requires { RowsAscend rows.old }
     ensures written { Written (contents_of rows.old) object cell number result (contents_of rows.new) }
     ensures objects { objects_in rows.new ≡ objects_in rows.old }
     ensures ascend { RowsAscend rows.new }
 {
-    match place_of(rows, object) {
+    match place_near(rows, near, object) {
         None => false,
         Some(place) => write_at(&mut rows[place].content, cell, number),
     }
@@ -281,6 +311,7 @@ fn put_among(rows: &mut [Row], object: usize, content: Option<Content>) -> Optio
 }
 
 // Writes a number into a cell of a content; whether it is held for more than reading.
+#[inline(always)]
 fn write_at(content: &mut Option<Content>, cell: usize, number: i64) -> bool
     ensures { WrittenIn content.old cell number result content.new }
 {

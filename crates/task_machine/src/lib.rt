@@ -4,17 +4,18 @@
 //! `spec_cover` and `task_code`.
 #![tactic(auto)]
 
+mod alone;
 mod entries;
 pub mod execution;
 pub mod frame;
 mod halves;
 pub mod holdings;
+mod known;
 pub mod laws;
 pub mod machine;
 pub mod next;
 mod numbers;
 pub mod play;
-mod quick;
 pub mod section;
 mod slots;
 

@@ -16,7 +16,7 @@ ghost use Rattle.task_machine.specs.Machines.{amended_at, begun, course_at, is_t
 ghost use Rattle.task_machine.specs.Playing.{touches};
 ghost use Rattle.task_machine.specs.Asks.{Asking, BeginsAs, GoesTo, HeldWith, Stands, changed, created, number_of};
 ghost use Rattle.task_machine.specs.Asks.{enters_from, follows, leaves_from, shifts_from};
-ghost use Rattle.task_machine.specs.steps.Standing.{Asked, asking, gives_up, HasRows, IsFresh, IsKept};
+ghost use Rattle.task_machine.specs.steps.Standing.{Asked, asking, gives_up, HasRows, HoldsAsRights, IsFresh, IsKept, NoMarks};
 ghost use Rattle.task_machine.specs.steps.Standing.{is_due_anew, last_ask, machine, marks_in, phase_of, reached, RunsOn, TakenAs};
 ghost use Rattle.task_machine.specs.steps.Surrendering.{IsSurrendered};
 ghost use Rattle.task_machine.specs.declared.frame.Pause.{Pause as PauseOf};
@@ -58,6 +58,8 @@ pub enum Ask {
 pub struct Machine<'c> {
     execution: Execution<'c>,
     due: Vec<bool>,
+    // That no mark is set, where that is known.
+    unmarked: bool,
     phase: Phase,
     // Below this object nothing is to be taken or given up.
     from: ObjectId,
@@ -78,7 +80,7 @@ impl<'c> Model for Machine<'c> {
 
     ghost view = { λ m. asking m.execution m.due.items m.phase m.part m.ask m.asks m.children m.touched };
 
-    ghost invariant = { λ m. IsSearched m.from.0 (asking m.execution m.due.items m.phase m.part m.ask m.asks m.children m.touched) };
+    ghost invariant = { λ m. IsSearched m.from.0 m.unmarked (asking m.execution m.due.items m.phase m.part m.ask m.asks m.children m.touched) };
 }
 
 // The take of an object for which there is a mode.
@@ -205,6 +207,19 @@ fn phase_of(pause: Pause) -> Phase
     }
 }
 
+// What is asked for where the rights are to change. Where the section said nothing, what is held
+// stays held.
+fn change_ask(execution: &Execution, due: &[bool]) -> Ask
+    ensures { (part : ℕ) → IsOrdered (machine execution.now due.now Phase.Changing part)
+        → Asked result Phase.Changing (machine execution.now due.now Phase.Changing part) }
+{
+    if execution.is_drafted() {
+        give(execution, due, Phase::Changing, START)
+    } else {
+        Ask::Change
+    }
+}
+
 // What is asked for at a pause.
 fn pause_ask(execution: &Execution, due: &[bool], pause: Pause) -> Ask
     requires event { is_event pause ≡ true }
@@ -220,7 +235,7 @@ fn pause_ask(execution: &Execution, due: &[bool], pause: Pause) -> Ask
         Pause::End => give(execution, due, Phase::Ending(None), START),
         Pause::Fault(blame) => give(execution, due, Phase::Ending(Some(blame)), START),
         Pause::Create(number) => give(execution, due, Phase::Creating(number), START),
-        Pause::Change => give(execution, due, Phase::Changing, START),
+        Pause::Change => change_ask(execution, due),
         Pause::Declare(_, _) => unreachable!(),
         Pause::Other => unreachable!(),
     }
@@ -288,17 +303,29 @@ fn set_mark(execution: &Execution, due: &mut Vec<bool>, object: ObjectId, mark: 
     }
 }
 
-// What is given up for a change of the rights is due after it.
-fn mark_given(execution: &Execution, due: &mut Vec<bool>, phase: Phase, object: ObjectId)
-    ensures { due.new.items ≡ marks_after phase object.0 execution.now.rows due.old.items }
+// What is given up for a change of the rights is due after it. The result tells that no mark is
+// set, where that is known.
+fn mark_given(
+    execution: &Execution,
+    due: &mut Vec<bool>,
+    unmarked: bool,
+    phase: Phase,
+    object: ObjectId,
+) -> bool
+    requires { NoMarks unmarked due.old.items }
+    ensures marks { due.new.items ≡ marks_after phase object.0 execution.now.rows due.old.items }
+    ensures unset { NoMarks result due.new.items }
 {
     match phase {
-        Phase::Changing => set_mark(execution, due, object, true),
-        Phase::Starting => {}
-        Phase::Taking => {}
-        Phase::Going => {}
-        Phase::Creating(_) => {}
-        Phase::Ending(_) => {}
+        Phase::Changing => {
+            set_mark(execution, due, object, true);
+            false
+        }
+        Phase::Starting => unmarked,
+        Phase::Taking => unmarked,
+        Phase::Going => unmarked,
+        Phase::Creating(_) => unmarked,
+        Phase::Ending(_) => unmarked,
     }
 }
 
@@ -314,17 +341,37 @@ fn take_out(execution: &mut Execution, object: ObjectId) -> Content
     }
 }
 
-// Where nothing is left to be taken, nothing is due any more.
-fn settle(due: &mut Vec<bool>, phase: Phase)
-    ensures { due.new.items ≡ marks_in phase due.old.items }
+// No mark is set any more.
+fn clear(due: &mut Vec<bool>, unmarked: bool)
+    requires { NoMarks unmarked due.old.items }
+    ensures { due.new.items ≡ replicate (length due.old.items) false }
+{
+    if unmarked {
+        return;
+    }
+    due.fill(false);
+}
+
+// Where nothing is left to be taken, nothing is due any more. The result tells that no mark is set,
+// where that is known.
+fn settle(due: &mut Vec<bool>, unmarked: bool, phase: Phase) -> bool
+    requires { NoMarks unmarked due.old.items }
+    ensures marks { due.new.items ≡ marks_in phase due.old.items }
+    ensures unset { NoMarks result due.new.items }
 {
     match phase {
-        Phase::Starting => due.fill(false),
-        Phase::Taking => due.fill(false),
-        Phase::Going => {}
-        Phase::Creating(_) => {}
-        Phase::Changing => {}
-        Phase::Ending(_) => {}
+        Phase::Starting => {
+            clear(due, unmarked);
+            true
+        }
+        Phase::Taking => {
+            clear(due, unmarked);
+            true
+        }
+        Phase::Going => unmarked,
+        Phase::Creating(_) => unmarked,
+        Phase::Changing => unmarked,
+        Phase::Ending(_) => unmarked,
     }
 }
 
@@ -383,6 +430,47 @@ fn remark(execution: &Execution, due: &mut Vec<bool>)
     }
 }
 
+// What is due once the rights have changed, where nothing was due. The result tells that no mark is
+// set, where that is known: where the section said nothing, the marks stay as they are.
+fn mark_first(execution: &Execution, due: &mut Vec<bool>) -> bool
+    requires long { length due.old.items ≡ length execution.now.rows }
+    requires held { HoldsAsRights execution.now }
+    requires unset { NoMarks true due.old.items }
+    ensures marks { due.new.items ≡ map (λ r. is_due_anew execution.now (due_in execution.now.rows due.old.items r.object.0) r.object.0) execution.now.rows }
+    ensures unset { NoMarks result due.new.items }
+{
+    if execution.is_drafted() {
+        remark(execution, due);
+        false
+    } else {
+        true
+    }
+}
+
+// What is due once the rights have changed. The result tells that no mark is set, where that is
+// known.
+fn mark_changed(execution: &Execution, due: &mut Vec<bool>, unmarked: bool) -> bool
+    requires long { length due.old.items ≡ length execution.now.rows }
+    requires held { HoldsAsRights execution.now }
+    requires unset { NoMarks unmarked due.old.items }
+    ensures marks { due.new.items ≡ map (λ r. is_due_anew execution.now (due_in execution.now.rows due.old.items r.object.0) r.object.0) execution.now.rows }
+    ensures unset { NoMarks result due.new.items }
+{
+    if unmarked {
+        mark_first(execution, due)
+    } else {
+        remark(execution, due);
+        false
+    }
+}
+
+// An object below which nothing is to be taken: any, where no mark is set.
+fn untaken(unmarked: bool, objects: u32) -> ObjectId
+    ensures { unmarked ≡ false → result.0 ≡ 0 }
+{
+    if unmarked { ObjectId(objects) } else { START }
+}
+
 // A machine at the begin of an execution.
 fn begun<'c>(execution: Execution<'c>, due: Vec<bool>) -> Machine<'c>
     requires fresh { IsFresh execution }
@@ -393,6 +481,7 @@ fn begun<'c>(execution: Execution<'c>, due: Vec<bool>) -> Machine<'c>
     Machine {
         execution,
         due,
+        unmarked: false,
         phase: Phase::Starting,
         from: START,
         part,
@@ -508,7 +597,7 @@ impl<'c> Machine<'c> {
     {
         can_count(&self.execution)?;
         let before = self.execution.events();
-        settle(&mut self.due, self.phase);
+        self.unmarked = settle(&mut self.due, self.unmarked, self.phase);
         self.phase = Phase::Going;
         self.from = START;
         let pause = run(&mut self.execution, alloc)?;
@@ -540,7 +629,13 @@ impl<'c> Machine<'c> {
         ensures held { HeldWith object.0 None self.old.at self.new.at }
         ensures given { IsSurrendered object result self.old self.new }
     {
-        mark_given(&self.execution, &mut self.due, self.phase, object);
+        self.unmarked = mark_given(
+            &self.execution,
+            &mut self.due,
+            self.unmarked,
+            self.phase,
+            object,
+        );
         self.from = below(self.from, object);
         self.ask = None;
         take_out(&mut self.execution, object)
@@ -586,10 +681,10 @@ impl<'c> Machine<'c> {
         requires { self.old.ask ≡ Some Ask.Change }
         ensures { self.new ≡ record self.old { at = changed self.old.at; ask = None } }
     {
-        remark(&self.execution, &mut self.due);
+        self.unmarked = mark_changed(&self.execution, &mut self.due, self.unmarked);
         self.execution.change();
         self.phase = Phase::Taking;
-        self.from = START;
+        self.from = untaken(self.unmarked, self.execution.objects());
         self.ask = None;
     }
 

@@ -1,7 +1,7 @@
 //! The specification of a task, and what its sections make.
 
 ghost use Rattle.std.specs.Prelude.{◌≡◌, ◌<◌, ◌≤◌, ◌^◌, true, false, [], None, Some, replicate, slice_set, IfOk, IfSome, IfNone, OnOk, OnErr};
-ghost use Rattle.jade_base.specs.Rights.{both_rights, join, may_read, may_write, no_rights};
+ghost use Rattle.jade_base.specs.Rights.{both_rights, join, no_rights};
 ghost use Rattle.jade_base.specs.Specification.{joined_in, kept, rights_in, settled};
 ghost use Rattle.jade_meaning.specs.Specification.{rights_on, commuting_on, covers, is_commuting, may_commute};
 ghost use Rattle.jade_meaning.specs.Spread.{spread};
@@ -12,7 +12,7 @@ ghost use Rattle.jade_syntax.specs.declared.tree.DeclareWord.{DeclareWord as Wor
 ghost use Rattle.task_machine.specs.steps.Owning.{copy_spread, rights_of, draft_of};
 ghost use Rattle.task_machine.specs.steps.Acting.{KeepsRights, SaidBy};
 
-use crate::entries::{commuting, may_have, place_of};
+use crate::entries::{commuting, may_have};
 use access_spec::{Change, WorkingCopy};
 use jade_base::{Memory, ObjectId, Right, Rights, Spec};
 use jade_meaning::laws::spread_agrees;
@@ -51,23 +51,13 @@ pub enum Said {
     Refused,
 }
 
-// The rights on an object.
-fn rights_among(spec: &Spec, object: ObjectId) -> Rights
-    ensures { result ≡ rights_in spec.now.entries object }
-{
-    match place_of(spec, object) {
-        None => Rights::NONE,
-        Some(place) => spec.entry(place).1,
-    }
-}
-
-// The rights of the task on an object.
-fn rights_on(own: &Own, object: usize) -> Rights
+/// The rights of the task on an object.
+pub(crate) fn rights_on(own: &Own, object: usize) -> Rights
     ensures rights { result ≡ rights_on (rights_of own.now) object }
     ensures narrow { 2 ^ 32 ≤ object → result ≡ no_rights }
 {
     if object < own.objects as usize {
-        rights_among(own.spec.spec(), ObjectId(object as u32))
+        own.spec.spec().rights(ObjectId(object as u32))
     } else {
         Rights::NONE
     }
@@ -94,7 +84,7 @@ pub(crate) fn copied_for(own: &Own, object: ObjectId) -> Rights
 fn copied(spec: &Spec, object: ObjectId) -> Rights
     ensures { result ≡ copied spec.now object }
 {
-    match place_of(spec, object) {
+    match spec.place_of(object) {
         None => Rights::NONE,
         Some(place) => spec.draft_at(place),
     }
@@ -105,26 +95,10 @@ pub(crate) fn made_for(own: &Own, object: ObjectId) -> Rights
     ensures { result ≡ rights_on (spread own.now.objects own.now.child.entries) object.0 }
 {
     if object.0 < own.objects {
-        rights_among(&own.child, object)
+        own.child.rights(object)
     } else {
         Rights::NONE
     }
-}
-
-/// Whether the task may read an object now.
-pub fn may_read(own: &Own, object: usize) -> bool
-    ensures right { result ≡ may_read (rights_on (rights_of own.now) object) }
-    ensures narrow { result ≡ true → object < 2 ^ 32 }
-{
-    rights_on(own, object).may_read()
-}
-
-/// Whether the task may write an object now.
-pub fn may_write(own: &Own, object: usize) -> bool
-    ensures right { result ≡ may_write (rights_on (rights_of own.now) object) }
-    ensures narrow { result ≡ true → object < 2 ^ 32 }
-{
-    rights_on(own, object).may_write()
 }
 
 /// The object on which the task commutes, if it does.

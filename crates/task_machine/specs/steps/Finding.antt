@@ -1,5 +1,5 @@
 -- What is found among the entries of a specification.
-use Rattle.std.specs.Prelude.{◌≡◌, ◌≢◌, ℕ, ◌<◌, ◌≤◌, true, false, List, Some, length, slice_get}
+use Rattle.std.specs.Prelude.{◌≡◌, ℕ, ◌<◌, ◌≤◌, true, false, List, Some, length, slice_get}
 use Rattle.jade_base.specs.declared.place.ObjectId.{ObjectId}
 use Rattle.jade_base.specs.declared.rights.Rights.{Rights}
 use Rattle.jade_base.specs.Rights.{no_rights, has_rights, same_rights}
@@ -19,19 +19,6 @@ pub record IsPlaceFrom (from place : ℕ) (es : List (ObjectId × Rights)) : Typ
   pub within : place ≤ length es
   pub below : AreBelow from place es
   pub above : AreFrom from place es
-
--- the entry at this place is the object's
-pub record IsPlaceOf (o : ObjectId) (place : ℕ) (es : List (ObjectId × Rights)) : Type 0 where
-  pub within : place < length es
-  pub object : (e : ObjectId × Rights) → slice_get es place ≡ Some e → e.0.0 ≡ o.0
-
--- the entry at this place, if there is one, is of another object
-abbrev pub IsNotAt : ObjectId → (place : ℕ) → List (ObjectId × Rights) → Type 0
-IsNotAt o place es = (e : ObjectId × Rights) → slice_get es place ≡ Some e → e.0.0 ≢ o.0
-
--- the object has no entry
-abbrev pub HasNoEntry : ObjectId → List (ObjectId × Rights) → Type 0
-HasNoEntry o es = (place : ℕ) → IsNotAt o place es
 
 -- between two numbers, the upper one left out, no object has an entry
 abbrev pub IsFreeBetween : List (ObjectId × Rights) → ℕ → ℕ → Type 0

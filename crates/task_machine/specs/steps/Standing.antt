@@ -6,6 +6,7 @@ use Rattle.jade_base.specs.declared.report.Blame.{Blame}
 use Rattle.jade_base.specs.declared.rights.Mode.{Mode}
 use Rattle.jade_base.specs.declared.rights.Rights.{Rights}
 use Rattle.jade_base.specs.Rights.{mode_of}
+use Rattle.jade_base.specs.Held.{Held}
 use Rattle.jade_meaning.specs.Specification.{rights_on, commuting_on}
 use Rattle.jade_meaning.specs.Course.{Ends}
 use Rattle.task_machine.specs.declared.holdings.Row.{Row}
@@ -88,10 +89,19 @@ pub record IsKept (a : Asking) : Type 0 where
   pub knows : Knows a.at.phase a.at
   pub asked : AskedIf a.ask a.at.phase a.at
 
--- a machine of which this is known, and which has nothing to take or to give up below an object
-pub record IsSearched (from : ℕ) (a : Asking) : Type 0 where
+-- no mark is set, where it is said so
+pub record NoMarks (said : Bool) (ds : List Bool) : Type 0 where
+  pub none : said ≡ true → ds ≡ replicate (length ds) false
+
+-- a machine of which this is known, which has nothing to take or to give up below an object, and no mark, where it is said so
+pub record IsSearched (from : ℕ) (said : Bool) (a : Asking) : Type 0 where
   pub kept : IsKept a
   pub done : IsNone (is_to_move a.at.phase a.at.execution a.at.due) from
+  pub unset : NoMarks said a.at.due
+
+-- what is held is held in the mode of the rights on it
+pub record HoldsAsRights (e : Execution) : Type 0 where
+  pub agrees : (o : ℕ) (x : Held) → held_by e o ≡ Some x → mode_of (rights_on (rights_at e.stage) o) ≡ Some x.mode
 
 -- the object below which nothing is to be taken or given up, once there is an ask
 abbrev pub reached : Ask → (from : ℕ) → ℕ

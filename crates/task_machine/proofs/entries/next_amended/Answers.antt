@@ -1,6 +1,11 @@
 use Rattle.std.proofs.Common.{sym, ◌∙◌, arith}
 use Rattle.task_machine.proofs.Finding.{first_change, same_below, same_next, same_past}
+use Rattle.task_machine.proofs.Quiet.{same_between}
 use Rattle.task_machine.proofs.entries.next_amended.Goals as goal
+
+pub returns-then-not-is_drafted-clause-none : goal.returns-then-not-is_drafted-clause-none
+returns-then-not-is_drafted-clause-none c =
+    same_between c.args.spec.now c.args.from.0 c.args.objects (c.is_drafted.ensures c.if-not-is_drafted.true)
 
 pub returns-then-object-objects-clause-found : goal.returns-then-object-objects-clause-found
 returns-then-object-objects-clause-found c =

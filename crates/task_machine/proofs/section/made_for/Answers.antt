@@ -10,7 +10,7 @@ returns-then-object-own c =
     let w = c.args.own.now in
     let f : ℕ → Rights = λ i. rights_in w.child.entries (id i) in
     let z : 0 + c.args.object.0 ≡ c.args.object.0 = omega arith in
-    c.rights_among.ensures ∙ sym (tab_at f 0 w.objects c.args.object.0 c.if-object-own.true ∙ ap f z)
+    c.rights.ensures ∙ sym (tab_at f 0 w.objects c.args.object.0 c.if-object-own.true ∙ ap f z)
 
 pub returns-else-object-own : goal.returns-else-object-own
 returns-else-object-own c =

@@ -10,7 +10,7 @@ returns-then-object-own-clause-rights c =
     let w = c.args.own.now in
     let f : ℕ → Rights = λ i. rights_in w.spec.entries (id i) in
     let z : 0 + c.args.object ≡ c.args.object = omega arith in
-    c.rights_among.ensures ∙ ap (λ s. rights_in s.entries (id c.args.object)) c.spec.ensures
+    c.rights.ensures ∙ ap (λ s. rights_in s.entries (id c.args.object)) c.spec.ensures
     ∙ sym (tab_at f 0 w.objects c.args.object c.if-object-own.true ∙ ap f z)
 
 pub returns-else-object-own-clause-rights : goal.returns-else-object-own-clause-rights

@@ -28,6 +28,7 @@ invariant_of-self-2 c =
           create_kept m.execution m.due.items m.phase m.part m.ask m.asks m.children m.touched _ _ _ c.self.invariant.kept
           (ap (λ (a : Asking). a.ask) c.self.view_is ∙ c.requires) c.in_ok-execution.ensures.moved c.steps_left-self-inside.ensures;
       done = λ j lt. refl {a = false};
+      unset = c.self.invariant.unset;
     }
 
 pub returns-clause-begins : goal.returns-clause-begins

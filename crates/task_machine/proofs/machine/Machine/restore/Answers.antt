@@ -2,6 +2,7 @@ use Rattle.std.proofs.Common.{Some, false, sym, subst}
 use Rattle.task_machine.specs.steps.Standing.{IsKept, asking}
 use Rattle.task_machine.specs.steps.Surrendering.{IsSurrendered}
 use Rattle.task_machine.proofs.Answering.{restored}
+use Rattle.task_machine.proofs.Quiet.{still_unmarked}
 use Rattle.task_machine.proofs.Sought.{done_marked}
 use Rattle.task_machine.proofs.machine.Machine.restore.Goals as goal
 
@@ -17,6 +18,7 @@ invariant_of-self c =
       done =
           done_marked m.execution c.args.object.0 (Some c.args.content) false m.due.items m.phase _ _ m.from.0 _ c.supply.ensures
           c.set_mark.ensures c.below-self-inside.ensures.0 c.below-self-inside.ensures.1 c.self.invariant.done;
+      unset = still_unmarked c.args.object.0 m.execution.rows m.due.items _ m.unmarked c.set_mark.ensures c.self.invariant.unset;
     }
 
 pub returns : goal.returns

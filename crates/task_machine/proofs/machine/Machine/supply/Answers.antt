@@ -3,6 +3,7 @@ use Rattle.std.specs.Prelude.{nat_eq, if◌then◌else◌}
 use Rattle.task_machine.specs.Executions.{Execution, held_by}
 use Rattle.task_machine.specs.Asks.{Asking}
 use Rattle.task_machine.proofs.Answering.{supply_kept, supply_held}
+use Rattle.task_machine.proofs.Quiet.{still_unmarked}
 use Rattle.task_machine.proofs.Sought.{done_marked}
 use Rattle.task_machine.proofs.machine.Machine.supply.Goals as goal
 
@@ -16,6 +17,7 @@ invariant_of-self c =
       done =
           done_marked m.execution c.args.object.0 (Some c.args.content) false m.due.items m.phase _ _ m.from.0 _ c.supply.ensures
           c.set_mark.ensures c.below-self-inside.ensures.0 c.below-self-inside.ensures.1 c.self.invariant.done;
+      unset = still_unmarked c.args.object.0 m.execution.rows m.due.items _ m.unmarked c.set_mark.ensures c.self.invariant.unset;
     }
 
 pub returns-clause-held : goal.returns-clause-held

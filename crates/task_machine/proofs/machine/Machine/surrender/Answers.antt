@@ -18,10 +18,11 @@ invariant_of-self c =
     record {
       kept =
           surrender_kept m.execution m.due.items m.phase m.part m.ask m.asks m.children m.touched c.args.object c.self.invariant.kept
-          (ap (λ (a : Asking). a.ask) c.self.view_is ∙ c.requires) _ _ c.mark_given.ensures c.take_out.ensures.rows;
+          (ap (λ (a : Asking). a.ask) c.self.view_is ∙ c.requires) _ _ c.mark_given-self-inside.ensures.marks c.take_out.ensures.rows;
       done =
-          done_given m.execution c.args.object.0 None m.due.items m.phase _ _ m.from.0 _ c.take_out.ensures.rows c.mark_given.ensures
+          done_given m.execution c.args.object.0 None m.due.items m.phase _ _ m.from.0 _ c.take_out.ensures.rows c.mark_given-self-inside.ensures.marks
           c.below-self-inside.ensures.0 c.below-self-inside.ensures.1 c.self.invariant.done;
+      unset = c.mark_given-self-inside.ensures.unset;
     }
 
 pub returns-clause-held : goal.returns-clause-held
