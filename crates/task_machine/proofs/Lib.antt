@@ -28,3 +28,4 @@ mod Finding
 mod Halving
 mod Sought
 mod Quiet
+mod Knowing

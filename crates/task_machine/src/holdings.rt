@@ -105,23 +105,25 @@ impl Holdings {
         mode_among(self.rows.as_slice(), object)
     }
 
-    /// The number in a cell of an object, where the object is held; a cell that is not there has 0. The
-    /// object's row is looked for at the place `near` first.
+    /// The number in a cell of an object, whose row is at this place, where the object is held; a cell
+    /// that is not there has 0.
     #[inline(always)]
-    pub(crate) fn cell(&self, near: usize, object: usize, cell: usize) -> Option<i64>
-        ensures { result ≡ cell_in (contents_of self.now object) cell }
+    pub(crate) fn cell(&self, row: usize, _object: usize, cell: usize) -> Option<i64>
+        requires { row_from _object 0 self.now ≡ Some row }
+        ensures { result ≡ cell_in (contents_of self.now _object) cell }
     {
-        cell_among(self.rows.as_slice(), near, object, cell)
+        cell_among(self.rows.as_slice(), row, _object, cell)
     }
 
-    /// Writes a number into a cell of an object; whether the object is held for more than reading. The
-    /// object's row is looked for at the place `near` first.
+    /// Writes a number into a cell of an object, whose row is at this place; whether the object is held
+    /// for more than reading.
     #[inline(always)]
-    pub(crate) fn write(&mut self, near: usize, object: usize, cell: usize, number: i64) -> bool
+    pub(crate) fn write(&mut self, row: usize, object: usize, cell: usize, number: i64) -> bool
+        requires { row_from object 0 self.old ≡ Some row }
         ensures written { Written (contents_of self.old) object cell number result (contents_of self.new) }
         ensures objects { objects_in self.new ≡ objects_in self.old }
     {
-        write_among(self.rows.as_mut_slice(), near, object, cell, number)
+        write_among(self.rows.as_mut_slice(), row, object, cell, number)
     }
 
     /// Another content of an object, or none, in place of the one that it has, which is the result.
@@ -229,19 +231,6 @@ fn place_of(rows: &[Row], object: usize) -> Option<usize>
     }
 }
 
-// The place of an object's row, which is looked for at one place first.
-#[inline(always)]
-fn place_near(rows: &[Row], near: usize, object: usize) -> Option<usize>
-    requires { RowsAscend rows.now }
-    ensures row { result ≡ row_from object 0 rows.now }
-    ensures within { IfSome result (λ place. place < length rows.now) }
-{
-    if near < rows.len() && rows[near].object.0 as usize == object {
-        return Some(near);
-    }
-    place_of(rows, object)
-}
-
 // The number in a cell; one that is not there has 0.
 #[inline(always)]
 fn at_cell(content: &Content, cell: usize) -> i64
@@ -254,18 +243,16 @@ fn at_cell(content: &Content, cell: usize) -> i64
     }
 }
 
-// The number in a cell of an object, where the object is held.
+// The number in a cell of an object, whose row is at this place, where the object is held.
 #[inline(always)]
-fn cell_among(rows: &[Row], near: usize, object: usize, cell: usize) -> Option<i64>
-    requires { RowsAscend rows.now }
-    ensures { result ≡ cell_in (contents_of rows.now object) cell }
+fn cell_among(rows: &[Row], row: usize, _object: usize, cell: usize) -> Option<i64>
+    requires row { row_from _object 0 rows.now ≡ Some row }
+    requires within { row < length rows.now }
+    ensures { result ≡ cell_in (contents_of rows.now _object) cell }
 {
-    match place_near(rows, near, object) {
+    match &rows[row].content {
         None => None,
-        Some(place) => match &rows[place].content {
-            None => None,
-            Some(content) => Some(at_cell(content, cell)),
-        },
+        Some(content) => Some(at_cell(content, cell)),
     }
 }
 
@@ -283,18 +270,24 @@ fn mode_among(rows: &[Row], object: usize) -> Option<Mode>
     }
 }
 
-// Writes a number into a cell of an object; whether the object is held for more than reading.
+// Writes a number into a cell of an object, whose row is at this place; whether the object is held for
+// more than reading.
 #[inline(always)]
-fn write_among(rows: &mut [Row], near: usize, object: usize, cell: usize, number: i64) -> bool
-    requires { RowsAscend rows.old }
-    ensures written { Written (contents_of rows.old) object cell number result (contents_of rows.new) }
+fn write_among(
+    rows: &mut [Row],
+    row: usize,
+    _object: usize,
+    cell: usize,
+    number: i64,
+) -> bool
+    requires ascend { RowsAscend rows.old }
+    requires row { row_from _object 0 rows.old ≡ Some row }
+    requires within { row < length rows.old }
+    ensures written { Written (contents_of rows.old) _object cell number result (contents_of rows.new) }
     ensures objects { objects_in rows.new ≡ objects_in rows.old }
     ensures ascend { RowsAscend rows.new }
 {
-    match place_near(rows, near, object) {
-        None => false,
-        Some(place) => write_at(&mut rows[place].content, cell, number),
-    }
+    write_at(&mut rows[row].content, cell, number)
 }
 
 // Another content of an object, or none, in place of the one that it has.
