@@ -273,13 +273,7 @@ fn mode_among(rows: &[Row], object: usize) -> Option<Mode>
 // Writes a number into a cell of an object, whose row is at this place; whether the object is held for
 // more than reading.
 #[inline(always)]
-fn write_among(
-    rows: &mut [Row],
-    row: usize,
-    _object: usize,
-    cell: usize,
-    number: i64,
-) -> bool
+fn write_among(rows: &mut [Row], row: usize, _object: usize, cell: usize, number: i64) -> bool
     requires ascend { RowsAscend rows.old }
     requires row { row_from _object 0 rows.old ≡ Some row }
     requires within { row < length rows.old }

@@ -1,4 +1,4 @@
-use Rattle.std.proofs.Common.{refl, sym, subst, ◌∙◌, w64, slice_index_or}
+use Rattle.std.proofs.Common.{refl, sym, subst, w64, slice_index_or}
 use Rattle.std.proofs.lemmas.Int.{to_z-of_z}
 use Rattle.task_machine.specs.Playing.{writable}
 use Rattle.task_machine.specs.steps.Holding.{contents_of, WrittenIn}
