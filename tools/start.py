@@ -26,11 +26,12 @@ from programs import TOP, built
 
 # About how long one processor takes for a line, in seconds; how much of another one each further processor adds;
 # and how much memory a crate may take, in bytes.
-SECONDS, FURTHER, MEMORY = 0.03, 0.5, 3_000_000_000
+SECONDS, FURTHER, MEMORY = 0.06, 0.5, 3_000_000_000
 
-# The most processors for one crate, and the least for one that the most others wait for; how often it is looked whether
-# one has ended, in seconds; and how many lines of one that failed are shown.
-MOST_JOBS, LEAST_JOBS, PAUSE, SHOWN = 4, 2, 0.2, 20
+# The most processors for one crate, and the least for one that the most others wait for; for how many lines one more
+# processor pays, since each first reads what all crates below have proved; how often it is looked whether one has ended,
+# in seconds; and how many lines of one that failed are shown.
+MOST_JOBS, LEAST_JOBS, LINES_FOR_ONE, PAUSE, SHOWN = 4, 2, 500, 0.2, 20
 
 PARTS = ("src", "specs", "proofs")
 
@@ -87,7 +88,8 @@ def next_of(left, running, free, behind):
     if not ready or free < 1:
         return None
     is_longest = behind[ready[0]] >= max(behind[crate] for crate in waits)
-    return ready[0], min(MOST_JOBS, max(LEAST_JOBS if is_longest else 1, free // len(ready)))
+    most = min(MOST_JOBS, 1 + ready[0].lines // LINES_FOR_ONE)
+    return ready[0], min(most, max(LEAST_JOBS if is_longest else 1, free // len(ready)))
 
 
 def estimate(crates, lanes):
