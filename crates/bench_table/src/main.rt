@@ -5,8 +5,8 @@
 //! are live all the while, and no try is made at them. There are no workers, and no report is made
 //! in the end. `bench/table` times it.
 //!
-//! Floor `bench`, over `jade_base`, `jade_lexer`, `jade_meaning`, `jade_parser`, `jade_syntax`,
-//! `jade_types`, `object_table`, `task_codegen` and `task_suspend`.
+//! Floor `bench`, over `code_keeps`, `jade_base`, `jade_lexer`, `jade_meaning`, `jade_parser`,
+//! `jade_syntax`, `jade_types`, `object_table`, `task_codegen` and `task_suspend`.
 #![tactic(auto)]
 
 mod cycles;
@@ -16,6 +16,7 @@ mod tries;
 
 use crate::run::{Load, run_load};
 use crate::stop::Stop;
+use code_keeps::Compiled;
 use jade_lexer::tokens;
 use jade_parser::parse;
 use jade_syntax::Checked;
@@ -24,7 +25,7 @@ use std::alloc::Global;
 use std::env;
 use std::process::ExitCode;
 use std::thread::Threads;
-use task_codegen::{Compiled, compile};
+use task_codegen::compile;
 
 /// The program: four tasks, each with an object of its own and many children that read it.
 const TEXT: &str = "objects s[4] : 1;

@@ -7,13 +7,13 @@ ghost use Rattle.object_table.specs.Rule.{first_view};
 use crate::cycles::{Done, run_cycles};
 use crate::stop::Stop;
 use crate::tries::next_child;
+use code_keeps::Compiled;
 use jade_meaning::Plan;
 use object_table::{ObjectTable, TaskPass};
 use std::alloc::Global;
 use std::marker::Brand;
 use std::mem::forget;
 use std::thread::{Threads, map_vec};
-use task_codegen::Compiled;
 use task_suspend::{Capsule, RunName};
 
 /// The most steps of a task.

@@ -7,3 +7,4 @@ mod Fits
 mod FitTerms
 mod FitStatements
 mod Whole
+pub mod Inputs

@@ -1,9 +1,10 @@
 //! The commands: from words and bytes to a text and a status.
 //!
-//! Floor `command`, over `erased_places`, `fault_order`, `jade_base`, `jade_gen`, `jade_layout`,
-//! `jade_lexer`, `jade_list`, `jade_meaning`, `jade_parser`, `jade_reading`, `jade_syntax`,
-//! `jade_types`, `number_words`, `object_table`, `proc_expand`, `record_parts`, `run_record`,
-//! `run_replay`, `serial_machine`, `steal_workers` and `task_codegen`, with `itoa` of the kit.
+//! Floor `command`, over `code_keeps`, `erased_places`, `fault_order`, `jade_base`, `jade_gen`,
+//! `jade_layout`, `jade_lexer`, `jade_list`, `jade_meaning`, `jade_parser`, `jade_reading`,
+//! `jade_syntax`, `jade_types`, `number_words`, `object_table`, `proc_expand`, `record_parts`,
+//! `run_record`, `run_replay`, `serial_machine`, `steal_workers` and `task_codegen`, with `itoa` of
+//! the kit.
 #![tactic(auto)]
 
 pub mod answer;

@@ -15,6 +15,7 @@ use crate::answer::{Answer, Ready, prepare};
 use crate::run::answer_of;
 use crate::standing::Home;
 use crate::{Status, texts};
+use code_keeps::Compiled;
 use jade_base::{Memory, PathList, Report, TurnLists};
 use jade_meaning::laws::{report_ascends, report_tells};
 use jade_reading::laws::read_is_shaped;
@@ -26,7 +27,7 @@ use std::alloc::Global;
 use std::sync::Wait;
 use std::thread::Threads;
 use steal_workers::{EmptyGate, run_tasks};
-use task_codegen::{Compiled, compile};
+use task_codegen::compile;
 
 /// What bytes are answered with of which this line is the first that breaks the form.
 fn formless(alloc: Global, line: u32) -> Result<Answer, Memory>

@@ -12,11 +12,11 @@ ghost use Rattle.serial_machine.specs.steps.Pausing.{AllHeld};
 
 use crate::level::root;
 use crate::stack::{Stack, path_of, run};
+use code_keeps::Compiled;
 use jade_base::{Blame, CellLists, Memory, Path};
 use jade_list::sequence::Sequence;
 use jade_meaning::laws::stops_in_order;
 use std::alloc::Global;
-use task_codegen::Compiled;
 use task_machine::holdings::Holdings;
 
 /// What a run answers: the task that faults first and why, or the cells of the objects.

@@ -2,8 +2,7 @@
 //! the answer is known.
 //!
 //! Floor `code`, over `access_spec`, `code_keeps`, `code_meaning`, `jade_base`, `jade_list`,
-//! `jade_meaning`, `jade_syntax`, `task_code`, `task_codegen`, `task_machine` and
-//! `task_translation`.
+//! `jade_meaning`, `jade_syntax`, `task_code`, `task_machine` and `task_translation`.
 #![tactic(auto)]
 
 mod answer;

@@ -1,8 +1,8 @@
 //! Workers that run the tasks of a program on many threads, and steal from one another. They know no
 //! talk: `task_suspend` says what a try at a task does, and this crate says who tries next.
 //!
-//! Floor `running`, over `jade_base`, `jade_list`, `jade_meaning`, `jade_syntax`, `object_table`,
-//! `task_codegen`, `task_deque`, `task_machine` and `task_suspend`, with `atomic_table`,
+//! Floor `running`, over `code_keeps`, `jade_base`, `jade_list`, `jade_meaning`, `jade_syntax`,
+//! `object_table`, `task_deque`, `task_machine` and `task_suspend`, with `atomic_table`,
 //! `crossbeam_deque` and `crossbeam_utils` of the kit.
 #![tactic(auto)]
 

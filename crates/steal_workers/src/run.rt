@@ -11,6 +11,7 @@ use crate::gate::Gate;
 use crate::keeper::Over;
 use crate::signals::{Signals, padded_count};
 use crate::worker::Worker;
+use code_keeps::Compiled;
 use crossbeam_utils::CachePadded;
 use jade_base::Memory;
 use jade_meaning::Plan;
@@ -20,7 +21,6 @@ use std::marker::Brand;
 use std::sync::atomic::AtomicU64;
 use std::sync::{Mutex, Wait};
 use std::thread::Threads;
-use task_codegen::Compiled;
 use task_deque::{Owner, Thief, empty, put_task, thief_of};
 use task_suspend::{Capsule, CapsuleLine, Rooms, RunName};
 

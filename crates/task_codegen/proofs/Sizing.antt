@@ -17,12 +17,6 @@ use Rattle.task_translation.specs.Compile.{inputs_in}
 use Rattle.task_codegen.proofs.Chaining.{map_more}
 use Rattle.task_translation.specs.Room.{Calls, calls_of, reach, reaches, needs, room, with_slots, sized}
 
-pub inputs_many : (items : List Item) → length (input_names items) ≡ inputs_in items
-inputs_many [] = refl
-inputs_many (Input x at ∷ items) = ap suc (inputs_many items)
-inputs_many (Single x at size ∷ items) = inputs_many items
-inputs_many (Family x at count size ∷ items) = inputs_many items
-
 pub reaches_more : (os : List Operand) (i j : ℕ) (o : Operand) → slice_get os i ≡ Some o → i + 1 ≡ j → max (reach o) (reaches (drop j os)) ≡ reaches (drop i os)
 reaches_more os i j o at e = sym (ap reaches (drop_item os i o at ∙ ap (λ k. o ∷ drop k os) e))
 

@@ -7,7 +7,7 @@ use Rattle.code_meaning.specs.Meaning.{Body}
 use Rattle.task_translation.specs.Compile.{compiled, inputs_in}
 use Rattle.task_code.specs.Rules.{Valid}
 use Rattle.code_keeps.specs.Keeps.{whole_code, KeepsRules}
-use Rattle.task_codegen.proofs.Sizing.{inputs_many}
+use Rattle.code_keeps.proofs.Inputs.{inputs_many}
 
 module _ (p q : Program) (bodies : List Body) (inputs : ℕ) (cells : List ℕ) (same : q ≡ p) (b : bodies ≡ compiled (program q))
     (i : inputs ≡ length (input_names p.items)) (s : cells ≡ sizes q.items) where

@@ -2,13 +2,13 @@
 
 use crate::store::Store;
 use access_spec::mode_of;
+use code_keeps::Compiled;
 use code_meaning::Body;
 use code_meaning::code::Instruction;
 use jade_base::ObjectId;
 use picture_base::Stop;
 use std::alloc::Global;
 use std::mem;
-use task_codegen::Compiled;
 use task_machine::{Execution, Pause};
 
 /// What comes of one pause.

@@ -2,7 +2,7 @@
 //! steps that it has begun by then, and the line of its `withonly`. The words are LIMIT NUMBER*, the
 //! text is read from standard input. `tools/graph.py` says what each line means, and draws them.
 //!
-//! Floor `pictures`, over `access_spec`, `code_meaning`, `jade_base`, `jade_syntax`,
+//! Floor `pictures`, over `access_spec`, `code_keeps`, `code_meaning`, `jade_base`, `jade_syntax`,
 //! `picture_base`, `task_code`, `task_codegen` and `task_machine`.
 #![tactic(auto)]
 

@@ -2,10 +2,10 @@
 
 use crate::store::Store;
 use crate::told::{tell_ask, tell_declarations};
+use code_keeps::Compiled;
 use picture_base::Stop;
 use std::alloc::Global;
 use std::mem;
-use task_codegen::Compiled;
 use task_machine::{Ask, Machine};
 
 /// A task: its path, and the steps that it had begun when it created its last child.

@@ -9,11 +9,11 @@ ghost use Rattle.task_suspend.specs.steps.Facts.{TiedTo-prop};
 
 use crate::modes::Modes;
 use crate::name::RunName;
+use code_keeps::Compiled;
 use jade_base::{Memory, Path};
 use object_table::TaskPass;
 use std::alloc::Global;
 use std::marker::PhantomData;
-use task_codegen::Compiled;
 use task_machine::{Ask, Machine};
 use task_roll::OnPath;
 

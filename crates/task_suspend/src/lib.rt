@@ -2,9 +2,8 @@
 //! after another, and a room for each object, where the capsules lie that wait for it.
 //!
 //! Floor `running`, over `access_spec`, `code_keeps`, `code_meaning`, `jade_base`, `jade_meaning`,
-//! `jade_syntax`, `object_shelf`, `object_table`, `schedule_core`, `task_code`, `task_codegen`,
-//! `task_machine`, `task_roll`, `task_translation` and `waiting_line`, with `atomic_table` of the
-//! kit.
+//! `jade_syntax`, `object_shelf`, `object_table`, `schedule_core`, `task_code`, `task_machine`,
+//! `task_roll`, `task_translation` and `waiting_line`, with `atomic_table` of the kit.
 #![tactic(auto)]
 
 pub mod capsule;

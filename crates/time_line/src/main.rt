@@ -3,7 +3,7 @@
 //! The times are measured, and nothing is proved of them. `tools/timeline.py` says what each line
 //! means, and draws them. After the word `untimed`, times and threads are left out.
 //!
-//! Floor `pictures`, over `jade_base`, `jade_meaning`, `jade_syntax`, `object_table`,
+//! Floor `pictures`, over `code_keeps`, `jade_base`, `jade_meaning`, `jade_syntax`, `object_table`,
 //! `picture_base`, `steal_workers` and `task_codegen`.
 #![tactic(auto)]
 
@@ -14,6 +14,7 @@ mod words;
 use crate::answer::tell_objects;
 use crate::gate::TimeGate;
 use crate::words::{Words, given};
+use code_keeps::Compiled;
 use jade_base::{Source, StdSource};
 use object_table::Ran;
 use picture_base::{Stop, read_program};
@@ -23,7 +24,7 @@ use std::process::ExitCode;
 use std::sync::Wait;
 use std::thread::Threads;
 use steal_workers::{Gate, run_tasks};
-use task_codegen::{Compiled, compile};
+use task_codegen::compile;
 
 /// Runs the program, if its words are right.
 fn run<'c, R: Threads + Wait + Sync, G: Gate>(

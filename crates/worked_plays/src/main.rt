@@ -6,9 +6,9 @@
 //! serial runs, the plain one and that of the code, must come to the same: where one does not, it
 //! prints a line that says so.
 //!
-//! Floor `worked`, over `fault_order`, `jade_base`, `jade_lexer`, `jade_meaning`, `jade_parser`,
-//! `jade_syntax`, `jade_types`, `schedule_core`, `serial_machine`, `task_codegen` and
-//! `worked_case`.
+//! Floor `worked`, over `code_keeps`, `fault_order`, `jade_base`, `jade_lexer`, `jade_meaning`,
+//! `jade_parser`, `jade_syntax`, `jade_types`, `schedule_core`, `serial_machine`, `task_codegen`
+//! and `worked_case`.
 #![tactic(auto)]
 
 mod case;

@@ -4,13 +4,14 @@ ghost use Rattle.std.specs.Prelude.{◌≡◌, ◌≤◌, length};
 ghost use Rattle.jade_syntax.specs.Objects.{input_names};
 
 use crate::text::{fault_text, objects_text, report_text, turns_text};
+use code_keeps::Compiled;
 use fault_order::{first, key_is_before, limit_place};
 use jade_base::{Blame, FaultKind, Report};
 use jade_meaning::serial_run;
 use jade_syntax::Checked;
 use serial_machine::{RunAnswer, run_serial};
 use std::alloc::Global;
-use task_codegen::{Compiled, compile};
+use task_codegen::compile;
 use worked_case::Stop;
 
 /// The blame of a task whose part passes the limit.

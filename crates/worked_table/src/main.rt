@@ -3,8 +3,8 @@
 //! what came of the try, and which tasks come out of a room; then the report. The schedules differ,
 //! the reports don't.
 //!
-//! Floor `worked`, over `jade_base`, `jade_lexer`, `jade_meaning`, `jade_parser`, `jade_syntax`,
-//! `jade_types`, `object_table`, `task_codegen`, `task_machine` and `task_suspend`.
+//! Floor `worked`, over `code_keeps`, `jade_base`, `jade_lexer`, `jade_meaning`, `jade_parser`,
+//! `jade_syntax`, `jade_types`, `object_table`, `task_codegen`, `task_machine` and `task_suspend`.
 #![tactic(auto)]
 
 mod run;
@@ -16,6 +16,7 @@ mod words;
 use crate::run::run_by;
 use crate::schedules::{SCHEDULES, Schedule, TEXT};
 use crate::stop::Stop;
+use code_keeps::Compiled;
 use jade_lexer::tokens;
 use jade_parser::parse;
 use jade_syntax::Checked;
@@ -23,7 +24,7 @@ use jade_types::check;
 use std::alloc::Global;
 use std::process::ExitCode;
 use std::sync::Wait;
-use task_codegen::{Compiled, compile};
+use task_codegen::compile;
 
 /// The checked program of a text; nothing where it is refused, or for want of memory.
 fn checked(alloc: Global, text: &[u8]) -> Option<Checked> {

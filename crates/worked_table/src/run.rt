@@ -8,12 +8,12 @@ use crate::schedules::{Move, Schedule};
 use crate::stop::Stop;
 use crate::tasks::{Answer, Tasks};
 use crate::words::{answer_word, report_text};
+use code_keeps::Compiled;
 use jade_meaning::Plan;
 use object_table::{ObjectTable, Ran, TaskPass};
 use std::alloc::Global;
 use std::marker::Brand;
 use std::sync::Wait;
-use task_codegen::Compiled;
 use task_suspend::{Capsule, Resigned, RunName, attempt};
 
 /// The most steps of a part of a task.

@@ -5,7 +5,7 @@ use Rattle.jade_syntax.specs.Objects.{sizes}
 use Rattle.jade_meaning.specs.Answer.{Cells}
 use Rattle.jade_meaning.specs.Serial.{zeros}
 use Rattle.task_code.specs.Rules.{TaskCode}
-use Rattle.task_codegen.proofs.Sizing.{inputs_many}
+use Rattle.code_keeps.proofs.Inputs.{inputs_many}
 use Rattle.task_machine.specs.Whole.{all_held}
 use Rattle.task_machine.specs.steps.Holding.{contents_of}
 use Rattle.serial_machine.specs.declared.level.Level.{Level}

@@ -2,7 +2,7 @@ use Rattle.std.proofs.Common.{◌≡◌, ℕ, ◌^◌, ◌<◌, length, sym, ap,
 use Rattle.jade_syntax.specs.CheckedProgram.{CheckedProgram}
 use Rattle.jade_syntax.specs.Objects.{sizes}
 use Rattle.task_code.specs.Rules.{TaskCode}
-use Rattle.task_codegen.proofs.Sizing.{inputs_many}
+use Rattle.code_keeps.proofs.Inputs.{inputs_many}
 use Rattle.task_suspend.proofs.Beginning.{rooted}
 use Rattle.task_suspend.proofs.capsule.Capsule.root.Goals as goal
 

@@ -5,7 +5,7 @@ use Rattle.jade_meaning.specs.Course.{root_spec}
 use Rattle.code_meaning.specs.Meaning.{code_course}
 use Rattle.code_keeps.specs.Keeps.{whole_code}
 use Rattle.task_code.specs.Rules.{TaskCode}
-use Rattle.task_codegen.proofs.program.Compiled.code.Goals as goal
+use Rattle.code_keeps.proofs.compiled.Compiled.code.Goals as goal
 
 pub returns-clause-follows : goal.returns-clause-follows
 returns-clause-follows c =
