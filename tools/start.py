@@ -259,7 +259,8 @@ def main():
     count = lanes_here()
     say(
         f"{len(left)} of {len(crates)} crates are to be proved and built first, {count} at a time; where nothing else runs "
-        f"that takes about {minutes(max(60, estimate(left, count)))}; what rt prints goes to {log}"
+        f"that takes about {minutes(max(60, estimate(left, count)))} (`./jade try` answers in one, with no proof); what rt "
+        f"prints goes to {log}"
     )
     signal.signal(signal.SIGTERM, lambda number, _: sys.exit(128 + number))
     with tempfile.TemporaryDirectory(prefix="jade-start-") as room:
