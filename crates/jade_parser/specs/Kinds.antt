@@ -1,27 +1,5 @@
 -- What the bytes of a token say that it is.
-use Rattle.std.specs.Prelude.{
-  ◌≡◌,
-  ℕ,
-  ◌≤◌,
-  Bool,
-  true,
-  false,
-  not,
-  ◌&&◌,
-  ◌||◌,
-  ◌==◌,
-  nat_le,
-  if◌then◌else◌,
-  List,
-  [],
-  ◌∷◌,
-  length,
-  codes,
-  Option,
-  Some,
-  None,
-  ℤ,
-}
+use Rattle.std.specs.Prelude.{◌≡◌, ℕ, ◌≤◌, Bool, true, false, not, ◌&&◌, ◌==◌, nat_le, if◌then◌else◌, List, [], ◌∷◌, length, codes, Option, Some, None, ℤ}
 use Rattle.std.specs.Fmt.{signed_decimal}
 use Rattle.jade_lexer.specs.Alphabet.{is_run, value_after}
 use Rattle.jade_alphabet.specs.declared.TheConstants.{WORD_LIMIT, GREATEST_NUMBER}

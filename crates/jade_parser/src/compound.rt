@@ -12,6 +12,7 @@ ghost use Rattle.jade_syntax.specs.declared.shapes.place.BlockKind.TheVariants.{
 ghost use Rattle.jade_parser.specs.declared.Sign.TheVariants.{IfWord, ForWord, WithonlyWord, WithWord};
 
 use crate::begins::{Begin, begin_of};
+use crate::growing::put;
 use crate::leaves::{expect, pos_at, sign_at};
 use crate::names::name_at;
 use crate::outer::parse_outer;
@@ -44,19 +45,15 @@ pub fn parse_block(
     requires known { Known tokens.now }
     ensures { ParsedIn (FitsAll place) block_parts tokens.now start (block_in place) [] result }
 {
-    let mut at = match expect(tokens, start, Sign::LeftBrace) {
-        Ok(at) => at,
-        Err(e) => return Err(e),
-    };
+    let mut at = expect(tokens, start, Sign::LeftBrace)?;
     let mut all = Block::empty(alloc);
     'statements: loop {
-        match parse_statement(alloc, tokens, at, place) {
-            Ok(None) => return Ok((all, at + 1)),
-            Ok(Some((next, after))) => match all.push(next) {
-                Ok(()) => at = after,
-                Err(_) => return Err(Stop::Memory),
-            },
-            Err(e) => return Err(e),
+        match parse_statement(alloc, tokens, at, place)? {
+            None => return Ok((all, at + 1)),
+            Some((next, after)) => {
+                put(&mut all, next)?;
+                at = after;
+            }
         }
     }
 }

@@ -6,6 +6,7 @@ ghost use Rattle.jade_parser.specs.Spelled.{expr_parts, and_parts, compare_parts
 ghost use Rattle.jade_parser.specs.Spelled.{Called, marked, fixed};
 ghost use Rattle.jade_parser.specs.declared.Sign.TheVariants.{LeftBracket, RightBracket};
 
+use crate::growing::put;
 use crate::leaves::{
     and_op, bracket, expect, or_op, pos_at, product_op, relation, sum_op, unary_op,
 };
@@ -28,10 +29,8 @@ fn signs(alloc: Global, tokens: &[Seen<'_>], start: usize) -> Result<(Signs, usi
     let mut at = start;
     while let Some(op) = unary_op(tokens, at) {
         let pos = pos_at(tokens, at);
-        match all.push((op, pos)) {
-            Ok(()) => at += 1,
-            Err(_) => return Err(Stop::Memory),
-        }
+        put(&mut all, (op, pos))?;
+        at += 1;
     }
     Ok((all, at))
 }
@@ -50,14 +49,9 @@ pub(crate) fn parse_expr(
     let mut rest = AndExprs::empty(alloc);
     'chain: while or_op(tokens, at) {
         let pos = pos_at(tokens, at);
-        let (next, after) = match parse_and(alloc, tokens, at + 1) {
-            Ok(read) => read,
-            Err(e) => return Err(e),
-        };
-        match rest.push((pos, next)) {
-            Ok(()) => at = after,
-            Err(_) => return Err(Stop::Memory),
-        }
+        let (next, after) = parse_and(alloc, tokens, at + 1)?;
+        put(&mut rest, (pos, next))?;
+        at = after;
     }
     Ok((Expr { first, rest }, at))
 }
@@ -72,14 +66,9 @@ fn parse_and(alloc: Global, tokens: &[Seen<'_>], start: usize) -> Result<(AndExp
     let mut rest = Compares::empty(alloc);
     'chain: while and_op(tokens, at) {
         let pos = pos_at(tokens, at);
-        let (next, after) = match parse_compare(alloc, tokens, at + 1) {
-            Ok(read) => read,
-            Err(e) => return Err(e),
-        };
-        match rest.push((pos, next)) {
-            Ok(()) => at = after,
-            Err(_) => return Err(Stop::Memory),
-        }
+        let (next, after) = parse_compare(alloc, tokens, at + 1)?;
+        put(&mut rest, (pos, next))?;
+        at = after;
     }
     Ok((AndExpr { first, rest }, at))
 }
@@ -117,14 +106,9 @@ fn parse_sum(alloc: Global, tokens: &[Seen<'_>], start: usize) -> Result<(Sum, u
     let mut rest = Products::empty(alloc);
     'chain: while let Some(op) = sum_op(tokens, at) {
         let pos = pos_at(tokens, at);
-        let (next, after) = match parse_product(alloc, tokens, at + 1) {
-            Ok(read) => read,
-            Err(e) => return Err(e),
-        };
-        match rest.push((op, pos, next)) {
-            Ok(()) => at = after,
-            Err(_) => return Err(Stop::Memory),
-        }
+        let (next, after) = parse_product(alloc, tokens, at + 1)?;
+        put(&mut rest, (op, pos, next))?;
+        at = after;
     }
     Ok((Sum { first, rest }, at))
 }
@@ -139,14 +123,9 @@ fn parse_product(alloc: Global, tokens: &[Seen<'_>], start: usize) -> Result<(Pr
     let mut rest = Unaries::empty(alloc);
     'chain: while let Some(op) = product_op(tokens, at) {
         let pos = pos_at(tokens, at);
-        let (next, after) = match parse_unary(alloc, tokens, at + 1) {
-            Ok(read) => read,
-            Err(e) => return Err(e),
-        };
-        match rest.push((op, pos, next)) {
-            Ok(()) => at = after,
-            Err(_) => return Err(Stop::Memory),
-        }
+        let (next, after) = parse_unary(alloc, tokens, at + 1)?;
+        put(&mut rest, (op, pos, next))?;
+        at = after;
     }
     Ok((Product { first, rest }, at))
 }

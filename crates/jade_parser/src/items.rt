@@ -9,6 +9,7 @@ ghost use Rattle.jade_parser.specs.Programs.{between_parts, item_parts, head_par
 ghost use Rattle.jade_parser.specs.steps.Openings.{opening_of, OpeningAt, ItemAt, size_in, count_in, body_in};
 ghost use Rattle.jade_parser.specs.declared.Sign.TheVariants.{InputWord, ObjectWord, ObjectsWord, Semicolon};
 
+use crate::growing::put;
 use crate::leaves::{expect, pos_at, sign_at};
 use crate::names::{name_at, number_at};
 use crate::{Seen, Sign, Stop};
@@ -143,13 +144,12 @@ pub fn parse_items(alloc: Global, tokens: &[Seen<'_>]) -> Result<(Items, usize),
     let mut all = Items::empty(alloc);
     let mut at = 0;
     'items: loop {
-        match parse_item(alloc, tokens, at) {
-            Ok(None) => return Ok((all, at + 1)),
-            Ok(Some((item, after))) => match all.push(item) {
-                Ok(()) => at = after,
-                Err(_) => return Err(Stop::Memory),
-            },
-            Err(e) => return Err(e),
+        match parse_item(alloc, tokens, at)? {
+            None => return Ok((all, at + 1)),
+            Some((item, after)) => {
+                put(&mut all, item)?;
+                at = after;
+            }
         }
     }
 }

@@ -7,6 +7,7 @@
 mod begins;
 mod compound;
 mod expressions;
+mod growing;
 mod items;
 mod kinds;
 pub mod laws;

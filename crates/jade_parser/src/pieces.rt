@@ -7,6 +7,7 @@ ghost use Rattle.jade_parser.specs.Statements.{object_parts};
 ghost use Rattle.jade_parser.specs.steps.Forms.{ParsedAs, NoHead, ended, indexes, declared, named_list};
 ghost use Rattle.jade_parser.specs.declared.Sign.TheVariants.{LeftParen, RightParen, RightBracket, Semicolon};
 
+use crate::growing::put;
 use crate::leaves::{bracket, expect, pos_at, same, sign_at};
 use crate::names::name_at;
 use crate::outer::parse_outer;
@@ -36,14 +37,9 @@ pub fn parse_ended(
     requires known { Known tokens.now }
     ensures { ParsedAs (ended closer) tokens.now start (expr_in ++ Must closer ∷ []) result }
 {
-    let (inner, at) = match parse_outer(alloc, tokens, start) {
-        Ok(read) => read,
-        Err(e) => return Err(e),
-    };
-    match expect(tokens, at, closer) {
-        Ok(at) => Ok((inner, at)),
-        Err(e) => Err(e),
-    }
+    let (inner, at) = parse_outer(alloc, tokens, start)?;
+    let at = expect(tokens, at, closer)?;
+    Ok((inner, at))
 }
 
 /// The indexes of a target, whose first bracket was read: the member's, if there are two, and the
@@ -57,15 +53,10 @@ pub fn parse_indexes(
     requires known { Known tokens.now }
     ensures { ParsedAs indexes tokens.now start (expr_in ++ Must RightBracket ∷ Second ∷ []) result }
 {
-    let (first, at) = match parse_ended(alloc, tokens, start, Sign::RightBracket) {
-        Ok(read) => read,
-        Err(e) => return Err(e),
-    };
+    let (first, at) = parse_ended(alloc, tokens, start, Sign::RightBracket)?;
     if bracket(tokens, at) {
-        match parse_ended(alloc, tokens, at + 1, Sign::RightBracket) {
-            Ok((cell, at)) => Ok(((Some(first), cell), at)),
-            Err(e) => Err(e),
-        }
+        let (cell, at) = parse_ended(alloc, tokens, at + 1, Sign::RightBracket)?;
+        Ok(((Some(first), cell), at))
     } else {
         Ok(((None, first), at))
     }
@@ -82,23 +73,18 @@ pub fn parse_object(
     ensures { ParsedAs object_parts tokens.now start (NameIs ∷ Second ∷ []) result }
 {
     let pos = pos_at(tokens, start);
-    let name = match name_at(alloc, tokens, start) {
-        Ok(name) => name,
-        Err(e) => return Err(e),
-    };
+    let name = name_at(alloc, tokens, start)?;
     let at = start + 1;
     if bracket(tokens, at) {
-        match parse_ended(alloc, tokens, at + 1, Sign::RightBracket) {
-            Ok((member, at)) => Ok((
-                ObjectRef {
-                    name,
-                    pos,
-                    member: Some(member),
-                },
-                at,
-            )),
-            Err(e) => Err(e),
-        }
+        let (member, at) = parse_ended(alloc, tokens, at + 1, Sign::RightBracket)?;
+        Ok((
+            ObjectRef {
+                name,
+                pos,
+                member: Some(member),
+            },
+            at,
+        ))
     } else {
         Ok((
             ObjectRef {
@@ -121,22 +107,11 @@ pub fn parse_declared(
     requires known { Known tokens.now }
     ensures { ParsedAs declared tokens.now start (Must LeftParen ∷ NameIs ∷ Second ∷ Must RightParen ∷ Must Semicolon ∷ []) result }
 {
-    let opened = match expect(tokens, start, Sign::LeftParen) {
-        Ok(at) => at,
-        Err(e) => return Err(e),
-    };
-    let (object, named) = match parse_object(alloc, tokens, opened) {
-        Ok(read) => read,
-        Err(e) => return Err(e),
-    };
-    let closed = match expect(tokens, named, Sign::RightParen) {
-        Ok(at) => at,
-        Err(e) => return Err(e),
-    };
-    match expect(tokens, closed, Sign::Semicolon) {
-        Ok(at) => Ok((object, at)),
-        Err(e) => Err(e),
-    }
+    let opened = expect(tokens, start, Sign::LeftParen)?;
+    let (object, named) = parse_object(alloc, tokens, opened)?;
+    let closed = expect(tokens, named, Sign::RightParen)?;
+    let at = expect(tokens, closed, Sign::Semicolon)?;
+    Ok((object, at))
 }
 
 /// The names of a `do` list, whose parenthesis was read, and the one that ends them.
@@ -154,28 +129,17 @@ pub fn parse_names(
         return Ok((all, start + 1));
     }
     let pos = pos_at(tokens, start);
-    let name = match name_at(alloc, tokens, start) {
-        Ok(name) => name,
-        Err(e) => return Err(e),
-    };
-    match all.push(Named { name, pos }) {
-        Ok(()) => {}
-        Err(_) => return Err(Stop::Memory),
-    }
+    let name = name_at(alloc, tokens, start)?;
+    put(&mut all, Named { name, pos })?;
     let mut at = start + 1;
     'names: while !is_at(tokens, at, Sign::RightParen) {
         if !is_at(tokens, at, Sign::Comma) {
             return Err(Stop::Token(at));
         }
         let pos = pos_at(tokens, at + 1);
-        let name = match name_at(alloc, tokens, at + 1) {
-            Ok(name) => name,
-            Err(e) => return Err(e),
-        };
-        match all.push(Named { name, pos }) {
-            Ok(()) => at += 2,
-            Err(_) => return Err(Stop::Memory),
-        }
+        let name = name_at(alloc, tokens, at + 1)?;
+        put(&mut all, Named { name, pos })?;
+        at += 2;
     }
     Ok((all, at + 1))
 }

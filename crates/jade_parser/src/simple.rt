@@ -37,26 +37,18 @@ pub fn parse_local(
 {
     let named = start + 1;
     let pos = pos_at(tokens, named);
-    let name = match name_at(alloc, tokens, named) {
-        Ok(name) => name,
-        Err(e) => return Err(e),
-    };
-    let at = match expect(tokens, named + 1, Sign::Becomes) {
-        Ok(at) => at,
-        Err(e) => return Err(e),
-    };
-    match parse_ended(alloc, tokens, at, Sign::Semicolon) {
-        Ok((value, end)) => Ok((
-            Statement::Local {
-                kind,
-                name,
-                pos,
-                value,
-            },
-            end,
-        )),
-        Err(e) => Err(e),
-    }
+    let name = name_at(alloc, tokens, named)?;
+    let at = expect(tokens, named + 1, Sign::Becomes)?;
+    let (value, end) = parse_ended(alloc, tokens, at, Sign::Semicolon)?;
+    Ok((
+        Statement::Local {
+            kind,
+            name,
+            pos,
+            value,
+        },
+        end,
+    ))
 }
 
 /// A declaration, whose word was read.
@@ -74,10 +66,8 @@ pub fn parse_declare(
     ensures { ParsedIn (Fits place) statement_parts tokens.now start (Body place ∷ []) (Body place ∷ []) result }
 {
     let pos = pos_at(tokens, start);
-    match parse_declared(alloc, tokens, start + 1) {
-        Ok((object, end)) => Ok((Statement::Declare { word, pos, object }, end)),
-        Err(e) => Err(e),
-    }
+    let (object, end) = parse_declared(alloc, tokens, start + 1)?;
+    Ok((Statement::Declare { word, pos, object }, end))
 }
 
 /// An assignment, whose name and sign were read.
@@ -95,10 +85,8 @@ fn parse_assign(
     requires known { Known tokens.now }
     ensures { ParsedIn (Fits place) statement_parts tokens.now start (Body place ∷ []) (Body place ∷ []) result }
 {
-    match parse_ended(alloc, tokens, next, Sign::Semicolon) {
-        Ok((value, end)) => Ok((Statement::Assign { name, pos, value }, end)),
-        Err(e) => Err(e),
-    }
+    let (value, end) = parse_ended(alloc, tokens, next, Sign::Semicolon)?;
+    Ok((Statement::Assign { name, pos, value }, end))
 }
 
 /// A store, whose name and first bracket were read.
@@ -119,26 +107,16 @@ fn parse_store(
     requires known { Known tokens.now }
     ensures { ParsedIn (Fits place) statement_parts tokens.now start (Body place ∷ []) (Body place ∷ []) result }
 {
-    let ((family, cell), closed) = match parse_indexes(alloc, tokens, next) {
-        Ok(read) => read,
-        Err(e) => return Err(e),
+    let ((family, cell), closed) = parse_indexes(alloc, tokens, next)?;
+    let at = expect(tokens, closed, Sign::Becomes)?;
+    let (value, end) = parse_ended(alloc, tokens, at, Sign::Semicolon)?;
+    let target = CellRef {
+        name,
+        pos,
+        family,
+        cell,
     };
-    let at = match expect(tokens, closed, Sign::Becomes) {
-        Ok(at) => at,
-        Err(e) => return Err(e),
-    };
-    match parse_ended(alloc, tokens, at, Sign::Semicolon) {
-        Ok((value, end)) => {
-            let target = CellRef {
-                name,
-                pos,
-                family,
-                cell,
-            };
-            Ok((Statement::Store { target, value }, end))
-        }
-        Err(e) => Err(e),
-    }
+    Ok((Statement::Store { target, value }, end))
 }
 
 /// A statement that begins with a name.
@@ -154,10 +132,7 @@ pub fn parse_named(
     ensures { ParsedIn (Fits place) statement_parts tokens.now start (Body place ∷ []) (Body place ∷ []) result }
 {
     let pos = pos_at(tokens, start);
-    let name = match name_at(alloc, tokens, start) {
-        Ok(name) => name,
-        Err(e) => return Err(e),
-    };
+    let name = name_at(alloc, tokens, start)?;
     let at = start + 1;
     if is_at(tokens, at, Sign::Becomes) {
         return parse_assign(alloc, tokens, start, at + 1, name, pos, place);

@@ -7,21 +7,23 @@ use Rattle.jade_parser.proofs.Compounds.{names_refused, task_refused, withonly_r
 use Rattle.jade_parser.proofs.Compounds.{cont_refused, with_open, with_read}
 use Rattle.jade_parser.proofs.compound.+statement.Goals as goal
 
-pub parse_block-returns-in-Err : goal.parse_block-returns-in-Err
-parse_block-returns-in-Err t c = block_unopened _ _ _ _ c.requires.within c.in-Err.ensures
+pub parse_block-returns-in_err-at : goal.parse_block-returns-in_err-at
+parse_block-returns-in_err-at t c = residual _ _ _ _ c.from_residual.ensures.1 (block_unopened _ _ _ _ c.requires.within c.in_err-at.ensures)
 
-pub parse_block-returns-in-Err-parse_statement : goal.parse_block-returns-in-Err-parse_statement
-parse_block-returns-in-Err-parse_statement t c = block_refused _ _ _ _ _ _ c.statements.invariant c.in-Err-parse_statement.ensures
+pub parse_block-returns-in_err-parse_statement : goal.parse_block-returns-in_err-parse_statement
+parse_block-returns-in_err-parse_statement t c =
+    residual _ _ _ _ c.from_residual-in_err-parse_statement.ensures.1
+    (block_refused _ _ _ _ _ _ c.statements.invariant c.in_err-parse_statement.ensures)
 
 pub parse_block-statements-preserved : goal.parse_block-statements-preserved
 parse_block-statements-preserved t c =
-    block_kept _ _ _ _ _ _ _ _ c.in-Ok-push.ensures c.statements.invariant (rw c.in-Ok-Some.field-0-is at c.in-Ok-Some.ensures)
+    block_kept _ _ _ _ _ _ _ _ c.in_ok-put-in-Some.ensures c.statements.invariant (rw c.in-Some.is at c.in_ok-parse_statement.ensures)
 
 pub parse_block-statements-init : goal.parse_block-statements-init
-parse_block-statements-init t c = block_opened _ _ _ _ _ c.empty-all.ensures c.in-Ok.ensures
+parse_block-statements-init t c = block_opened _ _ _ _ _ c.empty-all.ensures c.in_ok-at.ensures
 
-pub parse_block-returns-in-Ok-None : goal.parse_block-returns-in-Ok-None
-parse_block-returns-in-Ok-None t c = block_read _ _ _ _ _ c.statements.invariant (rw c.in-Ok-None.field-0-is at c.in-Ok-None.ensures)
+pub parse_block-returns-in-None : goal.parse_block-returns-in-None
+parse_block-returns-in-None t c = block_read _ _ _ _ _ c.statements.invariant (rw c.in-None.is at c.in_ok-parse_statement.ensures)
 
 pub parse_if-returns-in_err-test : goal.parse_if-returns-in_err-test
 parse_if-returns-in_err-test t c = residual _ _ _ _ c.from_residual.ensures.1 (test_refused _ _ _ c.requires.read _ c.in_err-test.ensures)

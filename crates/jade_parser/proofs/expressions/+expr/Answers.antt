@@ -26,16 +26,16 @@ parse_and-returns-in_err-first t c =
     (chain_first and_parts compare_parts compare_in 4 and_part (λ y ps. roll-AndExpr (record { first = y; rest = ps })) and_made _ _ _ c.requires.within
     c.in_err-first.ensures)
 
-pub parse_and-returns-in-Err : goal.parse_and-returns-in-Err
-parse_and-returns-in-Err t c = chain_more and_parts compare_parts compare_in 4 and_part (λ y ps. roll-AndExpr (record { first = y; rest = ps })) and_made _
+pub parse_and-returns-in_err-next : goal.parse_and-returns-in_err-next
+parse_and-returns-in_err-next t c = residual _ _ _ _ c.from_residual-in_err-next.ensures.1 (chain_more and_parts compare_parts compare_in 4 and_part (λ y ps. roll-AndExpr (record { first = y; rest = ps })) and_made _
     _ _
     _ _ _ _ (λ y. (c.pos_at-pos.result, y)) _ (λ y. rw c.pos_at-pos.ensures refl) c.chain.invariant (c.and_op.ensures.yes c.chain-test.true)
-    c.in-Err.ensures
+    c.in_err-next.ensures)
 
 pub parse_and-chain-preserved : goal.parse_and-chain-preserved
 parse_and-chain-preserved t c =
     chain_kept and_parts compare_parts compare_in 4 and_part (λ y ps. roll-AndExpr (record { first = y; rest = ps })) and_made _ _ _ _ _ _ _ _ _ _ _
-    (rw c.pos_at-pos.ensures refl) c.in-Ok-push.ensures c.chain.invariant (c.and_op.ensures.yes c.chain-test.true) c.in-Ok.ensures
+    (rw c.pos_at-pos.ensures refl) c.in_ok-put.ensures c.chain.invariant (c.and_op.ensures.yes c.chain-test.true) c.in_ok-next.ensures
 
 pub parse_and-returns : goal.parse_and-returns
 parse_and-returns t c = chain_done and_parts compare_parts compare_in 4 and_part (λ y ps. roll-AndExpr (record { first = y; rest = ps })) and_made _ _ _ _
@@ -93,15 +93,14 @@ parse_expr-returns-in_err-first t c =
     (chain_first expr_parts and_parts and_in 5 or_part (λ y ps. roll-Expr (record { first = y; rest = ps })) expr_made _ _ _ c.requires.within
     c.in_err-first.ensures)
 
-pub parse_expr-returns-in-Err : goal.parse_expr-returns-in-Err
-parse_expr-returns-in-Err t c =
-    chain_more expr_parts and_parts and_in 5 or_part (λ y ps. roll-Expr (record { first = y; rest = ps })) expr_made _ _ _ _ _ _ _
-    (λ y. (c.pos_at-pos.result, y)) _ (λ y. rw c.pos_at-pos.ensures refl) c.chain.invariant (c.or_op.ensures.yes c.chain-test.true) c.in-Err.ensures
+pub parse_expr-returns-in_err-next : goal.parse_expr-returns-in_err-next
+parse_expr-returns-in_err-next t c = residual _ _ _ _ c.from_residual-in_err-next.ensures.1 (chain_more expr_parts and_parts and_in 5 or_part (λ y ps. roll-Expr (record { first = y; rest = ps })) expr_made _ _ _ _ _ _ _
+    (λ y. (c.pos_at-pos.result, y)) _ (λ y. rw c.pos_at-pos.ensures refl) c.chain.invariant (c.or_op.ensures.yes c.chain-test.true) c.in_err-next.ensures)
 
 pub parse_expr-chain-preserved : goal.parse_expr-chain-preserved
 parse_expr-chain-preserved t c =
     chain_kept expr_parts and_parts and_in 5 or_part (λ y ps. roll-Expr (record { first = y; rest = ps })) expr_made _ _ _ _ _ _ _ _ _ _ _
-    (rw c.pos_at-pos.ensures refl) c.in-Ok-push.ensures c.chain.invariant (c.or_op.ensures.yes c.chain-test.true) c.in-Ok.ensures
+    (rw c.pos_at-pos.ensures refl) c.in_ok-put.ensures c.chain.invariant (c.or_op.ensures.yes c.chain-test.true) c.in_ok-next.ensures
 
 pub parse_expr-returns : goal.parse_expr-returns
 parse_expr-returns t c = chain_done expr_parts and_parts and_in 5 or_part (λ y ps. roll-Expr (record { first = y; rest = ps })) expr_made _ _ _ _ _
@@ -135,16 +134,15 @@ parse_product-returns-in_err-first t c =
     c.requires.within
     c.in_err-first.ensures)
 
-pub parse_product-returns-in-Err : goal.parse_product-returns-in-Err
-parse_product-returns-in-Err t c =
-    chain_more product_parts unary_parts unary_in 1 product_part (λ y ps. roll-Product (record { first = y; rest = ps })) product_made _ _ _ _ _ _ _
-    (λ y. (c.in-Some.op, c.pos_at-pos.result, y)) _ (λ y. rw c.pos_at-pos.ensures refl) c.chain.invariant c.in-Some.ensures c.in-Err.ensures
+pub parse_product-returns-in_err-next : goal.parse_product-returns-in_err-next
+parse_product-returns-in_err-next t c = residual _ _ _ _ c.from_residual-in_err-next.ensures.1 (chain_more product_parts unary_parts unary_in 1 product_part (λ y ps. roll-Product (record { first = y; rest = ps })) product_made _ _ _ _ _ _ _
+    (λ y. (c.in-Some.op, c.pos_at-pos.result, y)) _ (λ y. rw c.pos_at-pos.ensures refl) c.chain.invariant c.in-Some.ensures c.in_err-next.ensures)
 
 pub parse_product-chain-preserved : goal.parse_product-chain-preserved
 parse_product-chain-preserved t c =
     chain_kept product_parts unary_parts unary_in 1 product_part (λ y ps. roll-Product (record { first = y; rest = ps })) product_made _ _ _ _ _ _ _ _ _ _
     _
-    (rw c.pos_at-pos.ensures refl) c.in-Ok-push.ensures c.chain.invariant c.in-Some.ensures c.in-Ok.ensures
+    (rw c.pos_at-pos.ensures refl) c.in_ok-put.ensures c.chain.invariant c.in-Some.ensures c.in_ok-next.ensures
 
 pub parse_product-returns : goal.parse_product-returns
 parse_product-returns t c = chain_done product_parts unary_parts unary_in 1 product_part (λ y ps. roll-Product (record { first = y; rest = ps }))
@@ -157,15 +155,15 @@ parse_sum-returns-in_err-first t c =
     (chain_first sum_parts product_parts product_in 2 sum_part (λ y ps. roll-Sum (record { first = y; rest = ps })) sum_made _ _ _ c.requires.within
     c.in_err-first.ensures)
 
-pub parse_sum-returns-in-Err : goal.parse_sum-returns-in-Err
-parse_sum-returns-in-Err t c = chain_more sum_parts product_parts product_in 2 sum_part (λ y ps. roll-Sum (record { first = y; rest = ps })) sum_made _ _ _
+pub parse_sum-returns-in_err-next : goal.parse_sum-returns-in_err-next
+parse_sum-returns-in_err-next t c = residual _ _ _ _ c.from_residual-in_err-next.ensures.1 (chain_more sum_parts product_parts product_in 2 sum_part (λ y ps. roll-Sum (record { first = y; rest = ps })) sum_made _ _ _
     _ _
-    _ _ (λ y. (c.in-Some.op, c.pos_at-pos.result, y)) _ (λ y. rw c.pos_at-pos.ensures refl) c.chain.invariant c.in-Some.ensures c.in-Err.ensures
+    _ _ (λ y. (c.in-Some.op, c.pos_at-pos.result, y)) _ (λ y. rw c.pos_at-pos.ensures refl) c.chain.invariant c.in-Some.ensures c.in_err-next.ensures)
 
 pub parse_sum-chain-preserved : goal.parse_sum-chain-preserved
 parse_sum-chain-preserved t c =
     chain_kept sum_parts product_parts product_in 2 sum_part (λ y ps. roll-Sum (record { first = y; rest = ps })) sum_made _ _ _ _ _ _ _ _ _ _ _
-    (rw c.pos_at-pos.ensures refl) c.in-Ok-push.ensures c.chain.invariant c.in-Some.ensures c.in-Ok.ensures
+    (rw c.pos_at-pos.ensures refl) c.in_ok-put.ensures c.chain.invariant c.in-Some.ensures c.in_ok-next.ensures
 
 pub parse_sum-returns : goal.parse_sum-returns
 parse_sum-returns t c = chain_done sum_parts product_parts product_in 2 sum_part (λ y ps. roll-Sum (record { first = y; rest = ps })) sum_made _ _ _ _ _

@@ -1,11 +1,12 @@
+use Rattle.jade_parser.proofs.Steps.{residual}
 use Rattle.jade_parser.proofs.Pieced.{first_refused, second_refused, second_read}
 use Rattle.jade_parser.proofs.pieces.parse_indexes.Goals as goal
 
-pub returns-in-Err : goal.returns-in-Err
-returns-in-Err c = first_refused _ _ _ c.requires.within c.in-Err.ensures
+pub returns-in_err-first : goal.returns-in_err-first
+returns-in_err-first c = residual _ _ _ _ c.from_residual.ensures.1 (first_refused _ _ _ c.requires.within c.in_err-first.ensures)
 
-pub returns-in-Ok-parse_ended : goal.returns-in-Ok-parse_ended
-returns-in-Ok-parse_ended c = second_read _ _ _ _ _ _ _ c.in-Ok.ensures (c.bracket.ensures.second c.if-bracket.true) c.in-Ok-parse_ended.ensures
+pub returns-in_ok-cell : goal.returns-in_ok-cell
+returns-in_ok-cell c = second_read _ _ _ _ _ _ _ c.in_ok-first.ensures (c.bracket.ensures.second c.if-bracket.true) c.in_ok-cell.ensures
 
-pub returns-in-Err-parse_ended : goal.returns-in-Err-parse_ended
-returns-in-Err-parse_ended c = second_refused _ _ _ _ _ _ c.in-Ok.ensures (c.bracket.ensures.second c.if-bracket.true) c.in-Err-parse_ended.ensures
+pub returns-in_err-cell : goal.returns-in_err-cell
+returns-in_err-cell c = residual _ _ _ _ c.from_residual-in_err-cell.ensures.1 (second_refused _ _ _ _ _ _ c.in_ok-first.ensures (c.bracket.ensures.second c.if-bracket.true) c.in_err-cell.ensures)

@@ -1,16 +1,17 @@
+use Rattle.jade_parser.proofs.Steps.{residual}
 use Rattle.jade_parser.proofs.Simply.{indexes_refused, store_ungiven, store_refused, store_read}
 use Rattle.jade_parser.proofs.simple.parse_store.Goals as goal
 
-pub returns-in-Err : goal.returns-in-Err
-returns-in-Err c = indexes_refused _ _ _ _ _ _ _ c.requires.main c.requires.read c.in-Err.ensures
+pub returns-in_err-family : goal.returns-in_err-family
+returns-in_err-family c = residual _ _ _ _ c.from_residual.ensures.1 (indexes_refused _ _ _ _ _ _ _ c.requires.main c.requires.read c.in_err-family.ensures)
 
-pub returns-in-Err-expect : goal.returns-in-Err-expect
-returns-in-Err-expect c = store_ungiven _ _ _ _ _ _ _ _ _ c.requires.main c.requires.read c.in-Ok.ensures c.in-Err-expect.ensures
+pub returns-in_err-at : goal.returns-in_err-at
+returns-in_err-at c = residual _ _ _ _ c.from_residual-in_err-at.ensures.1 (store_ungiven _ _ _ _ _ _ _ _ _ c.requires.main c.requires.read c.in_ok-family.ensures c.in_err-at.ensures)
 
-pub returns-in-Ok-parse_ended : goal.returns-in-Ok-parse_ended
-returns-in-Ok-parse_ended c = store_read _ _ _ _ _ _ _ _ _ _ _ _ c.requires.main c.requires.further c.requires.read c.in-Ok.ensures c.in-Ok-expect.ensures
-    c.in-Ok-parse_ended.ensures
+pub returns : goal.returns
+returns c = store_read _ _ _ _ _ _ _ _ _ _ _ _ c.requires.main c.requires.further c.requires.read c.in_ok-family.ensures c.in_ok-at.ensures
+    c.in_ok-value.ensures
 
-pub returns-in-Err-parse_ended : goal.returns-in-Err-parse_ended
-returns-in-Err-parse_ended c = store_refused _ _ _ _ _ _ _ _ _ _ c.requires.main c.requires.read c.in-Ok.ensures c.in-Ok-expect.ensures
-    c.in-Err-parse_ended.ensures
+pub returns-in_err-value : goal.returns-in_err-value
+returns-in_err-value c = residual _ _ _ _ c.from_residual-in_err-value.ensures.1 (store_refused _ _ _ _ _ _ _ _ _ _ c.requires.main c.requires.read c.in_ok-family.ensures c.in_ok-at.ensures
+    c.in_err-value.ensures)
