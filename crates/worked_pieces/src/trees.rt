@@ -5,8 +5,8 @@ use jade_base::Pos;
 use jade_list::sequence::Sequence;
 use jade_syntax::Name;
 use jade_syntax::tree::{
-    AndExpr, Atom, Block, Compare, DeclareWord, Expr, Number, ObjectRef, Product, Program,
-    Statement, Sum, SumOp, Unary, ValueKind,
+    AndExpr, Atom, Compare, DeclareWord, Expr, Number, ObjectRef, Product, Program, Statement, Sum,
+    SumOp, Unary, ValueKind,
 };
 use std::alloc::Global;
 
@@ -74,17 +74,18 @@ fn name(alloc: Global, bytes: &[u8]) -> Result<Name, Stop> {
     }
 }
 
-fn block_of(alloc: Global, statement: Statement) -> Result<Block, Stop> {
-    let mut block = Sequence::empty(alloc);
-    match block.push(statement) {
-        Ok(()) => Ok(block),
+/// A list with one item.
+fn list_of<T: Drop>(alloc: Global, item: T) -> Result<Sequence<T>, Stop> {
+    let mut list = Sequence::empty(alloc);
+    match list.push(item) {
+        Ok(()) => Ok(list),
         Err(_) => Err(Stop),
     }
 }
 
 /// Whether `main` with one statement is a program.
 fn is_program(alloc: Global, statement: Statement) -> Result<bool, Stop> {
-    let main = block_of(alloc, statement)?;
+    let main = list_of(alloc, statement)?;
     Ok(Program::of(Sequence::empty(alloc), main).is_ok())
 }
 
@@ -115,7 +116,7 @@ fn declare(alloc: Global, word: DeclareWord) -> Result<Statement, Stop> {
 
 /// Whether `main { with { word(a); } cont; }` is a program.
 fn amends(alloc: Global, word: DeclareWord) -> Result<bool, Stop> {
-    let section = block_of(alloc, declare(alloc, word)?)?;
+    let section = list_of(alloc, declare(alloc, word)?)?;
     is_program(alloc, Statement::With { pos: AT, section })
 }
 
