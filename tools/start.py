@@ -26,7 +26,7 @@ from programs import TOP, built
 
 # About how long one processor takes for a line, in seconds; how much of another one each further processor adds;
 # and how much memory a crate may take, in bytes.
-SECONDS, FURTHER, MEMORY = 0.06, 0.5, 3_000_000_000
+SECONDS, FURTHER, MEMORY = 0.052, 0.5, 3_000_000_000
 
 # The most processors for one crate, and the least for one that the most others wait for; for how many lines one more
 # processor pays, since each first reads what all crates below have proved; how often it is looked whether one has ended,
