@@ -4,22 +4,20 @@
     start.py PROGRAM..      the programs of these crates, each with all crates below it that need it
 
 `./jade` calls this. It first says how many crates are to be proved and about how long that takes, then writes a line for
-each as it begins, and at the end one; what `rt` prints goes to a file that the first line names. Where a crate
+each as it begins, and at the end one; what the compiler prints goes to a file that the first line names. Where a crate
 fails, the last lines of that are shown, and the status is 1.
 
-`rt` works in the folder of a crate and keeps any other `rt` out of that and of the folders of all crates below, so
-two of them never work side by side in one checkout. Here each lane has a copy of the sources outside of the
-checkout. What a lane has built is given to the other lanes and to the checkout at once, by links where the disk can,
-so that a start that is broken off goes on from there.
+It calls the kit's compiler itself, as `rt ci` does: of a library it keeps the statements, in out/start of its crate, and
+not the proofs, so that a crate above reads what it can cite and no more. `rt check` keeps the proofs too, for what it
+proves again after an edit, and lets no other work in the folders of crates below. A start that is broken off goes on with
+the crates that it had not ended.
 """
 import fcntl
 import os
 import pathlib
-import shutil
 import signal
 import subprocess
 import sys
-import tempfile
 import time
 
 from programs import TOP, built
@@ -40,18 +38,27 @@ class Crate:
     """A crate of crates.txt, with those that it stands on."""
 
     def __init__(self, name, line, below):
-        self.name, self.line, self.below, self.folder = name, line, below, TOP / "crates" / name
+        self.name, self.below, self.folder = name, below, TOP / "crates" / name
         self.is_program = (self.folder / "src/main.rt").exists()
+        self.source = "src/main.rt" if self.is_program else "src/lib.rt"
+        # What it names: crates of crates.txt and libraries of the kit.
+        self.names = line.partition(":")[2].split()
+        kept = self.folder / "out/start"
+        self.object, self.said = kept / f"{name}.o", kept / "said"
+        self.made = built(name) if self.is_program else kept / f"{name}.rlib"
         files = [file for part in PARTS for file in (self.folder / part).rglob("*") if file.is_file()]
         self.lines = sum(file.read_bytes().count(b"\n") for file in files)
         # When the newest of what it is made from was written.
         own = max((file.stat().st_mtime for file in files), default=0)
         self.written = max([own] + [crate.written for crate in below])
 
+    def all_below(self):
+        """The crates that it stands on, each once."""
+        return list(dict.fromkeys(crate for below in self.below for crate in [*below.all_below(), below]))
+
     def is_built(self):
-        """Whether it seems to be built of what stands there now; `rt` decides."""
-        made = built(self.name) if self.is_program else self.folder / "out/rlib/stamp"
-        return made.exists() and made.stat().st_mtime >= self.written
+        """Whether it is built of what stands there now, by the times of the files."""
+        return self.made.exists() and self.made.stat().st_mtime >= self.written
 
 
 def crates_of(names):
@@ -114,96 +121,75 @@ def lanes_here():
     return max(1, min(len(os.sched_getaffinity(0)), memory // MEMORY))
 
 
-def link_or_copy(one, other):
-    """A file of a library or of a proof gets a second name: `rt` replaces such a file, and changes none. Others are copied."""
-    try:
-        if "/out/rlib/" in str(one) or str(one).endswith(".oantt"):
-            os.link(one, other)
-            return
-    except OSError:
-        pass
-    shutil.copy2(one, other)
+class Kit:
+    """The compiler, and what it needs."""
+
+    def __init__(self):
+        said = subprocess.run(["rt", "doc"], stdout=subprocess.PIPE, check=True, text=True).stdout
+        self.folder = pathlib.Path(said.strip()).parent
+
+    def words_for(self, crate, jobs):
+        """The command that proves and builds a crate."""
+        words = [self.folder / "bin/rattle", "build", "--crate-name", crate.name, crate.source, "--jobs", jobs]
+        for name in ["std", *crate.names]:
+            rlib = {below.name: below.made for below in crate.below}.get(name, self.folder / f"rlibs/{name}.rlib")
+            words += ["--extern", f"{name}={rlib}"]
+        for folder in [self.folder / "rlibs", *[below.made.parent for below in crate.all_below()]]:
+            words += ["-L", f"dependency={folder}"]
+        words += ["--antt-project", self.folder / "rattle/logic/antt-project.json"]
+        words += ["--logic-built", self.folder / "logic_built", "--links", f"{crate.name}="]
+        if crate.is_program:
+            return [*words, "--toolchain", self.folder / "toolchain", "--backend", "llvm", "-o", crate.object]
+        return [*words, "--statements", "-o", crate.made]
+
+    def link(self, crate, said):
+        """Links a program; whether it could."""
+        linked = crate.object.with_suffix(".linked")
+        words = [self.folder / "bin/rattle-link", "--target", "x86_64-unknown-linux-gnu"]
+        words += ["--toolchain", self.folder / "toolchain", "-o", linked, crate.object]
+        words += [self.folder / f"c/lib{name}_c.a" for name in ("os", "libc")]
+        if subprocess.run(words, stdout=said, stderr=said, check=False).returncode:
+            return False
+        os.replace(linked, crate.made)
+        return True
 
 
-def give(one, other):
-    """Gives a folder to another place, in place of what is there."""
-    if one.is_dir():
-        shutil.rmtree(other, ignore_errors=True)
-        other.parent.mkdir(parents=True, exist_ok=True)
-        shutil.copytree(one, other, copy_function=link_or_copy)
+class Builds:
+    """The crates that are being proved, each by processes of its own."""
 
-
-class Lanes:
-    """The lanes, each with a copy of the sources in a folder of its own, and what they are at."""
-
-    def __init__(self, room, count, crates):
-        # What is built is as old as the copies: a source that is changed later is newer.
-        self.copied = time.time()
-        self.folders = [pathlib.Path(room) / f"lane-{number}" for number in range(1, count + 1)]
-        self.idle, self.running = [*self.folders], {}
-        for folder in self.folders:
-            (folder / "crates").mkdir(parents=True)
-            shutil.copy2(TOP / "HANDLES", folder / "HANDLES")
-            (folder / "crates.txt").write_text("".join(f"{crate.line}\n" for crate in crates))
-            for crate in crates:
-                shutil.copytree(crate.folder, folder / "crates" / crate.name, ignore=shutil.ignore_patterns("out"))
-                if crate.is_built():
-                    give(crate.folder / "out/rlib", folder / "crates" / crate.name / "out/rlib")
+    def __init__(self, kit):
+        # What is built is as old as this: a source that is changed later is newer.
+        self.kit, self.begun, self.running = kit, time.time(), {}
 
     def jobs(self):
         """How many processors they have now."""
-        return sum(jobs for _, jobs, _, _ in self.running.values())
+        return sum(jobs for jobs, _, _ in self.running.values())
 
     def begin(self, crate, jobs):
-        """Has a lane prove and build a crate; a program is run with no words, and then reads nothing."""
-        lane = self.idle.pop()
-        folder = lane / "crates" / crate.name
-        give(crate.folder / "out/incremental", folder / "out/incremental")
-        words = ["rt", "run" if crate.is_program else "lib", "--jobs", str(jobs)]
-        with open(lane / "said", "w", encoding="utf-8") as said:
-            how = {"stdin": subprocess.DEVNULL, "stdout": said, "stderr": subprocess.STDOUT, "start_new_session": True}
-            self.running[crate] = lane, jobs, subprocess.Popen(words, cwd=folder, **how), time.monotonic()
+        """Begins to prove and build a crate."""
+        crate.object.parent.mkdir(parents=True, exist_ok=True)
+        with open(crate.said, "w", encoding="utf-8") as said:
+            how = {"stdin": subprocess.DEVNULL, "stdout": said, "stderr": said, "start_new_session": True}
+            words = [str(word) for word in self.kit.words_for(crate, jobs)]
+            self.running[crate] = jobs, subprocess.Popen(words, cwd=crate.folder, **how), time.monotonic()
 
     def ended(self):
         """Waits until one has ended: the crate, whether it is built, and what was printed."""
-        while True:
-            for crate, (lane, _, process, _) in self.running.items():
-                if process.poll() is not None:
-                    del self.running[crate]
-                    self.idle.append(lane)
-                    # With no words each of the programs ends with 3.
-                    good = process.returncode == (3 if crate.is_program else 0)
-                    if good:
-                        self.hand_out(crate, lane)
-                    return crate, good, (lane / "said").read_text("utf-8", "replace")
-            time.sleep(PAUSE)
-
-    def hand_out(self, crate, lane):
-        """Gives what a lane has built to the checkout and to the other lanes."""
-        made = lane / "crates" / crate.name / "out"
-        (crate.folder / "out").mkdir(exist_ok=True)
-        held = os.open(crate.folder, os.O_RDONLY)
-        try:
-            fcntl.flock(held, fcntl.LOCK_EX)
-            for part in ("incremental", "rlib"):
-                give(made / part, crate.folder / "out" / part)
-            if crate.is_program:
-                for name in (crate.name, f"{crate.name}.stamp"):
-                    if (made / name).exists():
-                        shutil.copy2(made / name, crate.folder / "out" / f"{name}.new")
-                        os.replace(crate.folder / "out" / f"{name}.new", crate.folder / "out" / name)
-                os.utime(built(crate.name), (self.copied, self.copied))
-            else:
-                os.utime(crate.folder / "out/rlib/stamp", (self.copied, self.copied))
-        finally:
-            os.close(held)
-        for other in self.folders:
-            if other != lane:
-                give(made / "rlib", other / "crates" / crate.name / "out/rlib")
+        process, status, used = os.wait4(-1, 0)
+        crate = next(crate for crate, (_, begun, _) in self.running.items() if begun.pid == process)
+        jobs, begun, since = self.running.pop(crate)
+        begun.returncode = os.waitstatus_to_exitcode(status)
+        with open(crate.said, "a", encoding="utf-8") as said:
+            good = begun.returncode == 0 and (not crate.is_program or self.kit.link(crate, said))
+            seconds, busy = time.monotonic() - since, used.ru_utime + used.ru_stime
+            said.write(f"{crate.name}: {seconds:.0f} s with {jobs} at a time, {busy:.0f} processor seconds, {used.ru_maxrss} KB\n")
+        if good:
+            os.utime(crate.made, (self.begun, self.begun))
+        return crate, good, crate.said.read_text("utf-8", "replace")
 
     def stop(self):
         """Ends what still runs."""
-        for _, _, process, _ in self.running.values():
+        for _, process, _ in self.running.values():
             try:
                 os.killpg(process.pid, signal.SIGTERM)
             except ProcessLookupError:
@@ -225,22 +211,21 @@ def show_failure(crate, said, log):
     say(f"the crate {crate.name} was not proved and built; these are its last lines, and all is in {log}")
 
 
-def prove(left, lanes, log):
-    """Proves and builds crates; whether all are."""
+def prove(left, builds, count, log):
+    """Proves and builds crates, by so many processes at a time; whether all are."""
     behind, every, begun = chains(left), len(left), time.monotonic()
-    while left or lanes.running:
-        found = next_of(left, lanes.running, len(lanes.folders) - lanes.jobs(), behind)
+    while left or builds.running:
+        found = next_of(left, builds.running, count - builds.jobs(), behind)
         if found:
             crate, jobs = found
             left.remove(crate)
             say(f"proving {every - len(left)} of {every}: {crate.name} ({minutes(time.monotonic() - begun)} so far)")
-            lanes.begin(crate, jobs)
+            builds.begin(crate, jobs)
             continue
-        crate, good, said = lanes.ended()
+        crate, good, said = builds.ended()
         with open(log, "a", encoding="utf-8") as it:
             it.write(f"== {crate.name}\n{said}\n")
         if not good:
-            lanes.stop()
             show_failure(crate, said, log)
             return False
     say(f"proved and built {every} crate{'s' if every > 1 else ''} in {minutes(time.monotonic() - begun)}")
@@ -248,27 +233,29 @@ def prove(left, lanes, log):
 
 
 def main():
-    wanted = [crate.name for crate in crates_of(sys.argv[1:]) if crate.name in sys.argv[1:] and not crate.is_built()]
-    if not wanted:
-        return 0
-    crates = crates_of(wanted)
-    left = [crate for crate in crates if not crate.is_built()]
-    log = left[-1].folder / "out/start.log"
-    log.parent.mkdir(exist_ok=True)
-    log.write_text("")
-    count = lanes_here()
-    say(
-        f"{len(left)} of {len(crates)} crates are to be proved and built first, {count} at a time; where nothing else runs "
-        f"that takes about {minutes(max(60, estimate(left, count)))} (`./jade try` answers in one, with no proof); what rt "
-        f"prints goes to {log}"
-    )
     signal.signal(signal.SIGTERM, lambda number, _: sys.exit(128 + number))
-    with tempfile.TemporaryDirectory(prefix="jade-start-") as room:
-        lanes = Lanes(room, count, crates)
+    with open(TOP / "crates.txt", encoding="utf-8") as held:
+        # Another start in this checkout ends first.
+        fcntl.flock(held, fcntl.LOCK_EX)
+        wanted = [crate.name for crate in crates_of(sys.argv[1:]) if crate.name in sys.argv[1:] and not crate.is_built()]
+        if not wanted:
+            return 0
+        crates = crates_of(wanted)
+        left = [crate for crate in crates if not crate.is_built()]
+        log = left[-1].folder / "out/start.log"
+        log.parent.mkdir(exist_ok=True)
+        log.write_text("")
+        count = lanes_here()
+        say(
+            f"{len(left)} of {len(crates)} crates are to be proved and built first, {count} at a time; where nothing else runs "
+            f"that takes about {minutes(max(60, estimate(left, count)))} (`./jade try` answers in one, with no proof); what the "
+            f"compiler prints goes to {log}"
+        )
+        builds = Builds(Kit())
         try:
-            return 0 if prove([*left], lanes, log) else 1
+            return 0 if prove([*left], builds, count, log) else 1
         finally:
-            lanes.stop()
+            builds.stop()
 
 
 if __name__ == "__main__":
