@@ -15,6 +15,7 @@ the crates that it had not ended.
 import fcntl
 import os
 import pathlib
+import shutil
 import signal
 import subprocess
 import sys
@@ -22,14 +23,15 @@ import time
 
 from programs import TOP, built
 
-# About how long one processor takes for a line, in seconds; how much of another one each further processor adds;
-# and how much memory a crate may take, in bytes.
-SECONDS, FURTHER, MEMORY = 0.052, 0.5, 3_000_000_000
+# About how long one processor takes, in seconds: for a crate, for each line of its source, for that line more with each
+# crate that stands below, whose types it has, and to compile a program. How much of another processor each further one
+# adds; and how much memory a crate may take, in bytes.
+FOR_A_CRATE, FOR_A_LINE, FOR_ONE_BELOW, FOR_A_PROGRAM = 8, 0.06, 0.005, 50
+FURTHER, MEMORY = 0.5, 3_000_000_000
 
-# The most processors for one crate, and the least for one that the most others wait for; for how many lines one more
-# processor pays, since each first reads what all crates below have proved; how often it is looked whether one has ended,
-# in seconds; and how many lines of one that failed are shown.
-MOST_JOBS, LEAST_JOBS, LINES_FOR_ONE, PAUSE, SHOWN = 4, 2, 500, 0.2, 20
+# The most processors for one crate, and the least for one that the longest chain waits for; for how many seconds one more
+# processor pays, since each first reads what stands below; and how many lines of one that failed are shown.
+MOST_JOBS, LEAST_JOBS, SECONDS_FOR_ONE, SHOWN = 4, 3, 20, 20
 
 PARTS = ("src", "specs", "proofs")
 
@@ -46,15 +48,14 @@ class Crate:
         kept = self.folder / "out/start"
         self.object, self.said = kept / f"{name}.o", kept / "said"
         self.made = built(name) if self.is_program else kept / f"{name}.rlib"
+        # The crates that it stands on, each once.
+        self.all_below = list(dict.fromkeys(it for crate in below for it in [*crate.all_below, crate]))
         files = [file for part in PARTS for file in (self.folder / part).rglob("*") if file.is_file()]
-        self.lines = sum(file.read_bytes().count(b"\n") for file in files)
         # When the newest of what it is made from was written.
         own = max((file.stat().st_mtime for file in files), default=0)
         self.written = max([own] + [crate.written for crate in below])
-
-    def all_below(self):
-        """The crates that it stands on, each once."""
-        return list(dict.fromkeys(crate for below in self.below for crate in [*below.all_below(), below]))
+        lines = sum(file.read_bytes().count(b"\n") for file in files if self.folder / "src" in file.parents)
+        self.seconds = FOR_A_CRATE + lines * (FOR_A_LINE + FOR_ONE_BELOW * len(self.all_below)) + FOR_A_PROGRAM * self.is_program
 
     def is_built(self):
         """Whether it is built of what stands there now, by the times of the files."""
@@ -79,12 +80,12 @@ def crates_of(names):
 
 
 def chains(crates):
-    """For each crate the lines of the longest chain that waits for it, its own included."""
-    behind = {crate: crate.lines for crate in crates}
+    """For each crate the seconds of the longest chain that waits for it, its own included."""
+    behind = {crate: crate.seconds for crate in crates}
     for crate in reversed(crates):
         for below in crate.below:
             if below in behind:
-                behind[below] = max(behind[below], below.lines + behind[crate])
+                behind[below] = max(behind[below], below.seconds + behind[crate])
     return behind
 
 
@@ -95,26 +96,26 @@ def next_of(left, running, free, behind):
     if not ready or free < 1:
         return None
     is_longest = behind[ready[0]] >= max(behind[crate] for crate in waits)
-    most = min(MOST_JOBS, 1 + ready[0].lines // LINES_FOR_ONE)
-    return ready[0], min(most, max(LEAST_JOBS if is_longest else 1, free // len(ready)))
+    most = min(MOST_JOBS, 1 + int(ready[0].seconds) // SECONDS_FOR_ONE)
+    return ready[0], min(most, free, max(LEAST_JOBS if is_longest else 1, free // len(ready)))
 
 
-def estimate(crates, lanes):
-    """About how many seconds these crates take: the same choice of the next one, by their lines."""
+def estimate(crates, count):
+    """About how many seconds these crates take: the same choice of the next one, by what each takes."""
     behind, left, running, now = chains(crates), [*crates], {}, 0
     while left or running:
-        found = next_of(left, running, lanes - sum(jobs for _, jobs in running.values()), behind)
+        found = next_of(left, running, count - sum(jobs for _, jobs in running.values()), behind)
         if found:
             crate, jobs = found
             left.remove(crate)
-            running[crate] = now + crate.lines * SECONDS / (1 + FURTHER * (jobs - 1)), jobs
+            running[crate] = now + crate.seconds / (1 + FURTHER * (jobs - 1)), jobs
         else:
             first = min(running, key=lambda it: running[it][0])
             now = running.pop(first)[0]
     return now
 
 
-def lanes_here():
+def count_here():
     """How many crates go side by side: one for each processor, where there is memory."""
     words = dict(line.split(":") for line in pathlib.Path("/proc/meminfo").read_text().splitlines())
     memory = 1024 * int(words["MemAvailable"].split()[0])
@@ -125,6 +126,8 @@ class Kit:
     """The compiler, and what it needs."""
 
     def __init__(self):
+        if not shutil.which("rt"):
+            sys.exit("jade: the Rattle kit is needed to prove and build the program, and there is no command rt")
         said = subprocess.run(["rt", "doc"], stdout=subprocess.PIPE, check=True, text=True).stdout
         self.folder = pathlib.Path(said.strip()).parent
 
@@ -134,7 +137,7 @@ class Kit:
         for name in ["std", *crate.names]:
             rlib = {below.name: below.made for below in crate.below}.get(name, self.folder / f"rlibs/{name}.rlib")
             words += ["--extern", f"{name}={rlib}"]
-        for folder in [self.folder / "rlibs", *[below.made.parent for below in crate.all_below()]]:
+        for folder in [self.folder / "rlibs", *[below.made.parent for below in crate.all_below]]:
             words += ["-L", f"dependency={folder}"]
         words += ["--antt-project", self.folder / "rattle/logic/antt-project.json"]
         words += ["--logic-built", self.folder / "logic_built", "--links", f"{crate.name}="]
@@ -233,7 +236,8 @@ def prove(left, builds, count, log):
 
 
 def main():
-    signal.signal(signal.SIGTERM, lambda number, _: sys.exit(128 + number))
+    for number in (signal.SIGINT, signal.SIGTERM):
+        signal.signal(number, lambda number, _: sys.exit(128 + number))
     with open(TOP / "crates.txt", encoding="utf-8") as held:
         # Another start in this checkout ends first.
         fcntl.flock(held, fcntl.LOCK_EX)
@@ -245,7 +249,7 @@ def main():
         log = left[-1].folder / "out/start.log"
         log.parent.mkdir(exist_ok=True)
         log.write_text("")
-        count = lanes_here()
+        count = count_here()
         say(
             f"{len(left)} of {len(crates)} crates are to be proved and built first, {count} at a time; where nothing else runs "
             f"that takes about {minutes(max(60, estimate(left, count)))} (`./jade try` answers in one, with no proof); what the "
