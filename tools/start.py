@@ -209,7 +209,8 @@ def say(line):
 
 
 def show_failure(crate, said, log):
-    lines = said.splitlines()
+    # What was read of the crates below is left out.
+    lines = [line for line in said.splitlines() if not line.startswith("statements ")]
     print("\n".join(lines[-SHOWN:]), file=sys.stderr)
     say(f"the crate {crate.name} was not proved and built; these are its last lines, and all is in {log}")
 

@@ -82,7 +82,7 @@ def main():
         hold("what is built is built again", status == 0 and said == "", said)
         house.write("numbers/src/lib.rt", LIBRARY % 8)
         status, said = house.start()
-        hold("a wrong body is built", status == 1 and "numbers was not proved" in said and "result" in said, said)
+        hold("a wrong body is built", status == 1 and "numbers was not proved" in said and "must prove: " in said, said)
         hold("the program is not as it was", house.ends() == 7, said)
         house.write("numbers/src/lib.rt", LIBRARY.replace("7", "8") % 8)
         status, said = house.start()
