@@ -29,9 +29,9 @@ from programs import TOP, built
 FOR_A_CRATE, FOR_A_LINE, FOR_ONE_BELOW, FOR_A_PROGRAM = 8, 0.06, 0.005, 50
 FURTHER, MEMORY = 0.5, 3_000_000_000
 
-# The most processors for one crate, and the least for one that the longest chain waits for; for how many seconds one more
+# The most processes for one crate, and the least for one that the longest chain waits for; for how many seconds one more
 # processor pays, since each first reads what stands below; and how many lines of one that failed are shown.
-MOST_JOBS, LEAST_JOBS, SECONDS_FOR_ONE, SHOWN = 4, 3, 20, 20
+MOST_JOBS, LEAST_JOBS, SECONDS_FOR_ONE, SHOWN = 4, 2, 20, 20
 
 PARTS = ("src", "specs", "proofs")
 
@@ -97,7 +97,7 @@ def next_of(left, running, free, behind):
         return None
     is_longest = behind[ready[0]] >= max(behind[crate] for crate in waits)
     most = min(MOST_JOBS, 1 + int(ready[0].seconds) // SECONDS_FOR_ONE)
-    return ready[0], min(most, free, max(LEAST_JOBS if is_longest else 1, free // len(ready)))
+    return ready[0], min(most, max(LEAST_JOBS if is_longest else 1, free // len(ready)))
 
 
 def estimate(crates, count):
