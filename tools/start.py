@@ -13,6 +13,7 @@ proves again after an edit, and lets no other work in the folders of crates belo
 the crates that it had not ended.
 """
 import fcntl
+import hashlib
 import os
 import pathlib
 import shutil
@@ -46,11 +47,14 @@ class Crate:
         # What it names: crates of crates.txt and libraries of the kit.
         self.names = line.partition(":")[2].split()
         kept = self.folder / "out/start"
-        self.object, self.said = kept / f"{name}.o", kept / "said"
+        self.object, self.said, self.stamp = kept / f"{name}.o", kept / "said", kept / "stamp"
         self.made = built(name) if self.is_program else kept / f"{name}.rlib"
         # The crates that it stands on, each once.
         self.all_below = list(dict.fromkeys(it for crate in below for it in [*crate.all_below, crate]))
-        files = [file for part in PARTS for file in (self.folder / part).rglob("*") if file.is_file()]
+        files = sorted(file for part in PARTS for file in (self.folder / part).rglob("*") if file.is_file())
+        # A sum of all that it is made from.
+        made_from = [(str(file.relative_to(self.folder)), file.read_bytes()) for file in files]
+        self.sum = hashlib.sha256(repr((line, made_from, [crate.sum for crate in below])).encode()).hexdigest()
         # When the newest of what it is made from was written.
         own = max((file.stat().st_mtime for file in files), default=0)
         self.written = max([own] + [crate.written for crate in below])
@@ -58,8 +62,11 @@ class Crate:
         self.seconds = FOR_A_CRATE + lines * (FOR_A_LINE + FOR_ONE_BELOW * len(self.all_below)) + FOR_A_PROGRAM * self.is_program
 
     def is_built(self):
-        """Whether it is built of what stands there now, by the times of the files."""
-        return self.made.exists() and self.made.stat().st_mtime >= self.written
+        """Whether it is built of what stands there now: a library by the sum, a program, which the gate builds too, by the times
+        of the files."""
+        if self.is_program:
+            return self.made.exists() and self.made.stat().st_mtime >= self.written
+        return self.made.exists() and self.stamp.exists() and self.stamp.read_text("utf-8") == self.sum
 
 
 def crates_of(names):
@@ -171,6 +178,7 @@ class Builds:
     def begin(self, crate, jobs):
         """Begins to prove and build a crate."""
         crate.object.parent.mkdir(parents=True, exist_ok=True)
+        crate.stamp.unlink(missing_ok=True)
         with open(crate.said, "w", encoding="utf-8") as said:
             how = {"stdin": subprocess.DEVNULL, "stdout": said, "stderr": said, "start_new_session": True}
             words = [str(word) for word in self.kit.words_for(crate, jobs)]
@@ -187,6 +195,7 @@ class Builds:
             seconds, busy = time.monotonic() - since, used.ru_utime + used.ru_stime
             said.write(f"{crate.name}: {seconds:.0f} s with {jobs} at a time, {busy:.0f} processor seconds, {used.ru_maxrss} KB\n")
         if good:
+            crate.stamp.write_text(crate.sum, "utf-8")
             os.utime(crate.made, (self.begun, self.begun))
         return crate, good, crate.said.read_text("utf-8", "replace")
 
