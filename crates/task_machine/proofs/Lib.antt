@@ -9,6 +9,7 @@ mod Naming
 pub mod Acting
 mod Running
 mod Leaving
+mod Looking
 pub mod Executing
 mod Filling
 pub mod Telling

@@ -1,4 +1,5 @@
 pub mod Numbers
+pub mod Hold
 pub mod Holding
 pub mod Knowing
 pub mod Owning

@@ -4,24 +4,23 @@ ghost use Rattle.std.specs.Prelude.{◌≡◌, ◌<◌, length, map, slice_get, 
 ghost use Rattle.jade_syntax.specs.Objects.{sizes};
 ghost use Rattle.jade_meaning.specs.Serial.{zeros};
 ghost use Rattle.task_machine.specs.Whole.{all_held, without};
-ghost use Rattle.task_machine.specs.Playing.{cell_of};
 ghost use Rattle.task_machine.specs.Telling.{mode_held};
 ghost use Rattle.task_machine.specs.Executions.{objects_in, with_content, without_content};
-ghost use Rattle.task_machine.specs.steps.Holding.{RowsAscend, contents_of, row_from, cell_in, Written, WrittenIn, whole_from};
+ghost use Rattle.task_machine.specs.steps.Holding.{RowsAscend, contents_of, row_from, cell_in, Written, whole_from};
 ghost use Rattle.task_machine.specs.steps.Searching.{IsFirstFrom};
 
 use crate::halves::FEW;
+use crate::hold::Hold;
 use jade_base::{Content, Memory, Mode, Numbers, ObjectId, Spec};
 use jade_syntax::Checked;
 use std::alloc::Global;
 use std::marker::Model;
-use std::mem;
 
 /// An object, with its content where that is held.
 #[derive(Debug, Drop)]
 pub struct Row {
     object: ObjectId,
-    content: Option<Content>,
+    content: Hold,
 }
 
 /// The contents that a task holds, by ascending number of the object.
@@ -52,7 +51,7 @@ impl Holdings {
             let (object, _) = spec.entry(place);
             rows.push(Row {
                 object,
-                content: None,
+                content: Hold::none(alloc),
             })?;
         }
         Ok(Holdings { rows })
@@ -143,7 +142,7 @@ fn rows_of(alloc: Global, checked: &Checked) -> Result<Vec<Row>, Memory>
     for object in 0..checked.objects() {
         let object = ObjectId(object);
         let cells = Vec::from_elem(alloc, 0, checked.size(object) as usize)?;
-        let content = Some(Content::of(Mode::Writing, Numbers::from_vec(cells)));
+        let content = Hold::of(alloc, Content::of(Mode::Writing, Numbers::from_vec(cells)));
         rows.push(Row { object, content })?;
     }
     Ok(rows)
@@ -158,7 +157,7 @@ fn take_among(rows: &mut [Row], object: usize) -> Option<Content>
 {
     match place_of(rows, object) {
         None => None,
-        Some(place) => rows[place].content.take(),
+        Some(place) => rows[place].content.put(None),
     }
 }
 
@@ -231,18 +230,6 @@ fn place_of(rows: &[Row], object: usize) -> Option<usize>
     }
 }
 
-// The number in a cell; one that is not there has 0.
-#[inline(always)]
-fn at_cell(content: &Content, cell: usize) -> i64
-    ensures { result ≡ cell_of content.now cell }
-{
-    if cell < content.len() {
-        content.get(cell)
-    } else {
-        0
-    }
-}
-
 // The number in a cell of an object, whose row is at this place, where the object is held.
 #[inline(always)]
 fn cell_among(rows: &[Row], row: usize, _object: usize, cell: usize) -> Option<i64>
@@ -250,10 +237,7 @@ fn cell_among(rows: &[Row], row: usize, _object: usize, cell: usize) -> Option<i
     requires within { row < length rows.now }
     ensures { result ≡ cell_in (contents_of rows.now _object) cell }
 {
-    match &rows[row].content {
-        None => None,
-        Some(content) => Some(at_cell(content, cell)),
-    }
+    rows[row].content.cell(cell)
 }
 
 // The mode in which an object is held, if it is.
@@ -263,10 +247,7 @@ fn mode_among(rows: &[Row], object: usize) -> Option<Mode>
 {
     match place_of(rows, object) {
         None => None,
-        Some(place) => match &rows[place].content {
-            None => None,
-            Some(content) => Some(content.mode()),
-        },
+        Some(place) => rows[place].content.mode(),
     }
 }
 
@@ -281,7 +262,7 @@ fn write_among(rows: &mut [Row], row: usize, _object: usize, cell: usize, number
     ensures objects { objects_in rows.new ≡ objects_in rows.old }
     ensures ascend { RowsAscend rows.new }
 {
-    write_at(&mut rows[row].content, cell, number)
+    rows[row].content.write(cell, number)
 }
 
 // Another content of an object, or none, in place of the one that it has.
@@ -293,25 +274,6 @@ fn put_among(rows: &mut [Row], object: usize, content: Option<Content>) -> Optio
 {
     match place_of(rows, object) {
         None => None,
-        Some(place) => mem::replace(&mut rows[place].content, content),
-    }
-}
-
-// Writes a number into a cell of a content; whether it is held for more than reading.
-#[inline(always)]
-fn write_at(content: &mut Option<Content>, cell: usize, number: i64) -> bool
-    ensures { WrittenIn content.old cell number result content.new }
-{
-    match content {
-        None => false,
-        Some(content) => {
-            if matches!(content.mode(), Mode::Reading) {
-                return false;
-            }
-            if cell < content.len() {
-                content.set(cell, number);
-            }
-            true
-        }
+        Some(place) => rows[place].content.put(content),
     }
 }

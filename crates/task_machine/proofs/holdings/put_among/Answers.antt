@@ -11,7 +11,7 @@ returns-in-None-clause-rows c = missing_same c.args.object c.args.content c.args
 pub returns-in-Some-clause-content : goal.returns-in-Some-clause-content
 returns-in-Some-clause-content c =
     let row = row_found c.args.object c.args.rows.now c.in-Some.place (sym c.in-Some.is ∙ c.place_of.ensures.row) in
-    c.replace.ensures.value ∙ sym (row.content c.index-rows-place.result)
+    c.put.ensures.before ∙ sym (row.content c.index-rows-place.result)
 
 pub returns-in-Some-clause-rows : goal.returns-in-Some-clause-rows
 returns-in-Some-clause-rows c =
@@ -21,7 +21,7 @@ returns-in-Some-clause-rows c =
       object = (slice_index_or c.args.rows.now c.in-Some.place d).object;
       content =
           h;
-    })) c.replace.ensures.after
+    })) c.put.ensures.after
     ∙ row.filled d c.args.content
 
 pub returns-in-Some-clause-ascend : goal.returns-in-Some-clause-ascend

@@ -13,7 +13,7 @@ returns-in-None-clause-left c =
 pub returns-in-Some-clause-taken : goal.returns-in-Some-clause-taken
 returns-in-Some-clause-taken c =
     let row = row_found c.args.object c.args.rows.now c.in-Some.place (sym c.in-Some.is ∙ c.place_of.ensures.row) in
-    c.take.ensures.value ∙ sym (row.content c.index-rows-place.result)
+    c.put.ensures.before ∙ sym (row.content c.index-rows-place.result)
 
 pub returns-in-Some-clause-left : goal.returns-in-Some-clause-left
 returns-in-Some-clause-left c =
@@ -23,7 +23,7 @@ returns-in-Some-clause-left c =
           (slice_index_or c.args.rows.now c.in-Some.place c.index-rows-place.result).object;
       content = w;
     })))
-    c.take.ensures.after
+    c.put.ensures.after
     ∙ taken_row (contents_of c.args.rows.now) _ c.args.object (row.set _ (row.object c.index-rows-place.result))
 
 pub returns-in-Some-clause-ascend : goal.returns-in-Some-clause-ascend

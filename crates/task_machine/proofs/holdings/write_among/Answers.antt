@@ -9,12 +9,12 @@ pub returns-clause-written : goal.returns-clause-written
 returns-clause-written c =
     let row = row_found c.args._object c.args.rows.now c.args.row (sym c.requires.row) in
     let k = contents_of c.args.rows.now in
-    written_row (writable (k c.args._object)) k _ c.args._object c.args.cell c.args.number c.write_at.result c.write_at.new.content
+    written_row (writable (k c.args._object)) k _ c.args._object c.args.cell c.args.number c.write.result c.write.new.self
     (row.set _ (row.object c.index-rows-row.result))
-    (subst (λ w. WrittenIn w c.args.cell c.args.number c.write_at.result c.write_at.new.content) (sym (row.content c.index-rows-row.result))
-    (subst (λ z. WrittenIn (slice_index_or c.args.rows.now c.args.row c.index-rows-row.result).content c.args.cell z c.write_at.result
-    c.write_at.new.content)
-    (to_z-of_z w64 c.args.number c.ranges.number) c.write_at.ensures))
+    (subst (λ w. WrittenIn w c.args.cell c.args.number c.write.result c.write.new.self) (sym (row.content c.index-rows-row.result))
+    (subst (λ z. WrittenIn (slice_index_or c.args.rows.now c.args.row c.index-rows-row.result).content c.args.cell z c.write.result
+    c.write.new.self)
+    (to_z-of_z w64 c.args.number c.ranges.number) c.write.ensures))
 
 pub returns-clause-ascend : goal.returns-clause-ascend
 returns-clause-ascend c =

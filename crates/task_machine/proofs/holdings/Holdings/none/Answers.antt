@@ -5,7 +5,9 @@ use Rattle.task_machine.proofs.holdings.Holdings.none.Goals as goal
 
 pub rows-preserved : goal.rows-preserved
 rows-preserved c =
-    c.in_ok-push.ensures.items ∙ ap (λ l. l ++ without_content c.entry.result ∷ []) c.rows.invariant
+    c.in_ok-push.ensures.items
+    ∙ ap (λ h. c.rows.rows.items ++ record { object = c.entry.result.0; content = h } ∷ []) c.none.ensures
+    ∙ ap (λ l. l ++ without_content c.entry.result ∷ []) c.rows.invariant
     ∙ rows_more c.args.spec.now.entries c.rows.place c.entry.result c.entry.ensures
 
 pub invariant_of-result : goal.invariant_of-result

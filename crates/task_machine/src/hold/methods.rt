@@ -1,0 +1,120 @@
+//! What can be done with a hold.
+
+ghost use Rattle.std.specs.Prelude.{◌≡◌, None, Some};
+ghost use Rattle.task_machine.specs.Playing.{cell_of};
+ghost use Rattle.task_machine.specs.Telling.{mode_held};
+ghost use Rattle.task_machine.specs.steps.Holding.{WrittenIn, cell_in};
+
+use crate::hold::Hold;
+use jade_base::{Content, Mode, Numbers};
+use std::alloc::Global;
+use std::mem;
+
+// The number in a cell; one that is not there has 0.
+#[inline(always)]
+fn at_cell(content: &Content, cell: usize) -> i64
+    ensures { result ≡ cell_of content.now cell }
+{
+    if cell < content.len() {
+        content.get(cell)
+    } else {
+        0
+    }
+}
+
+impl Hold {
+    /// Nothing. It takes no memory.
+    pub(crate) fn none(alloc: Global) -> Hold
+        ensures { result ≡ None }
+    {
+        Hold {
+            mode: None,
+            cells: Vec::new(alloc),
+            content: None,
+        }
+    }
+
+    /// A content. It takes no memory.
+    pub(crate) fn of(alloc: Global, content: Content) -> Hold
+        ensures { result ≡ Some content }
+    {
+        match content.mode() {
+            Mode::Reading => Hold {
+                mode: None,
+                cells: Vec::new(alloc),
+                content: Some(content),
+            },
+            mode => Hold {
+                mode: Some(mode),
+                cells: content.into_cells().into_vec(),
+                content: None,
+            },
+        }
+    }
+
+    // The content.
+    fn into_content(self) -> Option<Content>
+        ensures { result ≡ self }
+    {
+        let Hold {
+            mode,
+            cells,
+            content,
+        } = self;
+        match mode {
+            Some(mode) => Some(Content::of(mode, Numbers::from_vec(cells))),
+            None => content,
+        }
+    }
+
+    /// Another content, or none, in place of the one that is held, which is the result. It takes no memory.
+    pub(crate) fn put(&mut self, content: Option<Content>) -> Option<Content>
+        ensures before { result ≡ self.old }
+        ensures after { self.new ≡ content }
+    {
+        let alloc = *self.cells.allocator();
+        let hold = match content {
+            None => Hold::none(alloc),
+            Some(content) => Hold::of(alloc, content),
+        };
+        mem::replace(self, hold).into_content()
+    }
+
+    /// The mode of the hold, if there is one.
+    pub(crate) fn mode(&self) -> Option<Mode>
+        ensures { result ≡ mode_held self.now }
+    {
+        match (self.mode, &self.content) {
+            (Some(mode), _) => Some(mode),
+            (None, Some(content)) => Some(content.mode()),
+            (None, None) => None,
+        }
+    }
+
+    /// The number in a cell, where something is held; a cell that is not there has 0.
+    #[inline(always)]
+    pub(crate) fn cell(&self, cell: usize) -> Option<i64>
+        ensures { result ≡ cell_in self.now cell }
+    {
+        if cell < self.cells.len() {
+            return Some(self.cells[cell]);
+        }
+        match (self.mode, &self.content) {
+            (Some(_), _) => Some(0),
+            (None, Some(content)) => Some(at_cell(content, cell)),
+            (None, None) => None,
+        }
+    }
+
+    /// Writes a number into a cell, if there is such a one; whether the hold is for more than reading.
+    #[inline(always)]
+    pub(crate) fn write(&mut self, cell: usize, number: i64) -> bool
+        ensures { WrittenIn self.old cell number result self.new }
+    {
+        if cell < self.cells.len() {
+            self.cells[cell] = number;
+            return true;
+        }
+        self.mode.is_some()
+    }
+}
