@@ -39,6 +39,26 @@ same-refl (i ∷ p) = and-both (nat_eq i i) (same_path p p) (own i) (same-refl p
     own : (i : ℕ) → nat_eq i i ≡ true
     own i = grind (arith, nat_tests)
 
+-- of two lists of different lengths none is the other
+pub lengths-differ : (p q : List ℕ) → (length p ≡ length q → ⊥) → same_path p q ≡ false
+lengths-differ [] [] f = absurd (f refl)
+lengths-differ [] (j ∷ q) f = refl
+lengths-differ (i ∷ p) [] f = refl
+lengths-differ (i ∷ p) (j ∷ q) f = tail (nat_eq i j) (same_path p q) (lengths-differ p q (λ e. f (ap suc e)))
+  where
+    tail : (a b : Bool) → b ≡ false → a && b ≡ false
+    tail true b h = h
+    tail false b h = refl
+
+-- nothing is left of two lists of one length behind their last numbers
+pub all-same : (p q : List ℕ) (n : ℕ) → length p ≤ n → length p ≡ length q → same_path (drop n p) (drop n q) ≡ true
+all-same [] [] zero h e = refl
+all-same [] [] (suc n) h e = refl
+all-same [] (j ∷ q) n h e = absurd (omega (arith, e))
+all-same (i ∷ p) [] n h e = absurd (omega (arith, e))
+all-same (i ∷ p) (j ∷ q) zero h e = absurd (omega (arith, h))
+all-same (i ∷ p) (j ∷ q) (suc n) h e = all-same p q n (omega (arith, h)) (omega (arith, e))
+
 -- what stands before is another
 pub before-other : (p q : List ℕ) → stands_before p q ≡ true → same_path q p ≡ false
 before-other [] q h = absurd (cc)

@@ -2,6 +2,7 @@
 //! what stands in it.
 
 ghost use Rattle.std.specs.Prelude.{◌≡◌, ◌<◌, true, length, map, List, ℕ};
+ghost use Rattle.jade_base.specs.Places.{same_path};
 ghost use Rattle.task_roll.specs.Order.{stands_before, is_ordered, rank, place_among, fits_at};
 
 use jade_base::Path;
@@ -64,6 +65,21 @@ fn rank_of<T: OnPath>(rows: &VecDeque<T>, path: &Path) -> usize
     low
 }
 
+// Whether two paths with these numbers name one task.
+fn are_same(left: &[u32], right: &[u32]) -> bool
+    ensures { result ≡ same_path left.now right.now }
+{
+    if left.len() != right.len() {
+        return false;
+    }
+    for i in 0..left.len() {
+        if left[i] != right[i] {
+            return false;
+        }
+    }
+    true
+}
+
 // Whether the first row is the path's.
 fn is_first<T: OnPath>(rows: &VecDeque<T>, path: &Path) -> bool
     ensures { result ≡ true → place_among path.now (map T.task rows.now.items) ≡ 0 }
@@ -71,7 +87,7 @@ fn is_first<T: OnPath>(rows: &VecDeque<T>, path: &Path) -> bool
     if rows.len() == 0 {
         return false;
     }
-    path.is_same(rows[0].path())
+    are_same(path.numbers(), rows[0].path().numbers())
 }
 
 /// How many rows stand before the path's; where it has none, their number. The first row is looked

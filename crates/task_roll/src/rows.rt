@@ -48,6 +48,19 @@ pub fn put<T: Drop>(rows: &mut VecDeque<T>, place: usize, row: T)
     }
 }
 
+// Takes the first row out, which moves no other.
+fn first_out<T: Drop>(rows: &mut VecDeque<T>) -> T
+    requires { 0 < length rows.old.items }
+    ensures row { result ≡ slice_index_or rows.old.items 0 result }
+    ensures rest { rows.new.items ≡ remove rows.old.items 0 }
+    ensures fewer { deque_len rows.new + 1 ≡ deque_len rows.old }
+{
+    match rows.pop_front() {
+        Some(row) => row,
+        None => unreachable!(),
+    }
+}
+
 /// Takes the row at a place out.
 pub fn take_out<T: Drop>(rows: &mut VecDeque<T>, place: usize) -> T
     requires { place < length rows.old.items }
@@ -55,6 +68,9 @@ pub fn take_out<T: Drop>(rows: &mut VecDeque<T>, place: usize) -> T
     ensures rest { rows.new.items ≡ remove rows.old.items place }
     ensures fewer { deque_len rows.new + 1 ≡ deque_len rows.old }
 {
+    if place == 0 {
+        return first_out(rows);
+    }
     match rows.remove(place) {
         Some(row) => row,
         None => unreachable!(),
