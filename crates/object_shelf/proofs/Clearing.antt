@@ -1,12 +1,13 @@
 -- How far a queue is clear, as it changes.
 use Rattle.std.proofs.Common.{◌≡◌, ℕ, zero, suc, ◌+◌, ◌-◌, ◌<◌, ◌≤◌, Bool, true, false, ◌&&◌, ◌||◌, List, [], ◌∷◌, length, refl, sym, ap, ◌∙◌, subst, arith}
-use Rattle.std.specs.Prelude.{Option, Some, None, slice_get, slice_set, slice_index_or, nat_eq, if◌then◌else◌}
+use Rattle.std.specs.Prelude.{Option, Some, None, is_none, slice_get, slice_set, slice_index_or, if◌then◌else◌}
 use Rattle.std.specs.List.{insert, remove}
-use Rattle.std.proofs.lemmas.Bool.Decides.{nat_tests}
 use Rattle.jade_base.specs.declared.rights.Mode.{Mode}
-use Rattle.jade_base.specs.Places.{same_path}
+use Rattle.jade_base.specs.declared.rights.Mode.TheVariants.{Reading, Writing, Commuting}
+use Rattle.jade_base.specs.Rights.{is_there}
 use Rattle.object_shelf.specs.declared.queue.Entry.{Entry}
-use Rattle.object_shelf.specs.Shelves.{conflicts, takes_out, place_in, blocker_in}
+use Rattle.object_shelf.specs.Shelves.{changes, conflicts, takes_out}
+use Rattle.object_shelf.specs.Places.{blocker_before}
 use Rattle.object_shelf.specs.Clear.{clear_for, out_many}
 use Rattle.object_shelf.specs.Whole.{is_out}
 
@@ -44,44 +45,26 @@ clear-goes m (x ∷ es) (suc n) e le lt q h = go (clear-goes m es n e) (conflict
     go f true le = absurd (omega arith)
     go f false le = let r = f (omega arith) (omega arith) q h in omega (arith, r)
 
-flip-one : (i j : ℕ) (a b : Bool) → a ≡ b → nat_eq i j && a ≡ nat_eq j i && b
-flip-one i j true true e = grind (arith, nat_tests)
-flip-one i j false false e = grind (arith, nat_tests)
-flip-one i j true false e = absurd (cc)
-flip-one i j false true e = absurd (cc)
-
-turned : (p q : List ℕ) → same_path p q ≡ same_path q p
-turned [] [] = refl
-turned [] (j ∷ q) = refl
-turned (i ∷ p) [] = refl
-turned (i ∷ p) (j ∷ q) = flip-one i j (same_path p q) (same_path q p) (turned p q)
-
--- where the first in the way stands before the path's entry, it keeps the path's task from the object, and otherwise none does
-pub blocker-clear : (p : List ℕ) (m : Mode) (es : List Entry) → clear_for m es < place_in p es → blocker_in p m es ≡ slice_get es (clear_for m es)
-blocker-clear p m [] lt = refl
-blocker-clear p m (e ∷ es) lt =
-    subst (λ b. (if b then None else (if conflicts m e then Some e else blocker_in p m es)) ≡ slice_get (e ∷ es) (clear_for m (e ∷ es))) (turned p e.path)
-    (go (same_path p e.path) (conflicts m e) (blocker-clear p m es) lt)
+-- where the first in the way stands before a place, it keeps the task there from the object, and otherwise none does
+pub blocker-clear : (n : ℕ) (m : Mode) (es : List Entry) → clear_for m es < n → blocker_before n m es ≡ slice_get es (clear_for m es)
+blocker-clear n m [] lt = refl
+blocker-clear zero m (e ∷ es) lt = absurd (omega arith)
+blocker-clear (suc n) m (e ∷ es) lt = go (conflicts m e) (blocker-clear n m es) lt
   where
-    go : (b c : Bool) → (clear_for m es < place_in p es → blocker_in p m es ≡ slice_get es (clear_for m es)) →
-        (if c then 0 else suc (clear_for m es)) < (if b then 0 else suc (place_in p es)) →
-        (if b then None else (if c then Some e else blocker_in p m es)) ≡ slice_get (e ∷ es) (if c then 0 else suc (clear_for m es))
-    go true c f lt = absurd (omega arith)
-    go false true f lt = refl
-    go false false f lt = f (omega arith)
+    go : (c : Bool) → (clear_for m es < n → blocker_before n m es ≡ slice_get es (clear_for m es)) → (if c then 0 else suc (clear_for m es)) < suc n →
+        (if c then Some e else blocker_before n m es) ≡ slice_get (e ∷ es) (if c then 0 else suc (clear_for m es))
+    go true f lt = refl
+    go false f lt = f (omega arith)
 
-pub blocker-none : (p : List ℕ) (m : Mode) (es : List Entry) → place_in p es ≤ clear_for m es → blocker_in p m es ≡ None
-blocker-none p m [] le = refl
-blocker-none p m (e ∷ es) le =
-    subst (λ b. (if b then None else (if conflicts m e then Some e else blocker_in p m es)) ≡ None) (turned p e.path)
-    (go (same_path p e.path) (conflicts m e) (blocker-none p m es) le)
+pub blocker-none : (n : ℕ) (m : Mode) (es : List Entry) → n ≤ clear_for m es → blocker_before n m es ≡ None
+blocker-none n m [] le = refl
+blocker-none zero m (e ∷ es) le = refl
+blocker-none (suc n) m (e ∷ es) le = go (conflicts m e) (blocker-none n m es) le
   where
-    go : (b c : Bool) → (place_in p es ≤ clear_for m es → blocker_in p m es ≡ None) →
-        (if b then 0 else suc (place_in p es)) ≤ (if c then 0 else suc (clear_for m es)) →
-        (if b then None else (if c then Some e else blocker_in p m es)) ≡ None
-    go true c f le = refl
-    go false true f le = absurd (omega arith)
-    go false false f le = f (omega arith)
+    go : (c : Bool) → (n ≤ clear_for m es → blocker_before n m es ≡ None) → suc n ≤ (if c then 0 else suc (clear_for m es)) →
+        (if c then Some e else blocker_before n m es) ≡ None
+    go true f le = absurd (omega arith)
+    go false f le = f (omega arith)
 
 -- an entry has been put at a place
 pub entered-far : (m : Mode) (es : List Entry) (n : ℕ) (e : Entry) → clear_for m es < n → n ≤ length es → clear_for m es ≡ clear_for m (insert es n e)
@@ -163,6 +146,24 @@ changed-clear m (x ∷ es) (suc n) e lt h = go (changed-clear m es n e) (conflic
         (if b then 0 else suc (clear_for m es)) ≡ (if b then 0 else suc (clear_for m (slice_set es n e)))
     go f true lt = absurd (omega arith)
     go f false lt = ap suc (f (omega arith) h)
+
+-- it has changed, and keeps the same ones from a hold
+pub alike : (m : Mode) (e f : Entry) → f.rights ≡ e.rights → is_none f.version ≡ is_none e.version → conflicts m f ≡ conflicts m e
+alike Reading e f r v = ap changes r
+alike Writing e f r v =
+    ap (λ a. changes a || (is_there a.reads && is_none f.version)) r ∙ ap (λ b. changes e.rights || (is_there e.rights.reads && b)) v
+alike Commuting e f r v =
+    ap (λ a. (is_there a.reads || is_there a.writes) && (changes a || is_none f.version)) r ∙ ap
+    (λ b. (is_there e.rights.reads || is_there e.rights.writes) && (changes e.rights || b)) v
+
+pub turned-clear : (m : Mode) (es : List Entry) (n : ℕ) (e f : Entry) → slice_get es n ≡ Some e → conflicts m f ≡ conflicts m e →
+    clear_for m es ≡ clear_for m (slice_set es n f)
+turned-clear m [] n e f g h = refl
+turned-clear m (x ∷ es) zero e f g h = ap (λ b. if b then 0 else suc (clear_for m es)) (ap (conflicts m) (same x e g) ∙ sym h)
+  where
+    same : (x e : Entry) → ◌≡◌ {A = Option Entry} (Some x) (Some e) → x ≡ e
+    same x e g = cc
+turned-clear m (x ∷ es) (suc n) e f g h = ap (λ k. if conflicts m x then 0 else suc k) (turned-clear m es n e f g h)
 
 -- the entry at a place has gone
 pub left-far : (m : Mode) (es : List Entry) (n : ℕ) → clear_for m es < n → clear_for m es ≡ clear_for m (remove es n)

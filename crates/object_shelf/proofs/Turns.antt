@@ -36,3 +36,7 @@ same-shelf a b e f g =
 -- what is told where there is nothing
 pub of-none : {A : Type 0} (r : Option A) (P : Type 0) (Q : A → Type 0) → r ≡ None → MatchOption r P Q → P
 of-none r P Q e m = subst (λ x. MatchOption x P Q) e m
+
+-- what is told where there is something
+pub of-some : {A : Type 0} (r : Option A) (P : Type 0) (Q : A → Type 0) (x : A) → r ≡ Some x → MatchOption r P Q → Q x
+of-some r P Q x e m = subst (λ y. MatchOption y P Q) e m

@@ -2,7 +2,7 @@
 //! a walk. The numbers are kept as the queue changes: a walk goes only over entries that stand in no
 //! one's way any more, each of them once.
 
-ghost use Rattle.std.specs.Prelude.{◌≡◌, ◌<◌, ◌≤◌, ◌+◌, ◌∷◌, [], true, false, length, slice_set, slice_get, Some, List};
+ghost use Rattle.std.specs.Prelude.{◌≡◌, ◌<◌, ◌≤◌, ◌+◌, ◌∷◌, [], true, false, length, slice_set, slice_get, Some, List, is_none};
 ghost use Rattle.std.specs.List.{insert, remove};
 ghost use Rattle.object_shelf.specs.declared.queue.Entry.{Entry as EntryOf};
 ghost use Rattle.object_shelf.specs.Shelves.{conflicts, takes_out};
@@ -84,6 +84,30 @@ impl Clear {
         self.writing = clear_changed(rows, Mode::Writing, place, self.writing);
         self.commuting = clear_changed(rows, Mode::Commuting, place, self.commuting);
         self.out = out_changed(&rows[place], self.out, was_out);
+    }
+
+    /// The numbers after the hold of the entry at a place has changed; whether it had the content out
+    /// before is told, and whether it has a version exactly where it had one. Where it has, it keeps
+    /// the same ones from a hold, and no entry is looked at but it.
+    pub(crate) fn turned(
+        &mut self,
+        rows: &VecDeque<Entry>,
+        place: usize,
+        was_out: bool,
+        is_alike: bool,
+    )
+        requires place { place < length rows.now.items }
+        requires more { was_out ≡ false → self.old.out < length rows.now.items }
+        requires fewer { was_out ≡ true → 0 < self.old.out }
+        ensures { (es : List EntryOf) (e : EntryOf) → slice_get es place ≡ Some e → takes_out e.hold ≡ was_out → (f : EntryOf) → f.rights ≡ e.rights
+            → (is_alike ≡ true → is_none f.version ≡ is_none e.version) → rows.now.items ≡ slice_set es place f → IsClear self.old es
+            → IsClear self.new rows.now.items }
+    {
+        if is_alike {
+            self.out = out_changed(&rows[place], self.out, was_out);
+        } else {
+            self.changed(rows, place, was_out);
+        }
     }
 
     /// The numbers after the entry at a place has gone; whether it had the content out is told.

@@ -1,7 +1,8 @@
-ghost use Rattle.std.specs.Prelude.{◌≡◌, ◌<◌, ◌∷◌, [], true, None, Some, length, slice_get, IfOk, OnOk, OnErr, MatchOption};
-ghost use Rattle.object_shelf.specs.Shelves.{place_in, find, blocker_in, holder_in, takes_out, at, without, newborn, if_read_only};
+ghost use Rattle.std.specs.Prelude.{◌≡◌, ◌<◌, ◌∷◌, [], true, None, Some, is_none, length, slice_get, IfOk, OnOk, OnErr, MatchOption};
+ghost use Rattle.object_shelf.specs.Shelves.{place_in, find, holder_in, takes_out, at, without, newborn, if_read_only};
 ghost use Rattle.object_shelf.specs.Shelves.{held_with, released, with_rights};
 ghost use Rattle.object_shelf.specs.Order.{is_ordered, paths, fitted_in};
+ghost use Rattle.object_shelf.specs.Places.{at_nth, blocker_before};
 ghost use Rattle.object_shelf.specs.Clear.{IsClear};
 ghost use Rattle.object_shelf.specs.Whole.{is_out};
 ghost use Rattle.task_roll.specs.Order.{fits_at};
@@ -115,11 +116,25 @@ impl Queue {
         find_in(&self.rows, path)
     }
 
-    /// The first entry before the path's that conflicts with a hold in this mode.
-    pub(crate) fn blocker(&self, path: &Path, mode: Mode) -> Option<&Entry>
-        ensures { MatchOption result (blocker_in path.now mode self.now ≡ None) (λ e. blocker_in path.now mode self.now ≡ Some e.now) }
+    /// How many entries stand before the path's; where it has none, their number.
+    pub(crate) fn place(&self, path: &Path) -> usize
+        ensures { result ≡ place_in path.now self.now }
     {
-        first_conflict(&self.rows, &self.clear, path, mode)
+        entry_place(&self.rows, path)
+    }
+
+    /// The entry at a place, if there is one.
+    pub(crate) fn entry_at(&self, place: usize) -> Option<&Entry>
+        ensures { MatchOption result (slice_get self.now place ≡ None) (λ e. slice_get self.now place ≡ Some e.now) }
+    {
+        entry_at(&self.rows, place)
+    }
+
+    /// The first entry before a place that conflicts with a hold in this mode.
+    pub(crate) fn blocker(&self, place: usize, mode: Mode) -> Option<&Entry>
+        ensures { MatchOption result (blocker_before place mode self.now ≡ None) (λ e. blocker_before place mode self.now ≡ Some e.now) }
+    {
+        first_conflict(&self.rows, &self.clear, place, mode)
     }
 
     /// The entry with which the content is out.
@@ -136,11 +151,12 @@ impl Queue {
         any_out(&self.clear, &self.rows)
     }
 
-    /// The path's task holds the object, and this version is kept for it from now on.
-    pub(crate) fn hold(&mut self, path: &Path, mode: Mode, fresh: Option<SharedCells>)
-        ensures { self.new ≡ at path.now (held_with mode fresh) self.old }
+    /// The task of the entry at a place holds the object, and this version, where there is one, is
+    /// kept for it from now on.
+    pub(crate) fn hold(&mut self, place: usize, mode: Mode, fresh: Option<SharedCells>)
+        ensures { self.new ≡ at_nth place (held_with mode fresh) self.old }
     {
-        hold_in(&mut self.rows, &mut self.clear, path, mode, fresh);
+        hold_at(&mut self.rows, &mut self.clear, place, mode, fresh);
     }
 
     /// The path's task holds the object no longer.
@@ -268,19 +284,18 @@ fn find_in<'a>(rows: &'a VecDeque<Entry>, path: &Path) -> Option<&'a Entry>
     None
 }
 
-// The first entry before the path's that conflicts with a hold in this mode.
+// The first entry before a place that conflicts with a hold in this mode.
 fn first_conflict<'a>(
     rows: &'a VecDeque<Entry>,
     clear: &Clear,
-    path: &Path,
+    place: usize,
     mode: Mode,
 ) -> Option<&'a Entry>
-    requires ordered { is_ordered rows.now.items ≡ true }
     requires clear { IsClear clear.now rows.now.items }
-    ensures { MatchOption result (blocker_in path.now mode rows.now.items ≡ None) (λ e. blocker_in path.now mode rows.now.items ≡ Some e.now) }
+    ensures { MatchOption result (blocker_before place mode rows.now.items ≡ None) (λ e. blocker_before place mode rows.now.items ≡ Some e.now) }
 {
     let first = clear.until(mode);
-    if first < entry_place(rows, path) {
+    if first < place {
         return entry_at(rows, first);
     }
     None
@@ -316,25 +331,24 @@ fn holder(rows: &VecDeque<Entry>) -> Option<&Entry>
     None
 }
 
-// The path's task holds the object, and this version is kept for it.
-fn hold_in(
+// The task of the entry at a place holds the object, and this version is kept for it.
+fn hold_at(
     rows: &mut VecDeque<Entry>,
     clear: &mut Clear,
-    path: &Path,
+    place: usize,
     mode: Mode,
     fresh: Option<SharedCells>,
 )
     requires ordered { is_ordered rows.old.items ≡ true }
     requires clear { IsClear clear.old rows.old.items }
-    ensures done { rows.new.items ≡ at path.now (held_with mode fresh) rows.old.items }
+    ensures done { rows.new.items ≡ at_nth place (held_with mode fresh) rows.old.items }
     ensures order { is_ordered rows.new.items ≡ true }
     ensures clears { IsClear clear.new rows.new.items }
 {
-    let place = entry_place(rows, path);
     if place < rows.len() {
         let was_out = out_at(rows, clear, place);
-        hold(&mut rows[place], mode, fresh);
-        clear.changed(rows, place, was_out);
+        let is_alike = hold(&mut rows[place], mode, fresh);
+        clear.turned(rows, place, was_out, is_alike);
     }
 }
 
@@ -349,8 +363,8 @@ fn release_in(rows: &mut VecDeque<Entry>, clear: &mut Clear, path: &Path)
     let place = entry_place(rows, path);
     if place < rows.len() {
         let was_out = out_at(rows, clear, place);
-        release(&mut rows[place]);
-        clear.changed(rows, place, was_out);
+        let is_alike = release(&mut rows[place]);
+        clear.turned(rows, place, was_out, is_alike);
     }
 }
 
@@ -407,24 +421,38 @@ fn leave_in(rows: &mut VecDeque<Entry>, clear: &mut Clear, path: &Path)
     }
 }
 
-// The entry's task holds the object, and this version is kept for it.
-fn hold(entry: &mut Entry, mode: Mode, fresh: Option<SharedCells>)
-    ensures { entry.new ≡ held_with mode fresh entry.old }
+// The entry's task holds the object, and this version is kept for it. It is told whether there is a
+// version exactly where there was one.
+fn hold(entry: &mut Entry, mode: Mode, fresh: Option<SharedCells>) -> bool
+    ensures done { entry.new ≡ held_with mode fresh entry.old }
+    ensures alike { result ≡ true → is_none entry.new.version ≡ is_none entry.old.version }
 {
-    if let Some(version) = fresh {
-        entry.version = Some(version);
-    }
     entry.hold = Some(mode);
+    match fresh {
+        Some(version) => {
+            let had_one = entry.version.is_some();
+            entry.version = Some(version);
+            had_one
+        }
+        None => true,
+    }
 }
 
-// The entry's task holds the object no longer.
-fn release(entry: &mut Entry)
-    ensures { entry.new ≡ released entry.old }
+// The entry's task holds the object no longer. It is told whether there is a version exactly where
+// there was one.
+fn release(entry: &mut Entry) -> bool
+    ensures done { entry.new ≡ released entry.old }
+    ensures alike { result ≡ true → is_none entry.new.version ≡ is_none entry.old.version }
 {
     entry.hold = None;
+    if entry.version.is_none() {
+        return true;
+    }
     if entry.rights.writes.is_there() || entry.rights.commutes.is_there() {
         entry.version = None;
+        return false;
     }
+    true
 }
 
 // The entry's task holds the object no longer, and this version is what is kept for it.

@@ -32,7 +32,7 @@ use crate::view::{
 use atomic_table::{Play, Seat, Shared};
 use jade_base::{Blame, Content, Memory, Mode, Path, Rights};
 use jade_meaning::Plan;
-use object_shelf::Shelf;
+use object_shelf::{Handout, Shelf};
 use std::alloc::Global;
 use task_roll::PartNote;
 
@@ -300,13 +300,10 @@ enum Handed {
 fn hand_out(shelf: &mut Shelf, alloc: Global, path: &Path, mode: Mode) -> Result<Handed, Memory>
     ensures { HandedAs shelf.old path.now mode result (SlotOf.Object shelf.new) }
 {
-    match shelf.blocker(path, mode) {
-        Some(entry) => return Ok(Handed::Kept(entry.path.copy(alloc)?)),
-        None => {}
-    }
-    match shelf.take(alloc, path, mode)? {
-        Some(content) => Ok(Handed::Content(content)),
-        None => Err(Memory),
+    match shelf.hand_out(alloc, path, mode)? {
+        Handout::Content(content) => Ok(Handed::Content(content)),
+        Handout::Kept(path) => Ok(Handed::Kept(path)),
+        Handout::Nothing => Err(Memory),
     }
 }
 
