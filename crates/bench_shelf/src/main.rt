@@ -35,7 +35,7 @@ fn readers(alloc: Global, entries: u32, mode: Mode) -> Result<u32, Memory> {
     let mut paths = Vec::new(alloc);
     for k in 0..entries {
         let child = root.child(alloc, k)?;
-        shelf.enter(alloc, &root, &child, READS)?;
+        shelf.enter(&root, child.copy(alloc)?, READS)?;
         paths.push(child)?;
     }
     let mut had: u32 = 0;
@@ -61,7 +61,7 @@ fn round(alloc: Global, entries: u32) -> Result<u32, Memory> {
     let mut paths = Vec::new(alloc);
     for k in 0..entries {
         let child = root.child(alloc, k)?;
-        shelf.enter(alloc, &root, &child, WRITES)?;
+        shelf.enter(&root, child.copy(alloc)?, WRITES)?;
         paths.push(child)?;
     }
     let mut had: u32 = 0;

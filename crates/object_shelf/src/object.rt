@@ -195,7 +195,7 @@ fn enter_in(
     ensures out { is_out shelf.new.queue ≡ is_out shelf.old.queue }
     ensures unchanged { OnErr result (shelf.new ≡ shelf.old) }
 {
-    shelf.enter(alloc, parent, child, rights)?;
+    shelf.enter(parent, child.copy(alloc)?, rights)?;
     Ok(())
 }
 

@@ -74,24 +74,11 @@ impl Queue {
 
     /// Puts the child's entry directly before its parent's, where that keeps the order. The error
     /// is want of memory, and changes nothing.
-    pub(crate) fn enter(
-        &mut self,
-        alloc: Global,
-        parent: &Path,
-        child: &Path,
-        rights: Rights,
-    ) -> Result<(), Memory>
-        ensures done { OnOk result (self.new ≡ fitted_in parent.now child.now rights self.old) }
+    pub(crate) fn enter(&mut self, parent: &Path, child: Path, rights: Rights) -> Result<(), Memory>
+        ensures done { OnOk result (self.new ≡ fitted_in parent.now child rights self.old) }
         ensures unchanged { OnErr result (self.new ≡ self.old) }
     {
-        enter_in(
-            &mut self.rows,
-            &mut self.clear,
-            alloc,
-            parent,
-            child,
-            rights,
-        )
+        enter_in(&mut self.rows, &mut self.clear, parent, child, rights)
     }
 
     /// The number of entries.
@@ -189,6 +176,7 @@ impl Queue {
 }
 
 // How many entries stand before the path's; where it has none, their number.
+#[inline(always)]
 fn entry_place(rows: &VecDeque<Entry>, path: &Path) -> usize
     requires { is_ordered rows.now.items ≡ true }
     ensures { result ≡ place_in path.now rows.now.items }
@@ -200,14 +188,13 @@ fn entry_place(rows: &VecDeque<Entry>, path: &Path) -> usize
 fn enter_in(
     rows: &mut VecDeque<Entry>,
     clear: &mut Clear,
-    alloc: Global,
     parent: &Path,
-    child: &Path,
+    child: Path,
     rights: Rights,
 ) -> Result<(), Memory>
     requires ordered { is_ordered rows.old.items ≡ true }
     requires clear { IsClear clear.old rows.old.items }
-    ensures done { OnOk result (rows.new.items ≡ fitted_in parent.now child.now rights rows.old.items) }
+    ensures done { OnOk result (rows.new.items ≡ fitted_in parent.now child rights rows.old.items) }
     ensures unchanged { OnErr result (rows.new.items ≡ rows.old.items) }
     ensures order { is_ordered rows.new.items ≡ true }
     ensures clears { IsClear clear.new rows.new.items }
@@ -216,10 +203,10 @@ fn enter_in(
     if place >= rows.len() {
         return Ok(());
     }
-    if !child_fits(rows, place, child) {
+    if !child_fits(rows, place, &child) {
         return Ok(());
     }
-    let entry = born(alloc, &rows[place], child, rights)?;
+    let entry = born(&rows[place], child, rights)?;
     insert(rows, place, entry)?;
     clear.entered(rows, place);
     Ok(())
@@ -234,13 +221,12 @@ fn child_fits(rows: &VecDeque<Entry>, place: usize, child: &Path) -> bool
 }
 
 // The entry of a child of the task of this entry.
-fn born(alloc: Global, parent: &Entry, child: &Path, rights: Rights) -> Result<Entry, Memory>
-    ensures { IfOk result (λ e. e ≡ newborn child.now rights parent.now) }
+fn born(parent: &Entry, child: Path, rights: Rights) -> Result<Entry, Memory>
+    ensures { IfOk result (λ e. e ≡ newborn child rights parent.now) }
 {
-    let path = child.copy(alloc)?;
     let version = handed_on(parent)?;
     Ok(Entry {
-        path,
+        path: child,
         rights,
         hold: None,
         version,
@@ -266,7 +252,21 @@ fn insert(rows: &mut VecDeque<Entry>, place: usize, entry: Entry) -> Result<(), 
     ensures done { OnOk result (rows.new.items ≡ insert rows.old.items place entry) }
     ensures unchanged { OnErr result (rows.new.items ≡ rows.old.items) }
 {
+    if place == 0 {
+        return insert_first(rows, entry);
+    }
     match rows.insert(place, entry) {
+        Ok(()) => Ok(()),
+        Err(_) => Err(Memory),
+    }
+}
+
+// Puts an entry before all others, which moves none of them.
+fn insert_first(rows: &mut VecDeque<Entry>, entry: Entry) -> Result<(), Memory>
+    ensures done { OnOk result (rows.new.items ≡ insert rows.old.items 0 entry) }
+    ensures unchanged { OnErr result (rows.new.items ≡ rows.old.items) }
+{
+    match rows.push_front(entry) {
         Ok(()) => Ok(()),
         Err(_) => Err(Memory),
     }

@@ -359,15 +359,14 @@ fn leave_in(slot: &mut Slot, path: &Path)
 // it answers as where memory is wanting.
 fn enter_in(
     shelf: &mut Shelf,
-    alloc: Global,
     parent: &Path,
-    child: &Path,
+    child: Path,
     rights: Rights,
 ) -> Result<(), Memory>
-    ensures { EnteredAs shelf.old parent.now child.now rights result (SlotOf.Object shelf.new) }
+    ensures { EnteredAs shelf.old parent.now child rights result (SlotOf.Object shelf.new) }
 {
     let before = shelf.len();
-    shelf.enter(alloc, parent, child, rights)?;
+    shelf.enter(parent, child, rights)?;
     if shelf.len() == before {
         return Err(Memory);
     }
@@ -377,16 +376,15 @@ fn enter_in(
 // The same of the object in a slot.
 fn enter_to(
     slot: &mut Slot,
-    alloc: Global,
     parent: &Path,
-    child: &Path,
+    child: Path,
     rights: Rights,
 ) -> Result<(), Memory>
     requires { IsObject slot.old }
-    ensures { (z : ShelfView) → slot.old ≡ SlotOf.Object z → EnteredAs z parent.now child.now rights result slot.new }
+    ensures { (z : ShelfView) → slot.old ≡ SlotOf.Object z → EnteredAs z parent.now child rights result slot.new }
 {
     match slot {
-        Slot::Object(shelf) => enter_in(shelf, alloc, parent, child, rights),
+        Slot::Object(shelf) => enter_in(shelf, parent, child, rights),
         Slot::Away => unreachable!(),
         Slot::Roll(_) => unreachable!(),
     }
@@ -542,7 +540,7 @@ pub(crate) fn enter_at(
         Err(word) => return Ok(Tried::Busy(word)),
     }
     let slot = task.seat.slot_mut(&*words, object);
-    match enter_to(slot, alloc, &task.path, &child, rights) {
+    match enter_to(slot, &task.path, child, rights) {
         Ok(()) => {
             complete(words, task, object);
             Ok(Tried::Done)

@@ -4,7 +4,7 @@ ghost use Rattle.std.specs.Thread.{IsSend, IsSync};
 
 use crate::board::{Board, TaskWorker};
 use crate::gate::Gate;
-use crate::keeper::{Over, as_over, with_one_more};
+use crate::keeper::{Over, as_over, keep_too};
 use crate::work::work;
 use std::alloc::Global;
 use std::sync::Wait;
@@ -42,10 +42,7 @@ fn both<'c, N: RunName>(
     mut other: TaskWorker<'c, N>,
 ) -> TaskWorker<'c, N> {
     match other.hand_over() {
-        Some(more) => {
-            let kept = with_one_more(board, one.hand_over(), more);
-            one.keep(kept);
-        }
+        Some(more) => keep_too(board, &mut one, more),
         None => {}
     }
     one

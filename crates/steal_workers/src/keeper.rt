@@ -5,7 +5,7 @@ ghost use Rattle.object_table.specs.Calls.{IsGone};
 ghost use Rattle.task_suspend.specs.steps.Facts.{Gone-prop};
 ghost use Rattle.steal_workers.specs.steps.Facts.{Over-prop};
 
-use crate::board::Board;
+use crate::board::{Board, TaskWorker};
 use object_table::TaskPass;
 use std::marker::PhantomData;
 use task_suspend::{Resigned, RunName};
@@ -50,25 +50,23 @@ pub(crate) fn handed_in<'c, N: RunName>(board: &Board<'c, N>, kept: Kept<N>) -> 
     Kept { pass, name }
 }
 
-/// What was kept, with one pass more.
-pub(crate) fn with_one_more<'c, N: RunName>(
+/// A worker keeps one pass more: with the others, where they lie.
+pub(crate) fn keep_too<'c, N: RunName>(
     board: &Board<'c, N>,
-    kept: Option<Kept<N>>,
+    worker: &mut TaskWorker<'c, N>,
     more: Kept<N>,
-) -> Kept<N> {
-    match kept {
-        Some(kept) => merged(board, kept, more),
-        None => more,
+) {
+    match worker.kept() {
+        Some(kept) => take_over(board, kept, more),
+        None => worker.keep(more),
     }
 }
 
-// Two passes as one.
-fn merged<'c, N: RunName>(board: &Board<'c, N>, first: Kept<N>, second: Kept<N>) -> Kept<N> {
-    let Kept { mut pass, name } = first;
+// Takes one pass more into another.
+fn take_over<'c, N: RunName>(board: &Board<'c, N>, kept: &mut Kept<N>, more: Kept<N>) {
     let Kept {
         pass: other,
         name: _,
-    } = second;
-    board.table.end(&mut pass, other);
-    Kept { pass, name }
+    } = more;
+    board.table.end(&mut kept.pass, other);
 }

@@ -1,7 +1,7 @@
 //! What a worker does after a try.
 
 use crate::board::{Board, TaskWorker};
-use crate::keeper::{pass_of, with_one_more};
+use crate::keeper::{keep_too, pass_of};
 use crate::letting::{How, Wish, freed, let_first_go, offer, taken};
 use jade_base::Memory;
 use std::hint::spin_loop;
@@ -140,8 +140,7 @@ fn end<'c, N: RunName>(
     worker: &mut TaskWorker<'c, N>,
     resigned: Resigned<'c, N>,
 ) {
-    let kept = with_one_more(board, worker.hand_over(), pass_of(resigned));
-    worker.keep(kept);
+    keep_too(board, worker, pass_of(resigned));
 }
 
 // The worker goes on with the child. The parent is ready; where a crowd of tasks waits, it is held

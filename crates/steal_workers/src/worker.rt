@@ -100,6 +100,11 @@ impl<T: Drop, P: Drop> Worker<T, P> {
         self.kept = Some(pass);
     }
 
+    /// What it keeps, where it lies.
+    pub fn kept(&mut self) -> Option<&mut P> {
+        self.kept.as_mut()
+    }
+
     /// Hands over what it kept.
     pub fn hand_over(&mut self) -> Option<P> {
         self.kept.take()

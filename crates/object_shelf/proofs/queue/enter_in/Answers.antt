@@ -13,21 +13,21 @@ there p k es n o q lt = ap (λ m. fits_at m k (paths es)) q ∙ fits-there p k e
 pub returns-then-place-len-clause-done : goal.returns-then-place-len-clause-done
 returns-then-place-len-clause-done c =
     let es = c.args.rows.now.items in
-    fitted-out c.args.parent.now c.args.child.now c.args.rights es
-    (fits-past c.args.parent.now c.args.child.now es
+    fitted-out c.args.parent.now c.args.child c.args.rights es
+    (fits-past c.args.parent.now c.args.child es
     (subst (λ m. length es ≤ m) c.entry_place-place.ensures (omega (arith, c.len.ensures, c.if-place-len.true))))
 
 pub returns-then-not-child_fits-clause-done : goal.returns-then-not-child_fits-clause-done
 returns-then-not-child_fits-clause-done c =
     let es = c.args.rows.now.items in
-    fitted-out c.args.parent.now c.args.child.now c.args.rights es
-    (sym (there c.args.parent.now c.args.child.now es c.entry_place-place.result c.requires.ordered c.entry_place-place.ensures
+    fitted-out c.args.parent.now c.args.child c.args.rights es
+    (sym (there c.args.parent.now c.args.child es c.entry_place-place.result c.requires.ordered c.entry_place-place.ensures
     (omega (arith, c.len.ensures, c.if-place-len.false))) ∙ sym c.child_fits.ensures ∙ c.if-not-child_fits.true)
 
 pub returns-clause-done : goal.returns-clause-done
 returns-clause-done c =
     let p = c.args.parent.now in
-    let k = c.args.child.now in
+    let k = c.args.child in
     let es = c.args.rows.now.items in
     let lt : c.entry_place-place.result < length es = omega (arith, c.len.ensures, c.if-place-len.false) in
     let f : fits p k es ≡ true = sym (there p k es c.entry_place-place.result c.requires.ordered c.entry_place-place.ensures lt) ∙ sym c.child_fits.ensures ∙
@@ -39,7 +39,7 @@ returns-clause-done c =
 pub returns-clause-order : goal.returns-clause-order
 returns-clause-order c =
     let p = c.args.parent.now in
-    let k = c.args.child.now in
+    let k = c.args.child in
     let es = c.args.rows.now.items in
     let lt : c.entry_place-place.result < length es = omega (arith, c.len.ensures, c.if-place-len.false) in
     let f : fits p k es ≡ true = sym (there p k es c.entry_place-place.result c.requires.ordered c.entry_place-place.ensures lt) ∙ sym c.child_fits.ensures ∙

@@ -8,9 +8,9 @@ use Rattle.object_table.proofs.turns.enter_in.Goals as goal
 pub returns-then-len-before : goal.returns-then-len-before
 returns-then-len-before c =
     let es = c.args.shelf.now.queue in
-    let l : length (fitted_in c.args.parent.now c.args.child.now c.args.rights es) ≡ length es =
+    let l : length (fitted_in c.args.parent.now c.args.child c.args.rights es) ≡ length es =
     sym (ap (λ s. length s.queue) c.in_ok-enter.ensures.done) ∙ sym c.len.ensures ∙ c.if-len-before.true ∙ c.len-before.ensures in
     ap Object (c.in_ok-enter.ensures.done ∙ ap (λ (q : List Entry). record c.args.shelf.now {
       queue =
           q;
-    }) (same-length c.args.parent.now c.args.child.now c.args.rights es l))
+    }) (same-length c.args.parent.now c.args.child c.args.rights es l))

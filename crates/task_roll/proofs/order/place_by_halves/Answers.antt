@@ -2,8 +2,8 @@ use Rattle.std.proofs.Common.{◌≡◌, ◌∙◌, sym, ap, length, map, arith}
 use Rattle.jade_base.specs.Places.{same_path}
 use Rattle.task_roll.specs.Order.{place_among}
 use Rattle.task_roll.proofs.InOrder.{found, missed, past-all}
-use Rattle.task_roll.proofs.order.place_of.Goals as goal
-use Rattle.task_roll.proofs.order.place_of.Goals.{else-place-len-via-then-place-len+else-is_same, else-place-len-via-else-place-len}
+use Rattle.task_roll.proofs.order.place_by_halves.Goals as goal
+use Rattle.task_roll.proofs.order.place_by_halves.Goals.{else-place-len-via-then-place-len+else-is_same, else-place-len-via-else-place-len}
 
 pub returns-then-is_same : goal.returns-then-is_same
 returns-then-is_same g c =
