@@ -91,7 +91,8 @@ impl Hold {
         }
     }
 
-    /// The number in a cell, where something is held; a cell that is not there has 0.
+    /// The number in a cell, where something is held; a cell that is not there has 0. The content is
+    /// looked at before the mode, so that the way to one that is held for reading has no jump.
     #[inline(always)]
     pub(crate) fn cell(&self, cell: usize) -> Option<i64>
         ensures { result ≡ cell_in self.now cell }
@@ -99,10 +100,9 @@ impl Hold {
         if cell < self.cells.len() {
             return Some(self.cells[cell]);
         }
-        match (self.mode, &self.content) {
-            (Some(_), _) => Some(0),
-            (None, Some(content)) => Some(at_cell(content, cell)),
-            (None, None) => None,
+        match &self.content {
+            Some(content) => Some(at_cell(content, cell)),
+            None => { if self.mode.is_some() { Some(0) } else { None } }
         }
     }
 
