@@ -228,7 +228,7 @@ impl<'c> Execution<'c> {
     pub fn supply(&mut self, object: ObjectId, content: Content)
         ensures { self.new ≡ record self.old { rows = with_content object.0 (Some content) self.old.rows } }
     {
-        self.held.put(object, Some(content));
+        self.held.supply(object, content);
     }
 
     /// The content of an object is held no more; it is the result, where it was held. It takes no
@@ -237,7 +237,7 @@ impl<'c> Execution<'c> {
         ensures content { result ≡ held_by self.old object.0 }
         ensures rows { self.new ≡ record self.old { rows = with_content object.0 None self.old.rows } }
     {
-        self.held.put(object, None)
+        self.held.surrender(object)
     }
 
     /// Declares rights on an object for the child whose section has come to this, and goes on to

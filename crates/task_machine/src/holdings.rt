@@ -1,6 +1,6 @@
 //! The contents that a task holds.
 
-ghost use Rattle.std.specs.Prelude.{◌≡◌, ◌<◌, length, map, slice_get, Some, IfOk, IfSome};
+ghost use Rattle.std.specs.Prelude.{◌≡◌, ◌<◌, length, map, slice_get, None, Some, IfOk, IfSome};
 ghost use Rattle.jade_syntax.specs.Objects.{sizes};
 ghost use Rattle.jade_meaning.specs.Serial.{zeros};
 ghost use Rattle.task_machine.specs.Whole.{all_held, without};
@@ -125,12 +125,21 @@ impl Holdings {
         write_among(self.rows.as_mut_slice(), row, object, cell, number)
     }
 
-    /// Another content of an object, or none, in place of the one that it has, which is the result.
-    pub(crate) fn put(&mut self, object: ObjectId, content: Option<Content>) -> Option<Content>
-        ensures content { result ≡ contents_of self.old object.0 }
-        ensures rows { self.new ≡ with_content object.0 content self.old }
+    /// The row of an object, if there is one, holds this content; what it held goes. It takes no memory.
+    #[inline(always)]
+    pub(crate) fn supply(&mut self, object: ObjectId, content: Content)
+        ensures { self.new ≡ with_content object.0 (Some content) self.old }
     {
-        put_among(self.rows.as_mut_slice(), object.0 as usize, content)
+        fill_among(self.rows.as_mut_slice(), object.0 as usize, content);
+    }
+
+    /// Takes the content of an object out of its row, where it is held. It takes no memory.
+    #[inline(always)]
+    pub(crate) fn surrender(&mut self, object: ObjectId) -> Option<Content>
+        ensures content { result ≡ contents_of self.old object.0 }
+        ensures rows { self.new ≡ with_content object.0 None self.old }
+    {
+        take_among(self.rows.as_mut_slice(), object.0 as usize)
     }
 }
 
@@ -149,15 +158,17 @@ fn rows_of(alloc: Global, checked: &Checked) -> Result<Vec<Row>, Memory>
 }
 
 // Takes the content of an object out, where it is held.
+#[inline(always)]
 fn take_among(rows: &mut [Row], object: usize) -> Option<Content>
     requires { RowsAscend rows.old }
     ensures taken { result ≡ contents_of rows.old object }
     ensures left { contents_of rows.new ≡ without object (contents_of rows.old) }
+    ensures rows { rows.new ≡ with_content object None rows.old }
     ensures ascend { RowsAscend rows.new }
 {
     match place_of(rows, object) {
         None => None,
-        Some(place) => rows[place].content.put(None),
+        Some(place) => rows[place].content.take(),
     }
 }
 
@@ -265,15 +276,15 @@ fn write_among(rows: &mut [Row], row: usize, _object: usize, cell: usize, number
     rows[row].content.write(cell, number)
 }
 
-// Another content of an object, or none, in place of the one that it has.
-fn put_among(rows: &mut [Row], object: usize, content: Option<Content>) -> Option<Content>
+// The row of an object, if there is one, holds this content.
+#[inline(always)]
+fn fill_among(rows: &mut [Row], object: usize, content: Content)
     requires { RowsAscend rows.old }
-    ensures content { result ≡ contents_of rows.old object }
-    ensures rows { rows.new ≡ with_content object content rows.old }
+    ensures rows { rows.new ≡ with_content object (Some content) rows.old }
     ensures ascend { RowsAscend rows.new }
 {
     match place_of(rows, object) {
-        None => None,
-        Some(place) => rows[place].content.put(content),
+        None => {}
+        Some(place) => rows[place].content.fill(content),
     }
 }

@@ -52,32 +52,29 @@ impl Hold {
         }
     }
 
-    // The content.
-    fn into_content(self) -> Option<Content>
-        ensures { result ≡ self }
-    {
-        let Hold {
-            mode,
-            cells,
-            content,
-        } = self;
-        match mode {
-            Some(mode) => Some(Content::of(mode, Numbers::from_vec(cells))),
-            None => content,
-        }
-    }
-
-    /// Another content, or none, in place of the one that is held, which is the result. It takes no memory.
-    pub(crate) fn put(&mut self, content: Option<Content>) -> Option<Content>
-        ensures before { result ≡ self.old }
-        ensures after { self.new ≡ content }
+    /// A content in place of what is held, which goes. It takes no memory.
+    #[inline(always)]
+    pub(crate) fn fill(&mut self, content: Content)
+        ensures { self.new ≡ Some content }
     {
         let alloc = *self.cells.allocator();
-        let hold = match content {
-            None => Hold::none(alloc),
-            Some(content) => Hold::of(alloc, content),
-        };
-        mem::replace(self, hold).into_content()
+        *self = Hold::of(alloc, content);
+    }
+
+    /// Takes out what is held. It takes no memory.
+    #[inline(always)]
+    pub(crate) fn take(&mut self) -> Option<Content>
+        ensures taken { result ≡ self.old }
+        ensures left { self.new ≡ None }
+    {
+        let alloc = *self.cells.allocator();
+        match self.mode.take() {
+            Some(mode) => {
+                let cells = mem::replace(&mut self.cells, Vec::new(alloc));
+                Some(Content::of(mode, Numbers::from_vec(cells)))
+            }
+            None => self.content.take(),
+        }
     }
 
     /// The mode of the hold, if there is one.
@@ -91,7 +88,8 @@ impl Hold {
         }
     }
 
-    /// The number in a cell, where something is held; a cell that is not there has 0.
+    /// The number in a cell, where something is held; a cell that is not there has 0. The content is
+    /// looked at before the mode, so that the way to one that is held for reading has no jump.
     #[inline(always)]
     pub(crate) fn cell(&self, cell: usize) -> Option<i64>
         ensures { result ≡ cell_in self.now cell }
@@ -99,10 +97,9 @@ impl Hold {
         if cell < self.cells.len() {
             return Some(self.cells[cell]);
         }
-        match (self.mode, &self.content) {
-            (Some(_), _) => Some(0),
-            (None, Some(content)) => Some(at_cell(content, cell)),
-            (None, None) => None,
+        match &self.content {
+            Some(content) => Some(at_cell(content, cell)),
+            None => { if self.mode.is_some() { Some(0) } else { None } }
         }
     }
 
