@@ -7,7 +7,7 @@ ghost use Rattle.jade_base.specs.Rights.{both_rights};
 ghost use Rattle.jade_base.specs.Specification.{joined_in, kept, settled};
 ghost use Rattle.task_machine.specs.Executions.{Advanced, body_at, created_by, held_by, IsBegun, moved_on, with_content};
 ghost use Rattle.task_machine.specs.Executions.{without_content, objects_in};
-ghost use Rattle.task_machine.specs.Machines.{amended_at, holds_at, made_at};
+ghost use Rattle.task_machine.specs.Machines.{amended_at, holds_at};
 ghost use Rattle.task_machine.specs.steps.Holding.{RowsAscend, row_from};
 ghost use Rattle.task_machine.specs.steps.Owning.{rights_of};
 ghost use Rattle.jade_meaning.specs.Talk.{held};
@@ -20,7 +20,7 @@ ghost use Rattle.task_machine.specs.declared.section.Section.{Section};
 use crate::frame::{Frame, Pause, go_past};
 use crate::holdings::Holdings;
 use crate::section::{
-    Own, all_rights, commit, copied_for, declare_for_child, end_section, made_for, outside_section,
+    Own, all_rights, commit, copied_for, declare_for_child, end_section, outside_section,
     own_object, rights_for,
 };
 use crate::slots::{empty_slots, give_call, give_inputs};
@@ -370,13 +370,6 @@ impl<'c> Execution<'c> {
         ensures { result ≡ rights_on (amended_at self.now) object.0 }
     {
         copied_for(&self.own, object)
-    }
-
-    /// The rights on an object that a section has made for a child. It takes no memory.
-    pub fn made(&self, object: ObjectId) -> Rights
-        ensures { result ≡ rights_on (made_at self.now) object.0 }
-    {
-        made_for(&self.own, object)
     }
 
     /// The objects on which a section has made rights for a child, with these. It takes no memory.
