@@ -1,7 +1,7 @@
 -- The first of ascending objects for which a test holds is the least of all.
 use Rattle.std.proofs.Common.{◌≡◌, ℕ, zero, suc, ◌+◌, ◌-◌, ◌<◌, ◌≤◌, ◌⊎◌, inl, inr, List, [], ◌∷◌, map, length, Bool, true, false, Option, Some, None}
 use Rattle.std.proofs.Common.{refl, sym, ap, ◌∙◌, subst, arith}
-use Rattle.std.specs.Prelude.{slice_get, slice_index_or, nat_eq, is_some, ◌&&◌, if◌then◌else◌}
+use Rattle.std.specs.Prelude.{slice_get, slice_index_or, nat_eq, is_some, not, ◌&&◌, if◌then◌else◌}
 use Rattle.std.proofs.lemmas.Bool.{cases_eq, eq-eqb, ne_eqb, true≢false}
 use Rattle.std.proofs.lemmas.Option.{none-some, same_Some}
 use Rattle.jade_base.specs.declared.place.ObjectId.{ObjectId}
@@ -253,6 +253,42 @@ pub mark_at : (o : ℕ) (rs : List Row) (ds : List Bool) (p : ℕ) → row_from 
 mark_at o rs ds p h =
     let m = mark_row o 0 rs ds p h in
     let z : p - 0 ≡ p = omega arith in m.1 ∙ ap (λ j. slice_index_or ds j false) z
+
+-- the object at a place among those of rows is above what all of them are above
+above_placed : (n : ℕ) (rs : List Row) (p : ℕ) (o : ObjectId) → RowsAbove n rs → slice_get (objects_in rs) p ≡ Some o → n < o.0
+above_placed n [] p o a h = absurd (none-some o h)
+above_placed n (r ∷ rs) zero o a h = subst (λ (x : ObjectId). n < x.0) (same_Some r.object o h) a.0
+above_placed n (r ∷ rs) (suc p) o a h = above_placed n rs p o a.1 h
+
+placed_from : (n : ℕ) (rs : List Row) (p : ℕ) (o : ObjectId) → RowsAscend rs → slice_get (objects_in rs) p ≡ Some o → row_from o.0 n rs ≡ Some (n + p)
+placed_from n [] p o a h = absurd (none-some o h)
+placed_from n (r ∷ rs) zero o a h =
+    let e = ap (λ (x : ObjectId). x.0) (same_Some r.object o h) in
+    let z : n ≡ n + 0 = omega arith in
+    rw (eq-eqb r.object.0 o.0 e) (ap Some z)
+placed_from n (r ∷ rs) (suc p) o a h =
+    let far = above_placed r.object.0 rs p o a.0 h in
+    let z : suc n + p ≡ n + suc p = omega arith in
+    rw (ne_eqb r.object.0 o.0 (λ q. omega (arith, far, q))) (placed_from (suc n) rs p o a.1 h ∙ ap Some z)
+
+-- the row at an object's place is its first
+pub row_placed : (rs : List Row) (p : ℕ) (o : ObjectId) → RowsAscend rs → slice_get (objects_in rs) p ≡ Some o → row_from o.0 0 rs ≡ Some p
+row_placed rs p o a h = let z : 0 + p ≡ p = omega arith in placed_from 0 rs p o a h ∙ ap Some z
+
+-- its mark is the one at the place
+pub mark_placed : (rs : List Row) (ds : List Bool) (p : ℕ) (o : ObjectId) → RowsAscend rs → slice_get (objects_in rs) p ≡ Some o
+    → due_in rs ds o.0 ≡ slice_index_or ds p false
+mark_placed rs ds p o a h = mark_at o.0 rs ds p (row_placed rs p o a h)
+
+-- what is not due is not taken, nor is it where a task begins
+pub not_taken : (own d m : Bool) → d ≡ false → false ≡ (if (if own then false else d) then m else false)
+not_taken true d m e = refl
+not_taken false d m e = sym (ap (λ b. if b then m else false) e)
+
+-- what is due and has a mode is taken where a task begins, unless it is the own one
+pub taken_unless : (own d m : Bool) → d ≡ true → m ≡ true → not own ≡ (if (if own then false else d) then m else false)
+taken_unless true d m e h = refl
+taken_unless false d m e h = sym (ap (λ b. if b then m else false) e ∙ h)
 
 no_row : (o k : ℕ) (rs : List Row) → row_from o k rs ≡ None → has_row o rs ≡ false
 no_row o k [] h = refl

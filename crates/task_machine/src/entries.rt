@@ -82,8 +82,8 @@ pub(crate) fn next_amended(spec: &Spec, objects: u32, from: ObjectId) -> Option<
     None
 }
 
-// The rights on the object of an entry, among so many objects.
-fn rights_at(spec: &Spec, objects: u32, place: usize) -> (ObjectId, Rights)
+/// The rights on the object of an entry, among so many objects. It takes no memory.
+pub(crate) fn rights_at(spec: &Spec, objects: u32, place: usize) -> (ObjectId, Rights)
     requires { place < length spec.now.entries }
     ensures object { slice_get (map (λ x. x.0) spec.now.entries) place ≡ Some result.0 }
     ensures rights { result.1 ≡ rights_on (spread objects spec.now.entries) result.0.0 }

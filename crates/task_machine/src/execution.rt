@@ -7,8 +7,9 @@ ghost use Rattle.jade_base.specs.Rights.{both_rights};
 ghost use Rattle.jade_base.specs.Specification.{joined_in, kept, settled};
 ghost use Rattle.task_machine.specs.Executions.{Advanced, body_at, created_by, held_by, IsBegun, moved_on, with_content};
 ghost use Rattle.task_machine.specs.Executions.{without_content, objects_in};
-ghost use Rattle.task_machine.specs.Machines.{amended_at, holds_at, made_at};
+ghost use Rattle.task_machine.specs.Machines.{amended_at, holds_at};
 ghost use Rattle.task_machine.specs.steps.Holding.{RowsAscend, row_from};
+ghost use Rattle.task_machine.specs.steps.Owning.{rights_of};
 ghost use Rattle.jade_meaning.specs.Talk.{held};
 ghost use Rattle.task_code.specs.Rules.{Valid};
 ghost use Rattle.jade_base.specs.Rights.{join};
@@ -18,12 +19,12 @@ ghost use Rattle.task_machine.specs.declared.section.Section.{Section};
 
 use crate::frame::{Frame, Pause, go_past};
 use crate::holdings::Holdings;
-use crate::play;
 use crate::section::{
-    Own, all_rights, commit, copied_for, declare_for_child, end_section, made_for, outside_section,
+    Own, all_rights, commit, copied_for, declare_for_child, end_section, outside_section,
     own_object, rights_for,
 };
 use crate::slots::{empty_slots, give_call, give_inputs};
+use crate::{entries, play};
 use access_spec::WorkingCopy;
 use code_meaning::code::Operand;
 use jade_base::{Content, Memory, Mode, ObjectId, Rights, Spec};
@@ -192,6 +193,20 @@ fn begun<'c>(
     }
 }
 
+// The rights of the task on an object. Its entry is looked for at this place first.
+fn rights_near(own: &Own, place: usize, object: ObjectId) -> Rights
+    ensures { result ≡ rights_on (rights_of own.now) object.0 }
+{
+    let spec = own.spec.spec();
+    if place < spec.len() {
+        let (other, rights) = entries::rights_at(spec, own.objects, place);
+        if other.0 == object.0 {
+            return rights;
+        }
+    }
+    rights_for(own, object)
+}
+
 impl<'c> Execution<'c> {
     /// The execution of the first body, from its begin, with immediate reading and writing of all
     /// objects and no content held. The error is want of memory.
@@ -314,6 +329,26 @@ impl<'c> Execution<'c> {
         }
     }
 
+    /// The mode in which an object is held, whose row is at this place, if it is.
+    pub(crate) fn hold_in_row(&self, place: usize, object: ObjectId) -> Option<Mode>
+        requires { slice_get (objects_in self.now.rows) place ≡ Some object }
+        ensures { result ≡ held (holds_at self.now) object.0 }
+    {
+        if object.0 < self.own.objects {
+            self.held.mode_at(place, object)
+        } else {
+            None
+        }
+    }
+
+    /// The rights of the task on an object, found at once where its entry has the same place as its
+    /// row, which is at this one.
+    pub(crate) fn rights_in_row(&self, place: usize, object: ObjectId) -> Rights
+        ensures { result ≡ rights_on (rights_at self.now.stage) object.0 }
+    {
+        rights_near(&self.own, place, object)
+    }
+
     /// The rights of the task on an object. It takes no memory.
     pub fn rights(&self, object: ObjectId) -> Rights
         ensures { result ≡ rights_on (rights_at self.now.stage) object.0 }
@@ -335,13 +370,6 @@ impl<'c> Execution<'c> {
         ensures { result ≡ rights_on (amended_at self.now) object.0 }
     {
         copied_for(&self.own, object)
-    }
-
-    /// The rights on an object that a section has made for a child. It takes no memory.
-    pub fn made(&self, object: ObjectId) -> Rights
-        ensures { result ≡ rights_on (made_at self.now) object.0 }
-    {
-        made_for(&self.own, object)
     }
 
     /// The objects on which a section has made rights for a child, with these. It takes no memory.

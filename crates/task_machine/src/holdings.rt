@@ -104,6 +104,15 @@ impl Holdings {
         mode_among(self.rows.as_slice(), object)
     }
 
+    /// The mode in which an object is held, whose row is at this place, if it is.
+    #[inline(always)]
+    pub(crate) fn mode_at(&self, place: usize, _object: ObjectId) -> Option<Mode>
+        requires { slice_get (objects_in self.now) place ≡ Some _object }
+        ensures { result ≡ mode_held (contents_of self.now _object.0) }
+    {
+        self.rows[place].content.mode()
+    }
+
     /// The number in a cell of an object, whose row is at this place, where the object is held; a cell
     /// that is not there has 0.
     #[inline(always)]

@@ -1,13 +1,15 @@
 //! Which object a task takes or gives up next.
 
-ghost use Rattle.std.specs.Prelude.{◌≡◌, ◌<◌, ◌&&◌, not, length, is_some, false, slice_get, slice_index_or, Some, IfSome, IfNone};
+ghost use Rattle.std.specs.Prelude.{◌≡◌, ◌<◌, ◌&&◌, not, length, map, is_some, false, slice_get, slice_index_or, Some, IfSome, IfNone};
 ghost use Rattle.jade_meaning.specs.Specification.{commuting_on, same_hold, yields};
 ghost use Rattle.task_machine.specs.Stages.{rights_at};
 ghost use Rattle.task_machine.specs.steps.Standing.{OwnIsDue, OwnIsNotDue};
-ghost use Rattle.task_machine.specs.Left.{IsLeast, IsNone, is_own, to_take};
-ghost use Rattle.task_machine.specs.Machines.{candidates, due_in, is_to_move};
+ghost use Rattle.task_machine.specs.Executions.{objects_in};
+ghost use Rattle.task_machine.specs.Left.{IsLeast, IsNone, for_child, is_own, others, to_take};
+ghost use Rattle.task_machine.specs.Machines.{candidates, due_in, holds_at, is_to_move, made_at};
 ghost use Rattle.task_machine.specs.steps.Searching.{IsFirstFrom, ObjectsAscend};
 
+use crate::entries;
 use crate::execution::Execution;
 use crate::halves::FEW;
 use access_spec::{gives_way, mode_of};
@@ -31,6 +33,7 @@ pub enum Phase {
 }
 
 // The number of objects among which one is looked for.
+#[inline(always)]
 fn count(execution: &Execution, phase: Phase) -> usize
     ensures count { result ≡ length (candidates phase execution.now) }
     ensures ascend { ObjectsAscend (candidates phase execution.now) }
@@ -46,6 +49,7 @@ fn count(execution: &Execution, phase: Phase) -> usize
 }
 
 // One of these objects.
+#[inline(always)]
 fn candidate(execution: &Execution, phase: Phase, place: usize) -> ObjectId
     requires { place < length (candidates phase execution.now) }
     ensures { slice_get (candidates phase execution.now) place ≡ Some result }
@@ -68,6 +72,7 @@ fn is_due(execution: &Execution, due: &[bool], object: ObjectId) -> bool
 }
 
 // A mark, or none.
+#[inline(always)]
 fn mark(due: &[bool], place: usize) -> bool
     ensures { result ≡ slice_index_or due.now place false }
 {
@@ -75,6 +80,7 @@ fn mark(due: &[bool], place: usize) -> bool
 }
 
 // Whether a hold is given up for a child with these rights.
+#[inline(always)]
 fn is_given(hold: Option<Mode>, rights: Rights) -> bool
     ensures { result ≡ yields hold rights }
 {
@@ -85,6 +91,7 @@ fn is_given(hold: Option<Mode>, rights: Rights) -> bool
 }
 
 // Whether a hold is given up where this mode is to follow it.
+#[inline(always)]
 pub(crate) fn is_given_back(hold: Option<Mode>, mode: Option<Mode>) -> bool
     ensures { result ≡ (is_some hold && not (same_hold hold mode)) }
 {
@@ -112,9 +119,6 @@ fn is_taken(execution: &Execution, due: &[bool], object: ObjectId) -> bool
 fn is_own(execution: &Execution, object: ObjectId) -> bool
     ensures { result ≡ is_own (commuting_on (rights_at execution.now.stage)) object.0 }
 {
-    if !execution.rights(object).commutes.is_there() {
-        return false;
-    }
     match execution.own_object() {
         None => false,
         Some(own) => own.0 == object.0,
@@ -138,25 +142,75 @@ pub(crate) fn own_due(execution: &Execution, due: &[bool]) -> Option<ObjectId>
     }
 }
 
-// Whether an object is to be taken or given up.
-fn moves(execution: &Execution, due: &[bool], phase: Phase, object: ObjectId) -> bool
+// Whether the object of a row is due, and has a mode.
+#[inline(always)]
+fn is_taken_in_row(execution: &Execution, due: &[bool], place: usize, object: ObjectId) -> bool
+    requires { slice_get (objects_in execution.now.rows) place ≡ Some object }
+    ensures { result ≡ to_take (due_in execution.now.rows due.now) (rights_at execution.now.stage) object.0 }
+{
+    let _count = execution.rows();
+    if mark(due, place) {
+        mode_of(execution.rights_in_row(place, object)).is_some()
+    } else {
+        false
+    }
+}
+
+// The same where the task begins, and the object on which it commutes is left out. That one is looked
+// for only where the rights on this one commute.
+#[inline(always)]
+fn is_taken_first(execution: &Execution, due: &[bool], place: usize, object: ObjectId) -> bool
+    requires { slice_get (objects_in execution.now.rows) place ≡ Some object }
+    ensures { result ≡ to_take (others (commuting_on (rights_at execution.now.stage)) (due_in execution.now.rows due.now))
+        (rights_at execution.now.stage) object.0 }
+{
+    let _count = execution.rows();
+    if !mark(due, place) {
+        return false;
+    }
+    let rights = execution.rights_in_row(place, object);
+    if mode_of(rights).is_none() {
+        return false;
+    }
+    if rights.commutes.is_there() {
+        !is_own(execution, object)
+    } else {
+        true
+    }
+}
+
+// Whether the object of a child's entry is given up for the child.
+#[inline(always)]
+fn is_given_for_entry(execution: &Execution, place: usize, object: ObjectId) -> bool
+    requires { slice_get (map (λ x. x.0) execution.now.stage.child.entries) place ≡ Some object }
+    ensures { result ≡ for_child (made_at execution.now) (holds_at execution.now) object.0 }
+{
+    let (_, rights) = entries::rights_at(execution.child_spec(), execution.objects(), place);
+    is_given(execution.hold(object), rights)
+}
+
+// Whether the object at a place is to be taken or given up.
+#[inline(always)]
+fn moves(execution: &Execution, due: &[bool], phase: Phase, place: usize, object: ObjectId) -> bool
+    requires { slice_get (candidates phase execution.now) place ≡ Some object }
     ensures { result ≡ is_to_move phase execution.now due.now object.0 }
 {
     match phase {
-        Phase::Starting => !is_own(execution, object) && is_taken(execution, due, object),
-        Phase::Taking => is_taken(execution, due, object),
+        Phase::Starting => is_taken_first(execution, due, place, object),
+        Phase::Taking => is_taken_in_row(execution, due, place, object),
         Phase::Going => false,
-        Phase::Creating(_) => is_given(execution.hold(object), execution.made(object)),
+        Phase::Creating(_) => is_given_for_entry(execution, place, object),
         Phase::Changing => {
             let mode = mode_of(execution.amended(object));
-            is_given_back(execution.hold(object), mode)
+            is_given_back(execution.hold_in_row(place, object), mode)
         }
-        Phase::Ending(_) => execution.hold(object).is_some(),
+        Phase::Ending(_) => execution.hold_in_row(place, object).is_some(),
     }
 }
 
 // The place of the first of these objects that is not below this one, found by halves, and one by
 // one among the few that are left.
+#[inline(always)]
 fn place_from(execution: &Execution, phase: Phase, from: ObjectId) -> usize
     ensures { IsFirstFrom from.0 result (candidates phase execution.now) }
 {
@@ -178,8 +232,27 @@ fn place_from(execution: &Execution, phase: Phase, from: ObjectId) -> usize
     high
 }
 
+// The first of these objects from one on that is to be taken or given up, where none is below it.
+#[inline(always)]
+fn search(execution: &Execution, due: &[bool], phase: Phase, from: ObjectId) -> Option<ObjectId>
+    requires { IsNone (is_to_move phase execution.now due.now) from.0 }
+    ensures found { IfSome result (λ object.
+        IsLeast (is_to_move phase execution.now due.now) execution.now.stage.objects object.0) }
+    ensures none { IfNone result (IsNone (is_to_move phase execution.now due.now) execution.now.stage.objects) }
+{
+    let first = place_from(execution, phase, from);
+    'objects: for place in first..count(execution, phase) {
+        let object = candidate(execution, phase, place);
+        if moves(execution, due, phase, place, object) {
+            return Some(object);
+        }
+    }
+    None
+}
+
 /// The same as `next_object`, where nothing is to be taken or given up below an object: what stands
-/// below it is not looked at. It takes no memory.
+/// below it is not looked at. There is a search for each phase, so that none asks at each object
+/// which phase it is. It takes no memory.
 pub(crate) fn next_from(
     execution: &Execution,
     due: &[bool],
@@ -191,14 +264,14 @@ pub(crate) fn next_from(
         IsLeast (is_to_move phase execution.now due.now) execution.now.stage.objects object.0) }
     ensures none { IfNone result (IsNone (is_to_move phase execution.now due.now) execution.now.stage.objects) }
 {
-    let first = place_from(execution, phase, from);
-    'objects: for place in first..count(execution, phase) {
-        let object = candidate(execution, phase, place);
-        if moves(execution, due, phase, object) {
-            return Some(object);
-        }
+    match phase {
+        Phase::Starting => search(execution, due, Phase::Starting, from),
+        Phase::Taking => search(execution, due, Phase::Taking, from),
+        Phase::Going => None,
+        Phase::Creating(number) => search(execution, due, Phase::Creating(number), from),
+        Phase::Changing => search(execution, due, Phase::Changing, from),
+        Phase::Ending(blame) => search(execution, due, Phase::Ending(blame), from),
     }
-    None
 }
 
 /// The least object that is to be taken, where the task takes what is due, or to be given up, where

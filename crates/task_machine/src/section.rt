@@ -90,17 +90,6 @@ fn copied(spec: &Spec, object: ObjectId) -> Rights
     }
 }
 
-/// The rights on an object that a section has made for a child.
-pub(crate) fn made_for(own: &Own, object: ObjectId) -> Rights
-    ensures { result ≡ rights_on (spread own.now.objects own.now.child.entries) object.0 }
-{
-    if object.0 < own.objects {
-        own.child.rights(object)
-    } else {
-        Rights::NONE
-    }
-}
-
 /// The object on which the task commutes, if it does.
 pub fn own_object(own: &Own) -> Option<ObjectId>
     ensures found { IfSome result (λ object. commuting_on (rights_of own.now) ≡ Some object.0) }

@@ -1,23 +1,19 @@
-use Rattle.std.proofs.Common.{sym, ◌∙◌, arith}
-use Rattle.task_machine.specs.Machines.{candidates, is_to_move}
-use Rattle.task_machine.proofs.Searching.{first_is_least, none_is_left, is_candidate, is_object}
+use Rattle.std.proofs.Common.{subst}
+use Rattle.task_machine.specs.Left.{IsNone}
+use Rattle.task_machine.specs.Machines.{is_to_move}
 use Rattle.task_machine.proofs.next.next_from.Goals as goal
 
-pub objects-init : goal.objects-init
-objects-init c i x lt h = c.requires x.0 (c.place_from-first.ensures.below i x lt h)
+pub search-requires : goal.search-requires
+search-requires c = subst (λ p. IsNone (is_to_move p c.args.execution.now c.args.due.now) c.args.from.0) c.in-Starting.is c.requires
 
-pub returns-then-moves-clause-found : goal.returns-then-moves-clause-found
-returns-then-moves-clause-found c =
-    let e = c.args.execution.now in
-    let p = c.args.phase in
-    let ds = c.args.due.now in
-    first_is_least (is_to_move p e ds) (candidates p e) e.stage.objects c.objects.place c.candidate-object.result c.count-place-end.ensures.ascend
-    (is_candidate e p ds) (is_object e p ds) c.candidate-object.ensures c.objects.invariant (sym c.moves.ensures ∙ c.if-moves.true)
+pub search-requires-in-Taking : goal.search-requires-in-Taking
+search-requires-in-Taking c = subst (λ p. IsNone (is_to_move p c.args.execution.now c.args.due.now) c.args.from.0) c.in-Taking.is c.requires
 
-pub returns-clause-none : goal.returns-clause-none
-returns-clause-none c =
-    let e = c.args.execution.now in
-    let p = c.args.phase in
-    let ds = c.args.due.now in
-    none_is_left (is_to_move p e ds) (candidates p e) e.stage.objects c.objects.place (is_candidate e p ds)
-    (omega (arith, c.objects-test.false, c.count-place-end.ensures.count)) c.objects.invariant
+pub search-requires-in-Creating : goal.search-requires-in-Creating
+search-requires-in-Creating c = subst (λ p. IsNone (is_to_move p c.args.execution.now c.args.due.now) c.args.from.0) c.in-Creating.is c.requires
+
+pub search-requires-in-Changing : goal.search-requires-in-Changing
+search-requires-in-Changing c = subst (λ p. IsNone (is_to_move p c.args.execution.now c.args.due.now) c.args.from.0) c.in-Changing.is c.requires
+
+pub search-requires-in-Ending : goal.search-requires-in-Ending
+search-requires-in-Ending c = subst (λ p. IsNone (is_to_move p c.args.execution.now c.args.due.now) c.args.from.0) c.in-Ending.is c.requires
