@@ -357,12 +357,7 @@ fn leave_in(slot: &mut Slot, path: &Path)
 
 // Enters a child, or changes nothing. Where the parent has no entry, as at no table that passes share,
 // it answers as where memory is wanting.
-fn enter_in(
-    shelf: &mut Shelf,
-    parent: &Path,
-    child: Path,
-    rights: Rights,
-) -> Result<(), Memory>
+fn enter_in(shelf: &mut Shelf, parent: &Path, child: Path, rights: Rights) -> Result<(), Memory>
     ensures { EnteredAs shelf.old parent.now child rights result (SlotOf.Object shelf.new) }
 {
     let before = shelf.len();
@@ -374,12 +369,7 @@ fn enter_in(
 }
 
 // The same of the object in a slot.
-fn enter_to(
-    slot: &mut Slot,
-    parent: &Path,
-    child: Path,
-    rights: Rights,
-) -> Result<(), Memory>
+fn enter_to(slot: &mut Slot, parent: &Path, child: Path, rights: Rights) -> Result<(), Memory>
     requires { IsObject slot.old }
     ensures { (z : ShelfView) → slot.old ≡ SlotOf.Object z → EnteredAs z parent.now child rights result slot.new }
 {
