@@ -19,8 +19,8 @@ returns-in-Ok-enter_to-clause-answer c =
     c.slot_mut-slot.result.now c.slot_mut-slot.ensures.value in
     did_so c.requires.next (c.complete.ensures.done (enter_ends g.1 f.object c.requires.next c.in_ok-child.ensures (c.in-Ok-enter_to.ensures g.0 g.2)) g.0 refl)
 
-pub returns-clause-unchanged : goal.returns-clause-unchanged
-returns-clause-unchanged c =
+pub returns-in-Err-enter_to-clause-unchanged : goal.returns-in-Err-enter_to-clause-unchanged
+returns-in-Err-enter_to-clause-unchanged c =
     let f = c.requires.fits in
     let got = c.in-Ok.ensures.got in
     let g = object_lent c.args.words.now.table_id.slots c.args.object got.0 c.args.task.now c.begin.new.task got.1 c.args.words.now.key f.laid.deep f.object
