@@ -9,6 +9,7 @@ mod finish;
 pub mod laws;
 mod notes;
 mod pass;
+mod paths;
 mod ran;
 mod slot;
 mod table;

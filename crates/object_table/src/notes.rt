@@ -3,6 +3,7 @@
 ghost use Rattle.std.specs.Prelude.{◌≡◌, ◌<◌, ◌≤◌, ◌+◌, ◌^◌, [], ◌∷◌, ◌++◌, true, None, length, IfOk, IfSome, OnOk, OnErr};
 ghost use Rattle.object_table.specs.Notes.{first_path, flat, left_after};
 
+use crate::paths::path_again;
 use jade_base::{Blame, Memory, Path};
 use std::alloc::Global;
 use std::collections::LinkedList;
@@ -43,7 +44,7 @@ impl SpareNote {
         ensures { IfOk result (λ spare. spare ≡ path.now) }
     {
         let note = PartNote {
-            path: path.copy(alloc)?,
+            path: path_again(alloc, path)?,
             children: 0,
             steps: 0,
             blame: None,
