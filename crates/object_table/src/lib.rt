@@ -9,7 +9,6 @@ mod finish;
 pub mod laws;
 mod notes;
 mod pass;
-mod paths;
 mod ran;
 mod slot;
 mod table;

@@ -3,7 +3,6 @@
 ghost use Rattle.std.specs.Prelude.{◌≡◌, ◌<◌, ◌≤◌, ◌+◌, ◌^◌, [], ◌∷◌, ◌++◌, true, None, length, IfOk, IfSome, OnOk, OnErr};
 ghost use Rattle.object_table.specs.Notes.{first_path, flat, left_after};
 
-use crate::paths::path_again;
 use jade_base::{Blame, Memory, Path};
 use std::alloc::Global;
 use std::collections::LinkedList;
@@ -44,7 +43,7 @@ impl SpareNote {
         ensures { IfOk result (λ spare. spare ≡ path.now) }
     {
         let note = PartNote {
-            path: path_again(alloc, path)?,
+            path: path.copy(alloc)?,
             children: 0,
             steps: 0,
             blame: None,

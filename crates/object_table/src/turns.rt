@@ -22,7 +22,6 @@ ghost use Rattle.jade_meaning.specs.Plan.{RunPlan};
 
 use crate::answers::{Taken, Tried};
 use crate::notes::{Notes, SpareNote};
-use crate::paths::{child_path, path_again};
 use crate::slot::Slot;
 use crate::tally::STOCK;
 use crate::task::Task;
@@ -248,7 +247,7 @@ fn bear_at_once(
 {
     core_laws();
     let note = PartNote {
-        path: path_again(alloc, &task.path)?,
+        path: task.path.copy(alloc)?,
         children: task.children,
         steps,
         blame: None,
@@ -525,7 +524,7 @@ pub(crate) fn enter_at(
     ensures answer { IfOk result (λ r. TriedAs object (shown task.old) r (shown task.new)) }
     ensures unchanged { OnErr result (AsBefore (shown task.old) (shown task.new)) }
 {
-    let child = child_path(alloc, &task.path, task.children)?;
+    let child = task.path.child(alloc, task.children)?;
     match begin(words, task, object) {
         Ok(()) => {}
         Err(word) => return Ok(Tried::Busy(word)),
@@ -660,7 +659,7 @@ pub(crate) fn split_off(words: &Words, alloc: Global, task: &mut Task) -> Result
     ensures child { IfOk result (IsKidOf task.old) }
     ensures unchanged { OnErr result (shown task.new ≡ shown task.old) }
 {
-    let path = child_path(alloc, &task.path, task.children - 1)?;
+    let path = task.path.child(alloc, task.children - 1)?;
     let spare = SpareNote::of(alloc, &path)?;
     let seat = words.split_seat::<Bearing>(&mut task.seat);
     let tickets = 1 + task.tickets / 16;
