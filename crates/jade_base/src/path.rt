@@ -1,4 +1,4 @@
-ghost use Rattle.std.specs.Prelude.{◌≡◌, ◌<◌, [], ◌∷◌, ◌++◌, length, IfOk};
+ghost use Rattle.std.specs.Prelude.{◌≡◌, ◌<◌, ◌≤◌, [], ◌∷◌, ◌++◌, length, take, IfOk};
 ghost use Rattle.jade_base.specs.Places.{path_order, same_path};
 
 use crate::Memory;
@@ -50,19 +50,35 @@ impl Path {
     pub fn child(&self, alloc: Global, number: u32) -> Result<Path, Memory>
         ensures { IfOk result (λ path. path ≡ self.now ++ number ∷ []) }
     {
-        let count = self.numbers.len().saturating_add(1);
-        let mut numbers = SmallVec::with_capacity(alloc, count)?;
-        numbers.extend_from_slice(self.numbers.as_slice())?;
-        numbers.push(number)?;
-        Ok(Path { numbers })
+        let numbers = self.numbers.as_slice();
+        match numbers.len() {
+            1 => Ok(Path::short(alloc, [numbers[0], number, 0, 0], 2)),
+            2 => Ok(Path::short(alloc, [numbers[0], numbers[1], number, 0], 3)),
+            _ => child_of(alloc, numbers, number),
+        }
     }
 
     /// The same path once more. The error is want of memory.
     pub fn copy(&self, alloc: Global) -> Result<Path, Memory>
         ensures { IfOk result (λ path. path ≡ self.now) }
     {
-        let numbers = SmallVec::from_slice(alloc, self.numbers.as_slice())?;
-        Ok(Path { numbers })
+        let numbers = self.numbers.as_slice();
+        match numbers.len() {
+            1 => Ok(Path::short(alloc, [numbers[0], 0, 0, 0], 1)),
+            2 => Ok(Path::short(alloc, [numbers[0], numbers[1], 0, 0], 2)),
+            _ => Path::of(alloc, numbers),
+        }
+    }
+
+    // The path of so many of these numbers, which lie in it.
+    #[inline(always)]
+    fn short(alloc: Global, numbers: [u32; SHORT], count: usize) -> Path
+        requires { (0 < count) × (count ≤ 4) }
+        ensures { result ≡ take count numbers }
+    {
+        Path {
+            numbers: SmallVec::from_buf_and_len(alloc, numbers, count),
+        }
     }
 
     /// Which path stands before the other: the first difference decides, and a task stands before
@@ -87,6 +103,17 @@ impl Path {
     {
         self.numbers.as_slice()
     }
+}
+
+// The path of a child of one with these numbers: a path of many is copied one number at a time.
+#[inline(never)]
+fn child_of(alloc: Global, numbers: &[u32], number: u32) -> Result<Path, Memory>
+    ensures { IfOk result (λ path. path ≡ numbers.now ++ number ∷ []) }
+{
+    let mut longer = SmallVec::with_capacity(alloc, numbers.len().saturating_add(1))?;
+    longer.extend_from_slice(numbers)?;
+    longer.push(number)?;
+    Ok(Path { numbers: longer })
 }
 
 // Which list stands before the other.
