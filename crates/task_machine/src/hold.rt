@@ -5,14 +5,14 @@ use std::marker::Model;
 
 mod methods;
 
-/// What is held of an object, if anything is: cells that may be written, in this mode, or a content that
-/// may only be read. Contracts see it as the content. There are no cells in any other case, so one that
-/// is found among them needs no further look.
+/// What is held of an object, if anything is: in this mode, cells that may be written, or a content that
+/// may only be read. Contracts see it as the content. Neither of the two has a cell where the other is
+/// held, so a cell that is found in one of them needs no further look.
 #[derive(Debug, Drop)]
 pub struct Hold {
     mode: Option<Mode>,
     cells: Vec<i64>,
-    content: Option<Content>,
+    content: Content,
 }
 
 impl Model for Hold {

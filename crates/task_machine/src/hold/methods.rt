@@ -1,7 +1,6 @@
 //! What can be done with a hold.
 
-ghost use Rattle.std.specs.Prelude.{◌≡◌, None, Some};
-ghost use Rattle.task_machine.specs.Playing.{cell_of};
+ghost use Rattle.std.specs.Prelude.{◌≡◌, [], None, Some};
 ghost use Rattle.task_machine.specs.Telling.{mode_held};
 ghost use Rattle.task_machine.specs.steps.Holding.{WrittenIn, cell_in};
 
@@ -10,16 +9,12 @@ use jade_base::{Content, Mode, Numbers};
 use std::alloc::Global;
 use std::mem;
 
-// The number in a cell; one that is not there has 0.
+// A content that is held by nobody.
 #[inline(always)]
-fn at_cell(content: &Content, cell: usize) -> i64
-    ensures { result ≡ cell_of content.now cell }
+fn no_content(alloc: Global) -> Content
+    ensures { result ≡ record { mode = Mode.Reading; cells = [] } }
 {
-    if cell < content.len() {
-        content.get(cell)
-    } else {
-        0
-    }
+    Content::of(Mode::Reading, Numbers::from_vec(Vec::new(alloc)))
 }
 
 impl Hold {
@@ -30,7 +25,7 @@ impl Hold {
         Hold {
             mode: None,
             cells: Vec::new(alloc),
-            content: None,
+            content: no_content(alloc),
         }
     }
 
@@ -40,14 +35,14 @@ impl Hold {
     {
         match content.mode() {
             Mode::Reading => Hold {
-                mode: None,
+                mode: Some(Mode::Reading),
                 cells: Vec::new(alloc),
-                content: Some(content),
+                content,
             },
             mode => Hold {
                 mode: Some(mode),
                 cells: content.into_cells().into_vec(),
-                content: None,
+                content: no_content(alloc),
             },
         }
     }
@@ -69,11 +64,12 @@ impl Hold {
     {
         let alloc = *self.cells.allocator();
         match self.mode.take() {
+            None => None,
+            Some(Mode::Reading) => Some(mem::replace(&mut self.content, no_content(alloc))),
             Some(mode) => {
                 let cells = mem::replace(&mut self.cells, Vec::new(alloc));
                 Some(Content::of(mode, Numbers::from_vec(cells)))
             }
-            None => self.content.take(),
         }
     }
 
@@ -81,15 +77,11 @@ impl Hold {
     pub(crate) fn mode(&self) -> Option<Mode>
         ensures { result ≡ mode_held self.now }
     {
-        match (self.mode, &self.content) {
-            (Some(mode), _) => Some(mode),
-            (None, Some(content)) => Some(content.mode()),
-            (None, None) => None,
-        }
+        self.mode
     }
 
-    /// The number in a cell, where something is held; a cell that is not there has 0. The content is
-    /// looked at before the mode, so that the way to one that is held for reading has no jump.
+    /// The number in a cell, where something is held; a cell that is not there has 0. The mode is looked
+    /// at last, where neither the cells nor the content has such a one.
     #[inline(always)]
     pub(crate) fn cell(&self, cell: usize) -> Option<i64>
         ensures { result ≡ cell_in self.now cell }
@@ -97,9 +89,12 @@ impl Hold {
         if cell < self.cells.len() {
             return Some(self.cells[cell]);
         }
-        match &self.content {
-            Some(content) => Some(at_cell(content, cell)),
-            None => { if self.mode.is_some() { Some(0) } else { None } }
+        if cell < self.content.len() {
+            return Some(self.content.get(cell));
+        }
+        match self.mode {
+            Some(_) => Some(0),
+            None => None,
         }
     }
 
@@ -112,6 +107,6 @@ impl Hold {
             self.cells[cell] = number;
             return true;
         }
-        self.mode.is_some()
+        matches!(self.mode, Some(Mode::Writing) | Some(Mode::Commuting))
     }
 }
