@@ -31,19 +31,19 @@ pub(crate) enum Wish {
     Give,
     /// The task ends: its entries leave.
     End,
-    /// Something else, or nothing.
+    /// Something else.
     Other,
 }
 
 impl Wish {
-    /// What this task asks for.
-    pub fn of<'c, N: RunName>(task: &Capsule<'c, N>) -> Wish {
-        match task.asked() {
-            Some(Ask::Take(object, Mode::Reading)) => Wish::Read(object),
-            Some(Ask::Take(_, _)) => Wish::Change,
-            Some(Ask::GiveBack(_)) => Wish::Give,
-            Some(Ask::End) | Some(Ask::Fault(_)) => Wish::End,
-            _ => Wish::Other,
+    /// What is wished by this ask.
+    pub fn of(ask: Ask) -> Wish {
+        match ask {
+            Ask::Take(object, Mode::Reading) => Wish::Read(object),
+            Ask::Take(_, _) => Wish::Change,
+            Ask::GiveBack(_) => Wish::Give,
+            Ask::End | Ask::Fault(_) => Wish::End,
+            Ask::Create | Ask::Change => Wish::Other,
         }
     }
 

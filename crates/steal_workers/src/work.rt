@@ -1,5 +1,7 @@
 //! The work of one worker.
 
+ghost use Rattle.std.specs.Prelude.{◌≡◌};
+
 use crate::board::{Board, TaskWorker};
 use crate::gate::Gate;
 use crate::idle::next_task;
@@ -7,7 +9,7 @@ use crate::letting::Wish;
 use crate::settle::{Hand, holds, settle};
 use std::alloc::Global;
 use std::sync::Wait;
-use task_suspend::{Capsule, RunName, attempt};
+use task_suspend::{Capsule, RunName, to_ask, try_ask};
 
 /// Works until all is over, or memory is wanting.
 pub(crate) fn work<'c, N: RunName, G: Gate, R: Wait>(
@@ -49,7 +51,7 @@ fn carry<'c, N: RunName, G: Gate, R: Wait>(
     }
 }
 
-// One try at a task; the task, if it stays in hand.
+// One try at what a task asks for, at its next ask where none stands; the task, if it stays in hand.
 fn turn<'c, N: RunName, G: Gate, R: Wait>(
     rt: &R,
     alloc: Global,
@@ -59,12 +61,16 @@ fn turn<'c, N: RunName, G: Gate, R: Wait>(
     hand: Hand<'c, N>,
 ) -> Option<Hand<'c, N>> {
     let Hand { task, tries } = hand;
+    let Ok((task, ask)) = to_ask(alloc, task) else {
+        board.signals.stop();
+        return None;
+    };
     let task = through(rt, gate, task);
-    let wish = Wish::of(&task);
+    let wish = Wish::of(ask);
     if wish.ends() {
         holds(board, worker, false);
     }
-    let went = attempt(alloc, &board.table, task);
+    let went = try_ask(alloc, &board.table, task, ask);
     match settle(rt, board, worker, went, tries, wish) {
         Ok(next) => next,
         Err(_) => {
@@ -79,8 +85,10 @@ fn through<'c, N: RunName, G: Gate, R: Wait>(
     rt: &R,
     gate: &G,
     mut task: Capsule<'c, N>,
-) -> Capsule<'c, N> {
-    if task.is_asking() && !task.passed() {
+) -> Capsule<'c, N>
+    ensures { result.task.value.machine ≡ task.entry.task.value.machine }
+{
+    if !task.passed() {
         gate.pass(rt, task.path(), task.ask_number());
         task.set_passed();
     }

@@ -106,6 +106,11 @@ pub record Advances (a b : Carried) : Type 0 where
   pub events : b.events ≡ a.events + b.machine.touched
   pub gate : b.gate ≡ false
 
+-- the task at an ask: at the one that stood, with nothing done, or else at its next one
+pub data IsAtAsk {N : Type 0} {g : Ghosts N} (a b : Capsule N g) : Type 0 where
+  stood : b ≡ a → IsAtAsk a b
+  advanced : Advances (carried a) (carried b) → IsAtAsk a b
+
 -- A content was asked for, and is had.
 pub record Takes (a b : Carried) : Type 0 where
   pub object : ObjectId

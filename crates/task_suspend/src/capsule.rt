@@ -39,6 +39,7 @@ pub struct Capsule<'c, N: RunName> {
 }
 
 /// A task that runs in a place of its own. The error is want of memory.
+#[inline(always)]
 pub(crate) fn boxed<'c>(alloc: Global, task: Running<'c>) -> Result<Box<Running<'c>>, Memory>
     ensures { IfOk result (λ b. b.value ≡ task.entry) }
 {

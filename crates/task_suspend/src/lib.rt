@@ -22,5 +22,5 @@ pub use line::CapsuleLine;
 pub use modes::Modes;
 pub use name::RunName;
 pub use rooms::Rooms;
-pub use tries::attempt;
+pub use tries::{attempt, to_ask, try_ask};
 pub use went::{Place, Resigned, Waiter, Went};

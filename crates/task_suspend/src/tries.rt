@@ -9,7 +9,7 @@ ghost use Rattle.task_machine.specs.Stages.{rights_at};
 ghost use Rattle.task_machine.specs.Machines.{made_at, amended_at};
 ghost use Rattle.task_machine.specs.Asks.{enters_from, shifts_from, leaves_from, follows};
 ghost use Rattle.task_suspend.specs.Waits.{waits_for};
-ghost use Rattle.task_suspend.specs.Tries.{WentAs, ending};
+ghost use Rattle.task_suspend.specs.Tries.{Advances, IsAtAsk, WentAs, carried, ending};
 
 use crate::capsule::{Capsule, Running, boxed};
 use crate::name::RunName;
@@ -32,13 +32,51 @@ pub fn attempt<'c, N: RunName>(
     ensures { IfOk result (λ went. WentAs capsule.entry went) }
 {
     match capsule.task.machine.asked() {
+        None => {
+            let (capsule, _) = go_on(alloc, capsule)?;
+            Ok(Went::Ready(capsule))
+        }
+        Some(ask) => try_ask(alloc, table, capsule, ask),
+    }
+}
+
+/// The task at an ask, and the ask: where none stands, the task goes on to its next one. The error is
+/// want of memory, after which the run can't go on.
+#[inline(always)]
+pub fn to_ask<'c, N: RunName>(
+    alloc: Global,
+    capsule: Capsule<'c, N>,
+) -> Result<(Capsule<'c, N>, Ask), Memory>
+    ensures asks { IfOk result (λ r. r.0.task.value.machine.ask ≡ Some r.1) }
+    ensures goes { IfOk result (λ r. IsAtAsk capsule.entry r.0) }
+{
+    match capsule.task.machine.asked() {
         None => go_on(alloc, capsule),
-        Some(Ask::Take(object, mode)) => take(alloc, table, capsule, object, mode),
-        Some(Ask::GiveBack(object)) => give_back(table, capsule, object),
-        Some(Ask::Create) => create(alloc, table, capsule),
-        Some(Ask::Change) => change(table, capsule),
-        Some(Ask::End) => end(table, capsule, None),
-        Some(Ask::Fault(blame)) => end(table, capsule, Some(blame)),
+        Some(ask) => Ok((capsule, ask)),
+    }
+}
+
+/// One try at the ask that stands, on the objects of the task's run: one event of it is tried. What is
+/// done then, or why nothing is, the answer says. The error is want of memory, after which the run can't
+/// go on.
+#[inline(always)]
+pub fn try_ask<'c, N: RunName>(
+    alloc: Global,
+    table: &ObjectTable,
+    capsule: Capsule<'c, N>,
+    ask: Ask,
+) -> Result<Went<'c, N>, Memory>
+    requires table { (table.now.mark ≡ N.mark) × (table.now.plan ≡ N.plan) }
+    requires asked { capsule.task.value.machine.ask ≡ Some ask }
+    ensures { IfOk result (λ went. WentAs capsule.entry went) }
+{
+    match ask {
+        Ask::Take(object, mode) => take(alloc, table, capsule, object, mode),
+        Ask::GiveBack(object) => give_back(table, capsule, object),
+        Ask::Create => create(alloc, table, capsule),
+        Ask::Change => change(table, capsule),
+        Ask::End => end(table, capsule, None),
+        Ask::Fault(blame) => end(table, capsule, Some(blame)),
     }
 }
 
@@ -83,19 +121,23 @@ fn that_waits<'c, N: RunName>(place: Place<N>, capsule: Capsule<'c, N>) -> Waite
 }
 
 // No ask stands: the task goes on to the next one, past the cells that it touches on the way.
-fn go_on<'c, N: RunName>(alloc: Global, mut capsule: Capsule<'c, N>) -> Result<Went<'c, N>, Memory>
+fn go_on<'c, N: RunName>(
+    alloc: Global,
+    mut capsule: Capsule<'c, N>,
+) -> Result<(Capsule<'c, N>, Ask), Memory>
     requires { capsule.task.value.machine.ask ≡ None }
-    ensures { IfOk result (λ went. WentAs capsule.entry went) }
+    ensures asks { IfOk result (λ r. r.0.task.value.machine.ask ≡ Some r.1) }
+    ensures goes { IfOk result (λ r. Advances (carried capsule.entry) (carried r.0)) }
 {
     let task = &mut *capsule.task;
-    let _ask = task.machine.advance(alloc)?;
+    let ask = task.machine.advance(alloc)?;
     task.machine.stands();
     let done = more(task.events, task.machine.touched())?;
     task.pass.pass_on(done);
     task.from = 0;
     task.events = done;
     task.passed = false;
-    Ok(Went::Ready(capsule))
+    Ok((capsule, ask))
 }
 
 // A content is asked for.
