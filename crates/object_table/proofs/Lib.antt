@@ -1,7 +1,6 @@
 pub mod Lists
 pub mod Bags
 pub mod Purses
-mod Packing
 pub mod FewNotes
 pub mod Entries
 pub mod Goes

@@ -18,7 +18,7 @@ use Rattle.task_roll.specs.Rolls.{note_key, filed, filed_into, by_key}
 use Rattle.schedule_core.specs.Notes.{step_note, fault_note, blamed}
 use Rattle.schedule_core.specs.Reports.{told_of}
 use Rattle.object_table.specs.Calls.{IsFault}
-use Rattle.object_table.specs.Notes.{left_after}
+use Rattle.part_notes.specs.Families.{left_after}
 
 -- the steps of these parts
 abbrev steps_in : List PartNote → ℕ
@@ -203,25 +203,3 @@ none_past_one l n ns e = go n.blame (nat_lt l n.steps) e
     go (Some b) t e = refl
     go None true e = refl
     go None false e = absurd (cc)
-
-pub left_past_all : (l : ℕ) (ms ns : List PartNote) (k : ℕ) → left_after l ms ≡ Some k → left_after l (ms ++ ns) ≡ left_after k ns
-left_past_all l [] ns k e = ap (λ m. left_after m ns) (cc)
-left_past_all l (m ∷ ms) ns k e = go m.blame (nat_lt l m.steps) (left_past_all (l - m.steps) ms ns k) e
-  where
-    go : (b : Option Blame) (t : Bool) → (left_after (l - m.steps) ms ≡ Some k → left_after (l - m.steps) (ms ++ ns) ≡ left_after k ns)
-        → (if is_some b then None else if t then None else left_after (l - m.steps) ms) ≡ Some k
-        → (if is_some b then None else if t then None else left_after (l - m.steps) (ms ++ ns)) ≡ left_after k ns
-    go (Some b) t f e = absurd (cc)
-    go None true f e = absurd (cc)
-    go None false f e = f e
-
-pub none_past_all : (l : ℕ) (ms ns : List PartNote) → left_after l ms ≡ None → left_after l (ms ++ ns) ≡ None
-none_past_all l [] ns e = absurd (cc)
-none_past_all l (m ∷ ms) ns e = go m.blame (nat_lt l m.steps) (none_past_all (l - m.steps) ms ns) e
-  where
-    go : (b : Option Blame) (t : Bool) → (left_after (l - m.steps) ms ≡ None → left_after (l - m.steps) (ms ++ ns) ≡ None)
-        → (if is_some b then None else if t then None else left_after (l - m.steps) ms) ≡ None
-        → (if is_some b then None else if t then None else left_after (l - m.steps) (ms ++ ns)) ≡ None
-    go (Some b) t f e = refl
-    go None true f e = refl
-    go None false f e = f e

@@ -1,5 +1,4 @@
 pub mod Bags
-pub mod Notes
 pub mod Tallies
 pub mod Views
 pub mod Encodings

@@ -6,7 +6,6 @@ ghost use Rattle.jade_meaning.specs.Plan.{RunPlan};
 ghost use Rattle.object_table.specs.steps.Kept.{Laid, shown};
 ghost use Rattle.object_table.specs.steps.Endings.{EndLaws, LastSlots, Emptied, cells_in, notes_in, turns_at};
 
-use crate::notes::Notes;
 use crate::ran::Ran;
 use crate::slot::Slot;
 use crate::task::Task;
@@ -15,6 +14,7 @@ use atomic_table::{Closed, Table};
 use jade_base::{CellLists, Memory, Numbers, Path, PathList, TurnLists};
 use jade_list::sequence::Sequence;
 use jade_meaning::Plan;
+use part_notes::Notes;
 use std::alloc::Global;
 
 // What is true of every core at its end.

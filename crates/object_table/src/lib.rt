@@ -1,13 +1,12 @@
 //! The running objects: threads share them, each by a word and a slot of its own.
 //!
 //! Floor `running`, over `jade_base`, `jade_list`, `jade_meaning`, `jade_syntax`, `object_shelf`,
-//! `schedule_core` and `task_roll`, with `atomic_table` of the kit.
+//! `part_notes`, `schedule_core` and `task_roll`, with `atomic_table` of the kit.
 #![tactic(auto)]
 
 mod answers;
 mod finish;
 pub mod laws;
-mod notes;
 mod pass;
 mod ran;
 mod slot;

@@ -8,9 +8,9 @@ ghost use Rattle.jade_meaning.specs.Turns.{Full, turns_in};
 ghost use Rattle.jade_meaning.specs.ReportAnswer.{report_answer};
 ghost use Rattle.object_table.specs.Calls.{IsFault};
 
-use crate::notes::Notes;
 use jade_base::{CellLists, Memory, Report, TurnLists};
 use jade_meaning::Plan;
+use part_notes::Notes;
 use schedule_core::reports::report_of;
 use std::alloc::Global;
 use std::marker::Model;

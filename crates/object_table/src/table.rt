@@ -13,7 +13,6 @@ ghost use Rattle.object_table.specs.steps.Kept.{FirstSlots, start_slots};
 
 use crate::answers::{Taken, Tried};
 use crate::finish::finish_with;
-use crate::notes::{Notes, SpareNote};
 use crate::pass::TaskPass;
 use crate::ran::Ran;
 use crate::slot::Slot;
@@ -28,6 +27,7 @@ use atomic_table::Table;
 use jade_base::{Blame, Content, Memory, Mode, ObjectId, Path, Right, Rights};
 use jade_meaning::Plan;
 use object_shelf::Shelf;
+use part_notes::{Notes, SpareNote};
 use std::alloc::Global;
 use std::marker::Model;
 

@@ -3,7 +3,7 @@
 ghost use Rattle.std.specs.Prelude.{◌≡◌, ◌≤◌, ◌+◌, [], true, false, length};
 ghost use Rattle.object_table.specs.Tallies.{most, opened, restocked, received, is_settled};
 
-use crate::notes::Notes;
+use part_notes::Notes;
 use std::alloc::Global;
 use std::marker::Model;
 

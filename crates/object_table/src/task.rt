@@ -1,10 +1,10 @@
 //! What a pass has at run time.
 
-use crate::notes::{Notes, SpareNote};
 use crate::slot::Slot;
 use crate::view::View;
 use atomic_table::Seat;
 use jade_base::Path;
+use part_notes::{Notes, SpareNote};
 
 /// The token of a task: its seat at the table, its path, the room for the note of its last part while
 /// it is live, its tickets and the notes that it has in hand, how many children it made, how many of

@@ -21,7 +21,6 @@ ghost use Rattle.object_table.specs.declared.task.Task.{Task as TaskState};
 ghost use Rattle.jade_meaning.specs.Plan.{RunPlan};
 
 use crate::answers::{Taken, Tried};
-use crate::notes::{Notes, SpareNote};
 use crate::slot::Slot;
 use crate::tally::STOCK;
 use crate::task::Task;
@@ -33,8 +32,8 @@ use atomic_table::{Play, Seat, Shared};
 use jade_base::{Blame, Content, Memory, Mode, Path, Rights};
 use jade_meaning::Plan;
 use object_shelf::{Handout, Shelf};
+use part_notes::{Notes, SpareNote};
 use std::alloc::Global;
-use task_roll::PartNote;
 
 /// The words and slots of a table.
 pub(crate) type Words<'c> = Shared<Slot, View, Plan<'c>, Sharing>;
@@ -246,13 +245,7 @@ fn bear_at_once(
     ensures unchanged { OnErr result (shown task.new ≡ shown task.old) }
 {
     core_laws();
-    let note = PartNote {
-        path: task.path.copy(alloc)?,
-        children: task.children,
-        steps,
-        blame: None,
-    };
-    task.notes.add(alloc, note)?;
+    task.notes.add(alloc, &task.path, task.children, steps)?;
     words.load::<Enrolling>(&mut task.seat, 0);
     settle(task);
     task.tickets -= 1;

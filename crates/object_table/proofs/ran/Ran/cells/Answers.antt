@@ -2,7 +2,7 @@ use Rattle.std.proofs.Common.{rules, ◌≡◌, Some, None, subst}
 use Rattle.jade_meaning.specs.Answer.{Cells}
 use Rattle.jade_meaning.specs.ReportAnswer.{report_answer}
 use Rattle.object_table.specs.Calls.{IsFault, RanView}
-use Rattle.object_table.specs.Notes.{left_after}
+use Rattle.part_notes.specs.Families.{left_after}
 use Rattle.object_table.proofs.Telling.{tells_cells, tells_fault}
 use Rattle.object_table.proofs.ran.Ran.cells.Goals as goal
 

@@ -1,10 +1,10 @@
 use Rattle.std.proofs.Common.{◌≡◌, ◌++◌, length}
-use Rattle.object_table.specs.Notes.{flat}
-use Rattle.object_table.proofs.notes.gather.Given as goal
+use Rattle.part_notes.specs.Notes.{flat}
+use Rattle.part_notes.proofs.notes.collect.Given as goal
 
 abbrev pub invariant-chunks : goal.invariant-chunks
 invariant-chunks l = record {
-  moved : l.notes.items ++ flat l.rest ≡ l.initial.notes.items ++ flat l.initial.rest;
+  moved : l.notes.items ++ flat l.rest ≡ flat l.initial.rest;
 }
 
 abbrev pub decreases-chunks : goal.decreases-chunks

@@ -1,6 +1,7 @@
 use Rattle.std.proofs.Common.{◌≡◌}
-use Rattle.object_table.specs.Notes.{flat, left_after}
-use Rattle.object_table.proofs.notes.left_in_all.Given as goal
+use Rattle.part_notes.specs.Families.{left_after}
+use Rattle.part_notes.specs.Notes.{flat}
+use Rattle.part_notes.proofs.notes.left_in_all.Given as goal
 
 abbrev pub invariant-loop-chunk : goal.invariant-loop-chunk
 invariant-loop-chunk l =
