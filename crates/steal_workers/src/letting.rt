@@ -163,12 +163,24 @@ fn put_first<'c, N: RunName>(
     how: How,
 ) -> Result<(), Memory> {
     match how {
+        How::Next if board.signals.is_only() => goes_next(worker, task),
         How::Next => match worker.put_next(task) {
             Ok(()) => Ok(()),
             Err(task) => make_ready(board, worker, task),
         },
         How::Offered => offer(board, worker, task),
         How::Called => make_ready(board, worker, task),
+    }
+}
+
+/// An only worker goes on with this task next, and after it with the one that it was to go on with.
+pub(crate) fn goes_next<'c, N: RunName>(
+    worker: &mut TaskWorker<'c, N>,
+    task: Capsule<'c, N>,
+) -> Result<(), Memory> {
+    match worker.put_ahead(task) {
+        Ok(()) => Ok(()),
+        Err(_) => Err(Memory),
     }
 }
 

@@ -2,7 +2,7 @@
 
 use crate::board::{Board, TaskWorker};
 use crate::keeper::{keep_too, pass_of};
-use crate::letting::{How, Wish, freed, let_first_go, offer, taken};
+use crate::letting::{How, Wish, freed, goes_next, let_first_go, offer, taken};
 use jade_base::Memory;
 use std::hint::spin_loop;
 use std::sync::Wait;
@@ -90,12 +90,15 @@ fn took<'c, N: RunName>(board: &Board<'c, N>, worker: &mut TaskWorker<'c, N>) {
     }
 }
 
-/// Tells the others whether the worker's task has a content.
+/// Tells the others, if there are any, whether the worker's task has a content.
 pub(crate) fn holds<'c, N: RunName>(
     board: &Board<'c, N>,
     worker: &mut TaskWorker<'c, N>,
     holds: bool,
 ) {
+    if board.signals.is_only() {
+        return;
+    }
     match worker.holds(holds) {
         Some(place) => board.note_holds(place, holds),
         None => {}
@@ -143,8 +146,8 @@ fn end<'c, N: RunName>(
     keep_too(board, worker, pass_of(resigned));
 }
 
-// The worker goes on with the child. The parent is ready; where a crowd of tasks waits, it is held
-// back, so that it does not run ahead of its children.
+// The worker goes on with the child. The parent is ready, and an only worker goes on with it next; where
+// a crowd of tasks waits, it is held back, so that it does not run ahead of its children.
 fn part<'c, N: RunName, R: Wait>(
     rt: &R,
     board: &Board<'c, N>,
@@ -152,7 +155,11 @@ fn part<'c, N: RunName, R: Wait>(
     parent: Capsule<'c, N>,
 ) -> Result<(), Memory> {
     if !board.signals.is_crowded() {
-        return offer(board, worker, parent);
+        return if board.signals.is_only() {
+            goes_next(worker, parent)
+        } else {
+            offer(board, worker, parent)
+        };
     }
     board.signals.task_held_back();
     match board.held_back.lock(rt).put(parent) {

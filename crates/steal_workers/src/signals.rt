@@ -138,6 +138,11 @@ impl Signals {
         self.held_back.load(Ordering::SeqCst) > 0
     }
 
+    /// Whether there is one worker only, so that there is nobody to be told of a task, or called.
+    pub fn is_only(&self) -> bool {
+        self.workers <= 1
+    }
+
     /// Whether all other workers have no task.
     pub fn is_alone(&self) -> bool {
         self.idle.load(Ordering::SeqCst).saturating_add(1) >= self.workers

@@ -82,6 +82,15 @@ impl<T: Drop, P: Drop> Worker<T, P> {
         Ok(())
     }
 
+    /// Goes on with this task next; one that it was to go on with next is made ready. The error is want
+    /// of memory, and hands that one back.
+    pub fn put_ahead(&mut self, task: T) -> Result<(), T> {
+        match self.next.replace(task) {
+            Some(older) => put_task(&mut self.local, older),
+            None => Ok(()),
+        }
+    }
+
     /// Takes the task that it goes on with next, or a ready one of its own.
     pub fn take(&mut self) -> Option<T> {
         match self.next.take() {
