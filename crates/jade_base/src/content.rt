@@ -1,9 +1,11 @@
-ghost use Rattle.std.specs.Prelude.{◌≡◌, ◌≢◌, ◌<◌, true, length, IfOk, Some, slice_get, slice_set, MatchResult};
+ghost use Rattle.std.specs.Prelude.{◌≡◌, ◌≢◌, ◌<◌, [], true, length, IfOk, Some, slice_get, slice_set, MatchOption, MatchResult};
 ghost use Rattle.jade_base.specs.Cells.{cells_of, is_own};
 
 use crate::{Memory, Mode, Numbers};
+use jade_list::sequence::Sequence;
 use std::alloc::Global;
 use std::marker::Model;
+use std::mem;
 use std::sync::Arc;
 
 /// Cells that several owners read and none changes. Contracts see them as the list of the cells;
@@ -43,14 +45,28 @@ impl SharedCells {
         }
     }
 
-    /// The cells themselves, from their only owner; where there are others the error hands this
-    /// owner's back. It takes no memory.
-    pub fn into_own(self) -> Result<Numbers, SharedCells>
-        ensures { MatchResult result (λ cells. cells ≡ self) (λ back. back ≡ self) }
+    /// Takes the cells out, for their only owner: none is left, and others may be put in their place.
+    /// Where there are other owners it is None, and nothing changes. It takes no memory.
+    pub fn take_out(&mut self, alloc: Global) -> Option<Numbers>
+        ensures { MatchOption result (self.new ≡ self.old) (λ cells. (cells ≡ self.old) × (self.new ≡ [])) }
     {
-        match Arc::try_unwrap(self.cells) {
-            Ok(cells) => Ok(cells),
-            Err(cells) => Err(SharedCells { cells }),
+        match Arc::get_mut(&mut self.cells) {
+            Some(place) => Some(mem::replace(place, Sequence::empty(alloc))),
+            None => None,
+        }
+    }
+
+    /// Puts these cells in the place of those that are there, for their only owner. Where there are other
+    /// owners the error hands them back, and nothing changes. It takes no memory.
+    pub fn put_back(&mut self, cells: Numbers) -> Result<(), Numbers>
+        ensures { MatchResult result (λ _. self.new ≡ cells) (λ back. (back ≡ cells) × (self.new ≡ self.old)) }
+    {
+        match Arc::get_mut(&mut self.cells) {
+            Some(place) => {
+                *place = cells;
+                Ok(())
+            }
+            None => Err(cells),
         }
     }
 

@@ -11,6 +11,9 @@ use std::marker::Model;
 // Among so few entries one is found sooner by a look at one after another than by halves.
 const FEW: usize = 8;
 
+// Room for more entries than so many is large.
+const MOST_KEPT: usize = 64;
+
 /// What a task may do with which objects, by ascending number of the object, and beside it a draft
 /// of other rights on the same objects. Contracts see both as lists.
 #[derive(Debug, Drop)]
@@ -161,6 +164,16 @@ impl Spec {
         self.drafted = false;
     }
 
+    /// Takes all rights away. The room of the entries is kept for others, unless it is large. It takes no
+    /// memory.
+    pub fn clear(&mut self)
+        ensures { self.new ≡ settled [] }
+    {
+        take_away(&mut self.entries);
+        self.drafted = false;
+        self.commuting = false;
+    }
+
     /// The same specification with the same draft once more. The error is want of memory.
     pub fn copy(&self, alloc: Global) -> Result<Spec, Memory>
         ensures { IfOk result (λ copy. copy ≡ self.now) }
@@ -174,6 +187,17 @@ impl Spec {
             drafted: self.drafted,
             commuting: self.commuting,
         })
+    }
+}
+
+// Takes all entries away, and their room where it is large.
+fn take_away(entries: &mut VecDeque<Entry>)
+    ensures { entries.new.items ≡ [] }
+{
+    if entries.capacity() > MOST_KEPT {
+        *entries = VecDeque::new(*entries.allocator());
+    } else {
+        entries.clear();
     }
 }
 

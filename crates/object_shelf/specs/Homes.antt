@@ -12,7 +12,7 @@ use Rattle.object_shelf.specs.Shelves.{find, at, held_with, released, turned}
 
 -- the content, where it is at home
 abbrev pub home_of : Home → Option (List ℤ)
-home_of Out = None
+home_of (Out place) = None
 home_of (Own xs) = Some xs
 home_of (Shared xs) = Some xs
 

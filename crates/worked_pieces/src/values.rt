@@ -129,10 +129,11 @@ pub fn contents(rt: &HostRuntime) -> Result<(), Stop> {
     };
     let content = Content::shared(again);
     println!(rt; "shared: {}", cell(&content, 0))?;
-    let Err(shared) = shared.into_own() else {
+    let mut shared = shared;
+    if shared.take_out(alloc).is_some() {
         return Err(Stop);
-    };
+    }
     drop(content);
-    println!(rt; "alone: {}", shared.into_own().is_ok())?;
+    println!(rt; "alone: {}", shared.take_out(alloc).is_some())?;
     Ok(())
 }
