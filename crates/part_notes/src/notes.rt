@@ -16,8 +16,8 @@ use task_roll::PartNote;
 const MOST_ADDED: usize = 1 << 62;
 
 /// The room for one note of a task: a node of a list with one note, made where memory may be taken,
-/// and used where none may be wanted. Contracts see the path that the note will have; until it is
-/// left, its other parts are zeros and no fault.
+/// and used where none may be wanted. Contracts see the path that the note will have, and nothing of
+/// its other parts.
 #[derive(Drop)]
 pub struct SpareNote {
     chunks: LinkedList<Chunk>,
@@ -48,6 +48,21 @@ impl SpareNote {
         Ok(SpareNote {
             chunks: single(alloc, note)?,
         })
+    }
+
+    /// The same, in the room that another note has handed back, if there is such room. The error is want
+    /// of memory.
+    pub fn in_place(
+        alloc: Global,
+        used: Option<SpareNote>,
+        path: &Path,
+    ) -> Result<SpareNote, Memory>
+        ensures { IfOk result (λ spare. spare ≡ path.now) }
+    {
+        match used {
+            Some(used) => Ok(readdressed(used, path.copy(alloc)?)),
+            None => SpareNote::of(alloc, path),
+        }
     }
 }
 
@@ -124,6 +139,34 @@ impl Notes {
         self.count += 1;
     }
 
+    /// Takes over all notes of a task that ends, and behind them the note of its last part, in the room
+    /// that it has brought along. Where that note is put into the last chunk, its room is handed back.
+    pub fn append_last(
+        &mut self,
+        other: Notes,
+        spare: SpareNote,
+        children: u32,
+        blame: Option<Blame>,
+        steps: u64,
+    ) -> Option<SpareNote>
+        requires { length self.old + length other + 1 < 2 ^ 63 }
+        ensures { self.new ≡ self.old ++ (other ++ (record { path = spare; children = children; steps = steps; blame = blame }) ∷ []) }
+    {
+        if other.count > 0 {
+            let mut more = other;
+            self.append(&mut more);
+        }
+        let SpareNote { chunks } = spare;
+        let mut chunks = chunks;
+        fill(&mut chunks, children, blame, steps);
+        self.count += 1;
+        if copy_over(&mut self.chunks, &chunks) {
+            return Some(SpareNote { chunks });
+        }
+        join(&mut self.chunks, &mut chunks);
+        None
+    }
+
     /// Takes over all notes of others, behind its own. Few of one family are copied into its last
     /// chunk, if that is of the same; else the chunks are taken over as they are, in the same time for
     /// any number.
@@ -150,6 +193,40 @@ impl Notes {
         ensures { IfOk result (λ notes. notes.items ≡ self) }
     {
         collect(alloc, self.chunks, self.count)
+    }
+}
+
+// The room for a note of the task of another path.
+fn readdressed(spare: SpareNote, path: Path) -> SpareNote
+    ensures { result ≡ path }
+{
+    let SpareNote { chunks } = spare;
+    let mut chunks = chunks;
+    address(&mut chunks, path);
+    SpareNote { chunks }
+}
+
+// The note of the only chunk has this path.
+fn address(chunks: &mut LinkedList<Chunk>, path: Path)
+    requires { IsSingle chunks.old }
+    ensures single { IsSingle chunks.new }
+    ensures path { first_path (flat chunks.new) ≡ path }
+{
+    match chunks.front_mut() {
+        Some(chunk) => address_chunk(chunk, path),
+        None => unreachable!(),
+    }
+}
+
+// The same of a chunk.
+fn address_chunk(chunk: &mut Chunk, path: Path)
+    requires { IsOne chunk.old }
+    ensures single { IsOne chunk.new }
+    ensures path { first_path (in_chunk chunk.new) ≡ path }
+{
+    match chunk {
+        Chunk::One(note) => note.path = path,
+        Chunk::Many(_) => unreachable!(),
     }
 }
 
