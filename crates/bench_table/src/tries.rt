@@ -6,7 +6,7 @@ use crate::stop::Stop;
 use object_table::ObjectTable;
 use std::alloc::Global;
 use std::hint::spin_loop;
-use task_suspend::{Capsule, Resigned, RunName, Went, attempt};
+use task_suspend::{Capsule, Resigned, RunName, Went, attempt, resign};
 
 /// The longest pause before a try, in hints to the processor, is 2 to this.
 const LONGEST_PAUSE: u32 = 3;
@@ -54,7 +54,9 @@ fn drive<'c, N: RunName>(
                 busy = pause(busy);
             }
             Ok(Went::Parted(parent, child)) => return Ok(Came::Parted(parent, child)),
-            Ok(Went::Ended(resigned)) => return Ok(Came::Ended(resigned)),
+            Ok(Went::Departed(departed)) => {
+                return Ok(Came::Ended(resign(table, departed)));
+            }
             Ok(Went::Waits(waiter)) => {
                 drop(waiter);
                 return Err(Stop::Waits);

@@ -21,6 +21,7 @@ pub mod Resigning
 pub mod AtRoll
 pub mod Splitting
 pub mod Joining
+pub mod Retiring
 pub mod RollCalls
 pub mod Endings
 mod Telling

@@ -21,7 +21,7 @@ use Rattle.jade_meaning.specs.Plan.{RunPlan}
 use Rattle.object_table.specs.Tallies.{TallyView, stock, received, is_settled}
 use Rattle.object_table.specs.Views.{View, worth}
 use Rattle.object_table.specs.Touches.{put_held, all_touches}
-use Rattle.object_table.specs.Plays.{note_after, Seen, OneEvent, OwnEvent}
+use Rattle.object_table.specs.Plays.{joined, note_after, Seen, OneEvent, OwnEvent}
 use Rattle.object_table.specs.declared.slot.Slot.TheVariants as slot
 use Rattle.object_table.specs.declared.answers.Taken.{Taken}
 use Rattle.object_table.specs.declared.answers.Taken.TheVariants as taken
@@ -141,6 +141,12 @@ pub record Ended (b : Option Blame) (steps : ℕ) (v w : View) : Type 0 where
     notes = v.notes ++ note_after v steps b ∷ [];
     tickets = w.tickets;
   }
+
+-- the task has ended, as of `Ended`, and its pass was taken into another, which showed k before and shows j now
+pub record Retired (b : Option Blame) (steps : ℕ) (v k j : View) : Type 0 where
+  pub last : View
+  pub ended : Ended b steps v last
+  pub after : j ≡ joined k last
 
 -- all that the pass had was handed in: the roll's slot showed this, and the pass knows whether anything may still come
 pub record HandedIn (o : ℕ) (v w : View) : Type 0 where

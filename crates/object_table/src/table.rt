@@ -8,19 +8,20 @@ ghost use Rattle.object_table.specs.Views.{count_of, word_of};
 ghost use Rattle.object_table.specs.Rule.{first_view};
 ghost use Rattle.object_table.specs.Touches.{held_at, put_held};
 ghost use Rattle.object_table.specs.Plays.{without_kid, kid_view, joined};
-ghost use Rattle.object_table.specs.Calls.{Next, TakenAs, TriedAs, EnrolledAs, HandedInAs, AsBefore, Did, Ended, IsBusy, IsGone};
+ghost use Rattle.object_table.specs.Calls.{Next, TakenAs, TriedAs, EnrolledAs, HandedInAs, AsBefore, Did, Ended, IsBusy, IsGone, Retired};
 ghost use Rattle.object_table.specs.steps.Kept.{FirstSlots, start_slots};
 
 use crate::answers::{Taken, Tried};
 use crate::finish::finish_with;
 use crate::pass::TaskPass;
 use crate::ran::Ran;
+use crate::room::PassRoom;
 use crate::slot::Slot;
 use crate::tally::{STOCK, Tally};
 use crate::task::Task;
 use crate::turns::{
-    enroll_at, enter_at, give_at, hand_in_at, leave_at, resign_at, shift_at, split_off, take_at,
-    take_in,
+    enroll_at, enter_at, give_at, hand_in_at, leave_at, resign_at, retire_at, shift_at, split_off,
+    take_at, take_in,
 };
 use crate::view::{Bearing, Joining, Sharing, View};
 use atomic_table::Table;
@@ -262,9 +263,14 @@ impl<'c> ObjectTable<'c> {
         enroll_at(&self.table.shared, alloc, &mut pass.task, place, steps)
     }
 
-    /// The pass of the child that was enrolled last, with no event done. It is no event. The error is
-    /// want of memory, and changes nothing.
-    pub fn split(&self, alloc: Global, pass: &mut TaskPass) -> Result<TaskPass, Memory>
+    /// The pass of the child that was enrolled last, with no event done. It is no event. It takes less
+    /// memory where there is room. The error is want of memory, and changes nothing but the room.
+    pub fn split(
+        &self,
+        alloc: Global,
+        pass: &mut TaskPass,
+        room: &mut PassRoom,
+    ) -> Result<TaskPass, Memory>
         requires mark { pass.old.mark ≡ self.now.mark }
         requires live { pass.old.shows.live ≡ true }
         requires kid { (kid : SeatOf) × (pass.old.shows.unborn ≡ Some kid) }
@@ -273,7 +279,7 @@ impl<'c> ObjectTable<'c> {
         ensures child { IfOk result (λ child. (child.mark ≡ pass.old.mark) × (child.shows ≡ kid_view pass.old.shows.unborn pass.old.shows)) }
         ensures unchanged { OnErr result (pass.new.shows ≡ pass.old.shows) }
     {
-        let task = split_off(&self.table.shared, alloc, &mut pass.task)?;
+        let task = split_off(&self.table.shared, alloc, &mut pass.task, room)?;
         Ok(TaskPass { task })
     }
 
@@ -287,6 +293,34 @@ impl<'c> ObjectTable<'c> {
         ensures done { Ended blame steps pass.old.shows pass.new.shows }
     {
         resign_at(&self.table.shared, &mut pass.task, blame, steps);
+    }
+
+    /// The task's end, as `resign` does it, with which its pass is taken into a resigned one, as `end` does
+    /// it. The note of its last part goes there at once, and what was brought along for it is room for
+    /// another. No word is tried for it, and it does not fail for want of memory.
+    pub fn retire(
+        &self,
+        keeper: &mut TaskPass,
+        pass: TaskPass,
+        blame: Option<Blame>,
+        steps: u64,
+        room: &mut PassRoom,
+    )
+        requires mark { (keeper.old.mark ≡ self.now.mark) × (pass.mark ≡ self.now.mark) }
+        requires gone { IsGone keeper.old.shows }
+        requires next { Next (Resign blame steps) pass.shows }
+        ensures mark { keeper.new.mark ≡ keeper.old.mark }
+        ensures done { Retired blame steps pass.shows keeper.old.shows keeper.new.shows }
+    {
+        let TaskPass { task } = pass;
+        retire_at(
+            &self.table.shared,
+            &mut keeper.task,
+            task,
+            blame,
+            steps,
+            room,
+        );
     }
 
     /// Takes one resigned pass into another, with its tickets and notes; what either knew of the end is

@@ -11,7 +11,7 @@ ghost use Rattle.object_table.specs.Tallies.{TallyView, most, restocked, receive
 ghost use Rattle.object_table.specs.Views.{word_of, worth};
 ghost use Rattle.object_table.specs.Plays.{tried_at, is_all_in, without_kid, joined};
 ghost use Rattle.object_table.specs.Touches.{held_at, put_held};
-ghost use Rattle.object_table.specs.Calls.{Next, TakenAs, TriedAs, EnrolledAs, RestockedAs, Restocked, SpentOne, HandedInAs, HandedIn, AsBefore, Did, Bore, Ended, IsBusy, IsGone};
+ghost use Rattle.object_table.specs.Calls.{Next, TakenAs, TriedAs, EnrolledAs, RestockedAs, Restocked, SpentOne, HandedInAs, HandedIn, AsBefore, Did, Bore, Ended, IsBusy, IsGone, Retired};
 ghost use Rattle.schedule_core.specs.declared.steps.Seat.{Seat as SeatOf};
 ghost use Rattle.object_table.specs.steps.Kept.{Rests, Fits, FitsRoll, Laid, GotTurn, Leaves, Laws};
 ghost use Rattle.object_table.specs.steps.Kept.{shown, IsObject, IsRoll, IsKidOf, HandedAs, EnteredAs};
@@ -21,6 +21,7 @@ ghost use Rattle.object_table.specs.declared.task.Task.{Task as TaskState};
 ghost use Rattle.jade_meaning.specs.Plan.{RunPlan};
 
 use crate::answers::{Taken, Tried};
+use crate::room::PassRoom;
 use crate::slot::Slot;
 use crate::tally::STOCK;
 use crate::task::Task;
@@ -639,8 +640,14 @@ pub(crate) fn hand_in_at(words: &Words, task: &mut Task, place: usize) -> Tried
     Tried::Done
 }
 
-/// The token of the child that was enrolled last, with no event done.
-pub(crate) fn split_off(words: &Words, alloc: Global, task: &mut Task) -> Result<Task, Memory>
+/// The token of the child that was enrolled last, with no event done. Its spare note lies in the room, if
+/// there is some.
+pub(crate) fn split_off(
+    words: &Words,
+    alloc: Global,
+    task: &mut Task,
+    room: &mut PassRoom,
+) -> Result<Task, Memory>
     requires laid { Laid words.now.table_id words.now.key }
     requires mark { task.old.seat.table_id ≡ words.now.table_id }
     requires rests { Rests task.old }
@@ -653,7 +660,7 @@ pub(crate) fn split_off(words: &Words, alloc: Global, task: &mut Task) -> Result
     ensures unchanged { OnErr result (shown task.new ≡ shown task.old) }
 {
     let path = task.path.child(alloc, task.children - 1)?;
-    let spare = SpareNote::of(alloc, &path)?;
+    let spare = SpareNote::in_place(alloc, room.spare.take(), &path)?;
     let seat = words.split_seat::<Bearing>(&mut task.seat);
     let tickets = 1 + task.tickets / 16;
     task.tickets -= tickets;
@@ -696,6 +703,48 @@ pub(crate) fn take_in(words: &Words, keeper: &mut Task, ended: Task)
     words.load::<Looking>(&mut keeper.seat, 0);
     keeper.tickets += tickets;
     keeper.notes.append(&mut notes);
+    keeper.over = either(keeper.over, over);
+}
+
+/// The task's end, with which its token is taken into that of a task that has ended. The note of its last
+/// part goes there at once; the room is what that note does not need.
+pub(crate) fn retire_at(
+    words: &Words,
+    keeper: &mut Task,
+    task: Task,
+    blame: Option<Blame>,
+    steps: u64,
+    room: &mut PassRoom,
+)
+    requires laid { Laid words.now.table_id words.now.key }
+    requires mark { (keeper.old.seat.table_id ≡ words.now.table_id) × (task.seat.table_id ≡ words.now.table_id) }
+    requires rests { Rests keeper.old × Rests task }
+    requires gone { IsGone (shown keeper.old) }
+    requires next { Next (Resign blame steps) (shown task) }
+    ensures mark { keeper.new.seat.table_id ≡ keeper.old.seat.table_id }
+    ensures rests { Rests keeper.new }
+    ensures done { Retired blame steps (shown task) (shown keeper.old) (shown keeper.new) }
+{
+    core_laws();
+    let Task {
+        mut seat,
+        path: _,
+        mut spare,
+        tickets,
+        notes,
+        children,
+        events: _,
+        touched: _,
+        over,
+    } = task;
+    let spare = taken_out(&mut spare);
+    words.load::<Resigning>(&mut seat, 0);
+    words.join_seat::<Joining>(&mut keeper.seat, seat);
+    words.load::<Looking>(&mut keeper.seat, 0);
+    keeper.tickets += tickets - 1;
+    room.spare = keeper
+        .notes
+        .append_last(notes, spare, children, blame, steps);
     keeper.over = either(keeper.over, over);
 }
 

@@ -80,7 +80,7 @@ pub(crate) fn create(
     ensures child { IfOk result (λ child. BeginsChild code.now numbers.now parent.old number child) }
     ensures parent { OnOk result (Passes parent.old parent.new (rights_of parent.old.own)) }
 {
-    let slots = child_slots(alloc, code, numbers, number, &parent.frame)?;
+    let slots = child_slots(Vec::new(alloc), code, numbers, number, &parent.frame)?;
     let own = take_child(&mut parent.own);
     go_past(instructions(code, parent.body), &mut parent.frame);
     Ok(begun(number, own, slots, parent.frame.left))

@@ -8,7 +8,7 @@ ghost use Rattle.steal_workers.specs.steps.Facts.{Over-prop};
 use crate::board::{Board, TaskWorker};
 use object_table::TaskPass;
 use std::marker::PhantomData;
-use task_suspend::{Resigned, RunName};
+use task_suspend::{Departed, Remains, Resigned, RunName, resign, retire};
 
 /// A pass of the run whose task has ended, with what the passes that were taken into it had and knew.
 #[derive(Drop)]
@@ -26,8 +26,8 @@ pub(crate) struct Over<N: RunName> {
     pub ghost of: { (pass.mark ≡ N.mark) × (pass.shows.over ≡ true) } by { Over-prop pass N.mark },
 }
 
-/// The pass of a task that has ended; what else the task had is let go.
-pub(crate) fn pass_of<'c, N: RunName>(resigned: Resigned<'c, N>) -> Kept<N> {
+// The pass of a task that has ended; what else the task had is let go.
+fn pass_of<'c, N: RunName>(resigned: Resigned<'c, N>) -> Kept<N> {
     Kept {
         pass: Box::into_inner(resigned.task).pass,
         name: resigned.name,
@@ -48,6 +48,30 @@ pub(crate) fn handed_in<'c, N: RunName>(board: &Board<'c, N>, kept: Kept<N>) -> 
     let Kept { mut pass, name } = kept;
     board.table.hand_in(&mut pass);
     Kept { pass, name }
+}
+
+/// A task resigns whose entries have all left, and its pass is kept with the others, where they lie; what
+/// else it had remains for a child.
+pub(crate) fn keep_departed<'c, N: RunName>(
+    board: &Board<'c, N>,
+    worker: &mut TaskWorker<'c, N>,
+    departed: Departed<'c, N>,
+) {
+    let (kept, remains) = worker.kept_and_remains();
+    match kept {
+        Some(kept) => retire_into(board, kept, departed, remains),
+        None => worker.keep(pass_of(resign(&board.table, departed))),
+    }
+}
+
+// The same where there is a pass with which it is kept.
+fn retire_into<'c, N: RunName>(
+    board: &Board<'c, N>,
+    kept: &mut Kept<N>,
+    departed: Departed<'c, N>,
+    remains: &mut Remains,
+) {
+    retire(&board.table, &mut kept.pass, departed, remains);
 }
 
 /// A worker keeps one pass more: with the others, where they lie.

@@ -29,6 +29,8 @@ pub(crate) enum Wish {
     Change,
     /// A content goes back, which one that commutes may then have.
     Give,
+    /// A child: its entries are made.
+    Child,
     /// The task ends: its entries leave.
     End,
     /// Something else.
@@ -43,13 +45,19 @@ impl Wish {
             Ask::Take(_, _) => Wish::Change,
             Ask::GiveBack(_) => Wish::Give,
             Ask::End | Ask::Fault(_) => Wish::End,
-            Ask::Create | Ask::Change => Wish::Other,
+            Ask::Create => Wish::Child,
+            Ask::Change => Wish::Other,
         }
     }
 
     /// Whether a content is asked for.
     pub fn takes(self) -> bool {
         matches!(self, Wish::Read(_) | Wish::Change)
+    }
+
+    /// Whether a child is created.
+    pub fn creates(self) -> bool {
+        matches!(self, Wish::Child)
     }
 
     /// Whether the task ends.
@@ -77,6 +85,7 @@ pub(crate) fn taken<'c, N: RunName, R: Wait>(
 /// An object was freed. Where its content came back, the first that waits for it is let go if it is to
 /// commute, and else in any case. The worker goes on with it next where its own task ends and has passed
 /// its last gate.
+#[inline(always)]
 pub(crate) fn freed<'c, N: RunName, R: Wait>(
     rt: &R,
     board: &Board<'c, N>,
@@ -95,6 +104,7 @@ pub(crate) fn freed<'c, N: RunName, R: Wait>(
 
 // Lets the first that waits for an object go, if some wait. Where no task is counted as waiting, none lies
 // in a room, and one that is counted from now on is tried once more before it goes there.
+#[inline(always)]
 fn first_of_some<'c, N: RunName, R: Wait>(
     rt: &R,
     board: &Board<'c, N>,

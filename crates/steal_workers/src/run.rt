@@ -143,7 +143,7 @@ fn workers_of<T: Drop, P: Drop>(
 ) -> Result<Vec<Worker<T, P>>, Memory> {
     let mut workers = Vec::new(alloc);
     for local in locals {
-        let worker = Worker::new(workers.len(), local);
+        let worker = Worker::new(alloc, workers.len(), local);
         if workers.push(worker).is_err() {
             return Err(Memory);
         }

@@ -1,13 +1,13 @@
 //! What a worker does after a try.
 
 use crate::board::{Board, TaskWorker};
-use crate::keeper::{keep_too, pass_of};
+use crate::keeper::keep_departed;
 use crate::letting::{How, Wish, freed, goes_next, let_first_go, offer, taken};
 use jade_base::Memory;
 use std::hint::spin_loop;
 use std::sync::Wait;
 use std::thread::yield_now;
-use task_suspend::{Capsule, CapsuleLine, Modes, Resigned, RunName, Waiter, Went};
+use task_suspend::{Capsule, CapsuleLine, Modes, RunName, Waiter, Went};
 
 /// So often a task is tried again where another has a turn. A turn is short, so it pays to stay.
 const BUSY_TRIES: u32 = 40;
@@ -124,8 +124,8 @@ fn go_on<'c, N: RunName, R: Wait>(
             worker.set_born(true);
             Ok(Some(Hand::of(child)))
         }
-        Went::Ended(resigned) => {
-            end(board, worker, resigned);
+        Went::Departed(departed) => {
+            keep_departed(board, worker, departed);
             Ok(None)
         }
         Went::Ready(task) => {
@@ -135,15 +135,6 @@ fn go_on<'c, N: RunName, R: Wait>(
         Went::Busy(task) => Ok(Some(Hand::of(task))),
         Went::Waits(waiter) => Ok(Some(Hand::of(waiter.capsule))),
     }
-}
-
-// Keeps the pass of a task that has ended. What it has is handed in once the worker has no task.
-fn end<'c, N: RunName>(
-    board: &Board<'c, N>,
-    worker: &mut TaskWorker<'c, N>,
-    resigned: Resigned<'c, N>,
-) {
-    keep_too(board, worker, pass_of(resigned));
 }
 
 // The worker goes on with the child. The parent is ready, and an only worker goes on with it next; where

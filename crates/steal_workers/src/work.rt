@@ -5,11 +5,12 @@ ghost use Rattle.std.specs.Prelude.{◌≡◌};
 use crate::board::{Board, TaskWorker};
 use crate::gate::Gate;
 use crate::idle::next_task;
-use crate::letting::Wish;
+use crate::letting::{Wish, freed};
 use crate::settle::{Hand, holds, settle};
+use jade_base::Memory;
 use std::alloc::Global;
 use std::sync::Wait;
-use task_suspend::{Capsule, RunName, to_ask, try_ask};
+use task_suspend::{Capsule, RunName, Went, to_ask, try_ask};
 
 /// Works until all is over, or memory is wanting.
 pub(crate) fn work<'c, N: RunName, G: Gate, R: Wait>(
@@ -46,12 +47,20 @@ fn carry<'c, N: RunName, G: Gate, R: Wait>(
         }
         match turn(rt, alloc, board, gate, worker, hand) {
             Some(next) => hand = next,
-            None => return,
+            None => match worker.take_next() {
+                Some(task) => {
+                    holds(board, worker, false);
+                    worker.set_born(false);
+                    hand = Hand::of(task);
+                }
+                None => return,
+            },
         }
     }
 }
 
 // One try at what a task asks for, at its next ask where none stands; the task, if it stays in hand.
+#[inline(always)]
 fn turn<'c, N: RunName, G: Gate, R: Wait>(
     rt: &R,
     alloc: Global,
@@ -70,7 +79,7 @@ fn turn<'c, N: RunName, G: Gate, R: Wait>(
     if wish.ends() {
         holds(board, worker, false);
     }
-    let went = try_ask(alloc, &board.table, task, ask);
+    let went = try_on(rt, alloc, board, worker, task, wish);
     match settle(rt, board, worker, went, tries, wish) {
         Ok(next) => next,
         Err(_) => {
@@ -78,6 +87,34 @@ fn turn<'c, N: RunName, G: Gate, R: Wait>(
             None
         }
     }
+}
+
+// One try, and where it makes an entry of a child, or an entry of a task that ends leaves, a try for the
+// next of them at once.
+#[inline(always)]
+fn try_on<'c, N: RunName, R: Wait>(
+    rt: &R,
+    alloc: Global,
+    board: &Board<'c, N>,
+    worker: &mut TaskWorker<'c, N>,
+    first: Capsule<'c, N>,
+    wish: Wish,
+) -> Result<Went<'c, N>, Memory> {
+    let mut task = first;
+    for _ in rt.forever() {
+        let Some(ask) = task.asked() else {
+            return Ok(Went::Ready(task));
+        };
+        match try_ask(alloc, &board.table, task, ask, worker.remains()) {
+            Ok(Went::Ready(entered)) if wish.creates() => task = entered,
+            Ok(Went::Freed(place, left)) if wish.ends() => {
+                freed(rt, board, worker, place.object, wish)?;
+                task = left;
+            }
+            other => return other,
+        }
+    }
+    Err(Memory)
 }
 
 // Calls the gate before the first try at an ask.

@@ -1,13 +1,16 @@
 //! One worker.
 
 use crossbeam_deque::Steal;
+use std::alloc::Global;
 use std::mem;
 use task_deque::{Owner, Thief, put_task, steal_task, take_task, visit};
+use task_suspend::Remains;
 
 /// A worker: its place among the workers, for how many rounds it has found nothing that goes on, the
 /// task that it goes on with next, which others don't see, its ready tasks, whether the others see that
-/// its task has a content, whether its task was created just now and has taken nothing yet, and the
-/// passes of tasks that have ended, as one, with all that they have to hand in.
+/// its task has a content, whether its task was created just now and has taken nothing yet, the passes
+/// of tasks that have ended, as one, with all that they have to hand in, and what the last of them left
+/// for a child.
 #[derive(Drop)]
 pub(crate) struct Worker<T: Drop, P: Drop> {
     place: usize,
@@ -17,11 +20,12 @@ pub(crate) struct Worker<T: Drop, P: Drop> {
     born: bool,
     local: Owner<T>,
     kept: Option<P>,
+    remains: Remains,
 }
 
 impl<T: Drop, P: Drop> Worker<T, P> {
     /// A worker with these tasks.
-    pub fn new(place: usize, local: Owner<T>) -> Worker<T, P> {
+    pub fn new(alloc: Global, place: usize, local: Owner<T>) -> Worker<T, P> {
         Worker {
             place,
             vain: 0,
@@ -30,6 +34,7 @@ impl<T: Drop, P: Drop> Worker<T, P> {
             born: false,
             local,
             kept: None,
+            remains: Remains::none(alloc),
         }
     }
 
@@ -91,6 +96,11 @@ impl<T: Drop, P: Drop> Worker<T, P> {
         }
     }
 
+    /// Takes the task that it goes on with next.
+    pub fn take_next(&mut self) -> Option<T> {
+        self.next.take()
+    }
+
     /// Takes the task that it goes on with next, or a ready one of its own.
     pub fn take(&mut self) -> Option<T> {
         match self.next.take() {
@@ -112,6 +122,16 @@ impl<T: Drop, P: Drop> Worker<T, P> {
     /// What it keeps, where it lies.
     pub fn kept(&mut self) -> Option<&mut P> {
         self.kept.as_mut()
+    }
+
+    /// What it keeps, where it lies, and what the last task that ended left for a child.
+    pub fn kept_and_remains(&mut self) -> (Option<&mut P>, &mut Remains) {
+        (self.kept.as_mut(), &mut self.remains)
+    }
+
+    /// What the last task that ended left for a child.
+    pub fn remains(&mut self) -> &mut Remains {
+        &mut self.remains
     }
 
     /// Hands over what it kept.

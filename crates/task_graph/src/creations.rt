@@ -9,7 +9,7 @@ use jade_base::ObjectId;
 use picture_base::Stop;
 use std::alloc::Global;
 use std::mem;
-use task_machine::{Execution, Pause};
+use task_machine::{Execution, MachineRoom, Pause};
 
 /// What comes of one pause.
 #[derive(Drop)]
@@ -40,7 +40,7 @@ fn line_of(bodies: &[Body], number: u32) -> u32 {
 fn give_back(execution: &mut Execution, store: &mut Store, taken: &mut Vec<ObjectId>) {
     for place in 0..taken.len() {
         let object = taken[place];
-        match execution.surrender(object) {
+        match execution.surrender(0, object) {
             Some(content) => store.put(object, content),
             None => {}
         }
@@ -59,7 +59,7 @@ fn take(
         return Err(Stop::Failed);
     };
     let content = store.take(alloc, object, mode)?;
-    execution.supply(object, content);
+    execution.supply(0, object, content);
     Ok(())
 }
 
@@ -83,7 +83,7 @@ fn go_on<'c>(
             Ok(Going::On)
         }
         Pause::Create(number) => {
-            let child = execution.child(alloc, number)?;
+            let child = execution.child(alloc, number, &mut MachineRoom::none(alloc))?;
             Ok(Going::Child(number, child))
         }
         Pause::Change => {

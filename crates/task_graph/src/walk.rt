@@ -6,7 +6,7 @@ use code_keeps::Compiled;
 use picture_base::Stop;
 use std::alloc::Global;
 use std::mem;
-use task_machine::{Ask, Machine};
+use task_machine::{Ask, Machine, MachineRoom};
 
 /// A task: its path, and the steps that it had begun when it created its last child.
 #[derive(Drop)]
@@ -73,7 +73,10 @@ fn create<'c>(
     println!(rt; "create {path} {steps} {child} {line}")?;
     tell_declarations(rt, machine, child.as_str())?;
     match machine.asked() {
-        Some(Ask::Create) => Ok(Going::Child(child, machine.child(rt.alloc())?)),
+        Some(Ask::Create) => Ok(Going::Child(
+            child,
+            machine.child(rt.alloc(), &mut MachineRoom::none(rt.alloc()))?,
+        )),
         _ => Err(Stop::Failed),
     }
 }

@@ -18,9 +18,10 @@ ghost use Rattle.jade_meaning.specs.Spread.{spread};
 ghost use Rattle.task_machine.specs.declared.section.Section.{Section};
 
 use crate::frame::{Frame, Pause, go_past};
-use crate::holdings::Holdings;
+use crate::holdings::{Holdings, Row};
+use crate::room::MachineRoom;
 use crate::section::{
-    Own, all_rights, commit, copied_for, declare_for_child, end_section, outside_section,
+    Own, all_rights, commit, copied_for, declare_for_child, end_section_for, outside_section,
     own_object, rights_for,
 };
 use crate::slots::{empty_slots, give_call, give_inputs};
@@ -112,6 +113,24 @@ fn body_room(code: &DecodedCode, body: u32)
     code.keeps_rules();
 }
 
+// The slots of a body with the inputs in the first of them, in a vector that may have been used.
+fn slots_with_inputs(
+    used: Vec<i64>,
+    code: &DecodedCode,
+    numbers: &[i64],
+    body: u32,
+) -> Result<Vec<i64>, Memory>
+    requires there { body < length code.now.bodies }
+    requires numbers { length numbers.now ≡ code.now.inputs }
+    ensures slots { IfOk result (λ slots. slots_of slots.items ≡ given_slots numbers.now) }
+    ensures long { IfOk result (λ slots. length slots.items ≡ (body_at code.now body).slots) }
+{
+    body_room(code, body);
+    let mut slots = empty_slots(used, room(code, body))?;
+    give_inputs(&mut slots, numbers);
+    Ok(slots)
+}
+
 /// The slots of a body with the inputs in the first of them. The error is want of memory.
 pub fn input_slots(
     alloc: Global,
@@ -124,15 +143,13 @@ pub fn input_slots(
     ensures slots { IfOk result (λ slots. slots_of slots.items ≡ given_slots numbers.now) }
     ensures long { IfOk result (λ slots. length slots.items ≡ (body_at code.now body).slots) }
 {
-    body_room(code, body);
-    let mut slots = empty_slots(alloc, room(code, body))?;
-    give_inputs(&mut slots, numbers);
-    Ok(slots)
+    slots_with_inputs(Vec::new(alloc), code, numbers, body)
 }
 
-/// The slots of a body that is created. The error is want of memory.
+/// The slots of a body that is created, in a vector that may have been used. The error is want of
+/// memory.
 pub fn child_slots(
-    alloc: Global,
+    used: Vec<i64>,
     code: &DecodedCode,
     numbers: &[i64],
     body: u32,
@@ -145,7 +162,7 @@ pub fn child_slots(
     ensures long { IfOk result (λ slots. length slots.items ≡ (body_at code.now body).slots) }
 {
     body_room(code, body);
-    let mut slots = input_slots(alloc, code, numbers, body)?;
+    let mut slots = slots_with_inputs(used, code, numbers, body)?;
     give_call(&mut slots, numbers.len(), call_of(code, body), frame);
     Ok(slots)
 }
@@ -239,20 +256,20 @@ impl<'c> Execution<'c> {
     }
 
     /// The content of an object is held; nothing changes where the task's specification does not
-    /// tell of the object. It takes no memory.
-    pub fn supply(&mut self, object: ObjectId, content: Content)
+    /// tell of the object. Its row is looked for at this place first. It takes no memory.
+    pub fn supply(&mut self, near: usize, object: ObjectId, content: Content)
         ensures { self.new ≡ record self.old { rows = with_content object.0 (Some content) self.old.rows } }
     {
-        self.held.supply(object, content);
+        self.held.supply(near, object, content);
     }
 
-    /// The content of an object is held no more; it is the result, where it was held. It takes no
-    /// memory.
-    pub fn surrender(&mut self, object: ObjectId) -> Option<Content>
+    /// The content of an object is held no more; it is the result, where it was held. Its row is
+    /// looked for at this place first. It takes no memory.
+    pub fn surrender(&mut self, near: usize, object: ObjectId) -> Option<Content>
         ensures content { result ≡ held_by self.old object.0 }
         ensures rows { self.new ≡ record self.old { rows = with_content object.0 None self.old.rows } }
     {
-        self.held.surrender(object)
+        self.held.surrender(near, object)
     }
 
     /// Declares rights on an object for the child whose section has come to this, and goes on to
@@ -289,9 +306,14 @@ impl<'c> Execution<'c> {
 
     /// The child of the body of this number, which is created: it begins with the slots that its
     /// creator gives it and the specification that the section has made, with no content held. The
-    /// creator goes on to the next instruction, in no section. The error is want of memory, and
-    /// changes nothing.
-    pub fn child(&mut self, alloc: Global, number: u32) -> Result<Execution<'c>, Memory>
+    /// creator goes on to the next instruction, in no section. Its vectors are those of the room. The
+    /// error is want of memory, and changes nothing but the room.
+    pub fn child(
+        &mut self,
+        alloc: Global,
+        number: u32,
+        room: &mut MachineRoom,
+    ) -> Result<Execution<'c>, Memory>
         requires created { created_by (slice_get self.old.stage.code self.old.stage.place) ≡ Some number }
         ensures begun { IfOk result (λ child. IsBegun self.old.program self.old.numbers self.old.limit number
             (passed self.old.numbers (body_at self.old.program number).call (slots_of self.old.stage.slots))
@@ -302,9 +324,10 @@ impl<'c> Execution<'c> {
         ensures refused { OnErr result (self.new ≡ self.old) }
     {
         created_body(self.code, self.body, self.frame.place, number);
-        let slots = child_slots(alloc, self.code, self.numbers, number, &self.frame)?;
-        let held = Holdings::none(alloc, &self.own.child)?;
-        let spec = end_section(&mut self.own);
+        let used = room.take_slots(alloc);
+        let slots = child_slots(used, self.code, self.numbers, number, &self.frame)?;
+        let held = Holdings::none_in(room.take_rows(alloc), alloc, &self.own.child)?;
+        let spec = end_section_for(&mut self.own, room.take_spec(alloc));
         go_past(instructions(self.code, self.body), &mut self.frame);
         let own = outside_section(alloc, self.own.objects, spec);
         Ok(begun(
@@ -316,6 +339,16 @@ impl<'c> Execution<'c> {
             own,
             held,
         ))
+    }
+
+    /// The room that it leaves, with these marks in it.
+    pub(crate) fn into_room(self, due: Vec<bool>) -> MachineRoom {
+        MachineRoom {
+            slots: self.frame.slots,
+            rows: self.held.into_rows(),
+            due,
+            spec: self.own.spec.abandon(),
+        }
     }
 
     /// The mode in which an object is held, if it is. It takes no memory.
@@ -459,5 +492,13 @@ impl<'c> Execution<'c> {
         ensures { result ≡ row_from object.0 0 self.now.rows }
     {
         self.held.row_of(object.0 as usize)
+    }
+
+    /// The same, where its row is looked for at this place first.
+    #[inline(always)]
+    pub(crate) fn row_near(&self, near: usize, object: ObjectId) -> Option<usize>
+        ensures { result ≡ row_from object.0 0 self.now.rows }
+    {
+        self.held.row_near(near, object.0 as usize)
     }
 }

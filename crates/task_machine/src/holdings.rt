@@ -11,6 +11,7 @@ ghost use Rattle.task_machine.specs.steps.Searching.{IsFirstFrom};
 
 use crate::halves::FEW;
 use crate::hold::Hold;
+use crate::room::emptied;
 use jade_base::{Content, Memory, Mode, Numbers, ObjectId, Spec};
 use jade_syntax::Checked;
 use std::alloc::Global;
@@ -46,7 +47,14 @@ impl Holdings {
     pub(crate) fn none(alloc: Global, spec: &Spec) -> Result<Holdings, Memory>
         ensures { IfOk result (λ held. held ≡ map without_content spec.now.entries) }
     {
-        let mut rows = Vec::new(alloc);
+        Holdings::none_in(Vec::new(alloc), alloc, spec)
+    }
+
+    /// The same, with the rows in a vector that may have been used.
+    pub(crate) fn none_in(used: Vec<Row>, alloc: Global, spec: &Spec) -> Result<Holdings, Memory>
+        ensures { IfOk result (λ held. held ≡ map without_content spec.now.entries) }
+    {
+        let mut rows = emptied(used, spec.len());
         'rows: for place in 0..spec.len() {
             let (object, _) = spec.entry(place);
             rows.push(Row {
@@ -66,12 +74,17 @@ impl Holdings {
         Ok(Holdings { rows })
     }
 
+    /// The vector of the rows, for others.
+    pub(crate) fn into_rows(self) -> Vec<Row> {
+        self.rows
+    }
+
     /// Takes the content of an object out, where it is held. It takes no memory.
     pub fn take(&mut self, object: usize) -> Option<Content>
         ensures taken { result ≡ contents_of self.old object }
         ensures left { contents_of self.new ≡ without object (contents_of self.old) }
     {
-        take_among(self.rows.as_mut_slice(), object)
+        take_among(self.rows.as_mut_slice(), object, object)
     }
 
     /// The number of rows.
@@ -95,6 +108,14 @@ impl Holdings {
         ensures { result ≡ row_from object 0 self.now }
     {
         place_of(self.rows.as_slice(), object)
+    }
+
+    /// The same, where its row is looked for at this place first.
+    #[inline(always)]
+    pub(crate) fn row_near(&self, near: usize, object: usize) -> Option<usize>
+        ensures { result ≡ row_from object 0 self.now }
+    {
+        place_near(self.rows.as_slice(), near, object)
     }
 
     /// The mode in which an object is held, if it is.
@@ -134,21 +155,23 @@ impl Holdings {
         write_among(self.rows.as_mut_slice(), row, object, cell, number)
     }
 
-    /// The row of an object, if there is one, holds this content; what it held goes. It takes no memory.
+    /// The row of an object, if there is one, holds this content; what it held goes. Its row is looked
+    /// for at this place first. It takes no memory.
     #[inline(always)]
-    pub(crate) fn supply(&mut self, object: ObjectId, content: Content)
+    pub(crate) fn supply(&mut self, near: usize, object: ObjectId, content: Content)
         ensures { self.new ≡ with_content object.0 (Some content) self.old }
     {
-        fill_among(self.rows.as_mut_slice(), object.0 as usize, content);
+        fill_among(self.rows.as_mut_slice(), near, object.0 as usize, content);
     }
 
-    /// Takes the content of an object out of its row, where it is held. It takes no memory.
+    /// Takes the content of an object out of its row, where it is held. Its row is looked for at this
+    /// place first. It takes no memory.
     #[inline(always)]
-    pub(crate) fn surrender(&mut self, object: ObjectId) -> Option<Content>
+    pub(crate) fn surrender(&mut self, near: usize, object: ObjectId) -> Option<Content>
         ensures content { result ≡ contents_of self.old object.0 }
         ensures rows { self.new ≡ with_content object.0 None self.old }
     {
-        take_among(self.rows.as_mut_slice(), object.0 as usize)
+        take_among(self.rows.as_mut_slice(), near, object.0 as usize)
     }
 }
 
@@ -166,16 +189,16 @@ fn rows_of(alloc: Global, checked: &Checked) -> Result<Vec<Row>, Memory>
     Ok(rows)
 }
 
-// Takes the content of an object out, where it is held.
+// Takes the content of an object out, where it is held. Its row is looked for at this place first.
 #[inline(always)]
-fn take_among(rows: &mut [Row], object: usize) -> Option<Content>
+fn take_among(rows: &mut [Row], near: usize, object: usize) -> Option<Content>
     requires { RowsAscend rows.old }
     ensures taken { result ≡ contents_of rows.old object }
     ensures left { contents_of rows.new ≡ without object (contents_of rows.old) }
     ensures rows { rows.new ≡ with_content object None rows.old }
     ensures ascend { RowsAscend rows.new }
 {
-    match place_of(rows, object) {
+    match place_near(rows, near, object) {
         None => None,
         Some(place) => rows[place].content.take(),
     }
@@ -250,6 +273,19 @@ fn place_of(rows: &[Row], object: usize) -> Option<usize>
     }
 }
 
+// The place of an object's row, which is looked for at this place first.
+#[inline(always)]
+fn place_near(rows: &[Row], near: usize, object: usize) -> Option<usize>
+    requires { RowsAscend rows.now }
+    ensures row { result ≡ row_from object 0 rows.now }
+    ensures within { IfSome result (λ place. place < length rows.now) }
+{
+    if near < rows.len() && rows[near].object.0 as usize == object {
+        return Some(near);
+    }
+    place_of(rows, object)
+}
+
 // The number in a cell of an object, whose row is at this place, where the object is held.
 #[inline(always)]
 fn cell_among(rows: &[Row], row: usize, _object: usize, cell: usize) -> Option<i64>
@@ -285,14 +321,14 @@ fn write_among(rows: &mut [Row], row: usize, _object: usize, cell: usize, number
     rows[row].content.write(cell, number)
 }
 
-// The row of an object, if there is one, holds this content.
+// The row of an object, if there is one, holds this content. It is looked for at this place first.
 #[inline(always)]
-fn fill_among(rows: &mut [Row], object: usize, content: Content)
+fn fill_among(rows: &mut [Row], near: usize, object: usize, content: Content)
     requires { RowsAscend rows.old }
     ensures rows { rows.new ≡ with_content object (Some content) rows.old }
     ensures ascend { RowsAscend rows.new }
 {
-    match place_of(rows, object) {
+    match place_near(rows, near, object) {
         None => {}
         Some(place) => rows[place].content.fill(content),
     }

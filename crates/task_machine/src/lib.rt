@@ -18,6 +18,7 @@ pub mod next;
 mod numbers;
 mod often;
 pub mod play;
+pub mod room;
 pub mod section;
 mod slots;
 
@@ -25,3 +26,4 @@ pub use execution::Execution;
 pub use frame::Pause;
 pub use machine::{Ask, Machine};
 pub use next::{Phase, next_object};
+pub use room::MachineRoom;

@@ -27,6 +27,7 @@ use crate::execution::Execution;
 use crate::frame::Pause;
 use crate::laws::{begins_its_course, begins_its_talk};
 use crate::next::{Phase, is_given_back, next_from, own_due};
+use crate::room::{MachineRoom, emptied};
 use access_spec::mode_of;
 use jade_base::{Blame, Content, Memory, Mode, ObjectId, Right, Rights};
 use std::alloc::Global;
@@ -35,6 +36,9 @@ use task_code::DecodedCode;
 
 // The first object of all.
 const START: ObjectId = ObjectId(0);
+
+// The place at which a row is looked for first where nothing tells of one.
+const NOWHERE: usize = 0;
 
 /// What a task asks for.
 #[derive(Clone, Copy, Debug, PartialEq, Eq)]
@@ -63,6 +67,8 @@ pub struct Machine<'c> {
     phase: Phase,
     // Below this object nothing is to be taken or given up.
     from: ObjectId,
+    // Where the row of the object of the last ask is looked for first.
+    near: usize,
     part: u32,
     ask: Option<Ask>,
     asks: u64,
@@ -83,12 +89,12 @@ impl<'c> Model for Machine<'c> {
     ghost invariant = { λ m. IsSearched m.from.0 m.unmarked (asking m.execution m.due.items m.phase m.part m.ask m.asks m.children m.touched) };
 }
 
-// The take of an object for which there is a mode.
-fn take(execution: &Execution, object: ObjectId) -> Ask
+// The take of an object for which there is a mode. Its rights are looked for at this place first.
+fn take(execution: &Execution, place: usize, object: ObjectId) -> Ask
     requires { is_some (mode_of (rights_on (rights_at execution.now.stage) object.0)) ≡ true }
     ensures { TakenAs result object execution.now }
 {
-    match mode_of(execution.rights(object)) {
+    match mode_of(execution.rights_in_row(place, object)) {
         Some(mode) => Ask::Take(object, mode),
         None => unreachable!(),
     }
@@ -130,57 +136,64 @@ fn below(from: ObjectId, object: ObjectId) -> ObjectId
     if object.0 < from.0 { object } else { from }
 }
 
-// What is asked for where something may have to be given up first.
-fn give(execution: &Execution, due: &[bool], phase: Phase, from: ObjectId) -> Ask
+// What is asked for where something may have to be given up first, and where the row of its object
+// may be found.
+fn give(execution: &Execution, due: &[bool], phase: Phase, from: ObjectId) -> (Ask, usize)
     requires gives { gives_up phase ≡ true }
     requires done { IsNone (is_to_move phase execution.now due.now) from.0 }
-    ensures asks { (part : ℕ) → Asked result phase (machine execution.now due.now phase part) }
-    ensures done { IsNone (is_to_move phase execution.now due.now) (reached result from.0) }
+    ensures asks { (part : ℕ) → Asked result.0 phase (machine execution.now due.now phase part) }
+    ensures done { IsNone (is_to_move phase execution.now due.now) (reached result.0 from.0) }
 {
     match next_from(execution, due, phase, from) {
-        Some(object) => Ask::GiveBack(object),
-        None => last_ask(phase),
+        Some((object, place)) => (Ask::GiveBack(object), place),
+        None => (last_ask(phase), NOWHERE),
     }
 }
 
-// What is taken next of what is due.
-fn take_due(execution: &Execution, due: &[bool], from: ObjectId) -> Option<Ask>
+// What is taken next of what is due, and where its row may be found.
+fn take_due(execution: &Execution, due: &[bool], from: ObjectId) -> Option<(Ask, usize)>
     requires done { IsNone (is_to_move Phase.Taking execution.now due.now) from.0 }
-    ensures asks { IfSome result (λ ask. (part : ℕ) → IsOrdered (machine execution.now due.now Phase.Taking part)
-        → Asked ask Phase.Taking (machine execution.now due.now Phase.Taking part)) }
+    ensures asks { IfSome result (λ next. (part : ℕ) → IsOrdered (machine execution.now due.now Phase.Taking part)
+        → Asked next.0 Phase.Taking (machine execution.now due.now Phase.Taking part)) }
     ensures none { IfNone result (RunsOn Phase.Taking execution.now due.now) }
-    ensures done { IfSome result (λ ask. IsNone (is_to_move Phase.Taking execution.now due.now) (reached ask from.0)) }
+    ensures done { IfSome result (λ next. IsNone (is_to_move Phase.Taking execution.now due.now) (reached next.0 from.0)) }
 {
     match next_from(execution, due, Phase::Taking, from) {
-        Some(object) => Some(take(execution, object)),
+        Some((object, place)) => Some((take(execution, place, object), place)),
         None => None,
     }
 }
 
-// What a task takes next where it begins: the object on which it commutes last.
-fn take_first(execution: &Execution, due: &[bool], from: ObjectId) -> Option<Ask>
+// What a task takes next where it begins, and where its row may be found: the object on which it
+// commutes last.
+fn take_first(execution: &Execution, due: &[bool], from: ObjectId) -> Option<(Ask, usize)>
     requires done { IsNone (is_to_move Phase.Starting execution.now due.now) from.0 }
-    ensures asks { IfSome result (λ ask. (part : ℕ) → IsOrdered (machine execution.now due.now Phase.Starting part)
-        → Asked ask Phase.Starting (machine execution.now due.now Phase.Starting part)) }
+    ensures asks { IfSome result (λ next. (part : ℕ) → IsOrdered (machine execution.now due.now Phase.Starting part)
+        → Asked next.0 Phase.Starting (machine execution.now due.now Phase.Starting part)) }
     ensures none { IfNone result (RunsOn Phase.Starting execution.now due.now) }
-    ensures done { IfSome result (λ ask. IsNone (is_to_move Phase.Starting execution.now due.now) (reached ask from.0)) }
+    ensures done { IfSome result (λ next. IsNone (is_to_move Phase.Starting execution.now due.now) (reached next.0 from.0)) }
 {
     match next_from(execution, due, Phase::Starting, from) {
-        Some(object) => Some(take(execution, object)),
+        Some((object, place)) => Some((take(execution, place, object), place)),
         None => match own_due(execution, due) {
-            Some(object) => Some(take(execution, object)),
+            Some(object) => Some((take(execution, NOWHERE, object), NOWHERE)),
             None => None,
         },
     }
 }
 
-// What is asked for before the code is run on.
-fn next_ask(execution: &Execution, due: &[bool], phase: Phase, from: ObjectId) -> Option<Ask>
+// What is asked for before the code is run on, and where the row of its object may be found.
+fn next_ask(
+    execution: &Execution,
+    due: &[bool],
+    phase: Phase,
+    from: ObjectId,
+) -> Option<(Ask, usize)>
     requires done { IsNone (is_to_move phase execution.now due.now) from.0 }
-    ensures asks { IfSome result (λ ask. (part : ℕ) → IsOrdered (machine execution.now due.now phase part)
-        → Asked ask phase (machine execution.now due.now phase part)) }
+    ensures asks { IfSome result (λ next. (part : ℕ) → IsOrdered (machine execution.now due.now phase part)
+        → Asked next.0 phase (machine execution.now due.now phase part)) }
     ensures none { IfNone result (RunsOn phase execution.now due.now) }
-    ensures done { IfSome result (λ ask. IsNone (is_to_move phase execution.now due.now) (reached ask from.0)) }
+    ensures done { IfSome result (λ next. IsNone (is_to_move phase execution.now due.now) (reached next.0 from.0)) }
 {
     match phase {
         Phase::Starting => take_first(execution, due, from),
@@ -207,31 +220,31 @@ fn phase_of(pause: Pause) -> Phase
     }
 }
 
-// What is asked for where the rights are to change. Where the section said nothing, what is held
-// stays held.
-fn change_ask(execution: &Execution, due: &[bool]) -> Ask
+// What is asked for where the rights are to change, and where the row of its object may be found.
+// Where the section said nothing, what is held stays held.
+fn change_ask(execution: &Execution, due: &[bool]) -> (Ask, usize)
     ensures { (part : ℕ) → IsOrdered (machine execution.now due.now Phase.Changing part)
-        → Asked result Phase.Changing (machine execution.now due.now Phase.Changing part) }
+        → Asked result.0 Phase.Changing (machine execution.now due.now Phase.Changing part) }
 {
     if execution.is_drafted() {
         give(execution, due, Phase::Changing, START)
     } else {
-        Ask::Change
+        (Ask::Change, NOWHERE)
     }
 }
 
-// What is asked for at a pause.
-fn pause_ask(execution: &Execution, due: &[bool], pause: Pause) -> Ask
+// What is asked for at a pause, and where the row of its object may be found.
+fn pause_ask(execution: &Execution, due: &[bool], pause: Pause) -> (Ask, usize)
     requires event { is_event pause ≡ true }
     requires tells { Tells pause (child_of execution.now) execution.now.stage (held_by execution.now) }
     requires small { execution.now.stage.objects < 2 ^ 32 }
     ensures { (part : ℕ) → IsOrdered (machine execution.now due.now (phase_of pause) part)
         → NoDue (machine execution.now due.now (phase_of pause) part)
         → HasRows execution.now.stage.spec.entries execution.now.rows
-        → Asked result (phase_of pause) (machine execution.now due.now (phase_of pause) part) }
+        → Asked result.0 (phase_of pause) (machine execution.now due.now (phase_of pause) part) }
 {
     match pause {
-        Pause::Take(object) => take(execution, ObjectId(object)),
+        Pause::Take(object) => (take(execution, NOWHERE, ObjectId(object)), NOWHERE),
         Pause::End => give(execution, due, Phase::Ending(None), START),
         Pause::Fault(blame) => give(execution, due, Phase::Ending(Some(blame)), START),
         Pause::Create(number) => give(execution, due, Phase::Creating(number), START),
@@ -289,24 +302,33 @@ fn number_of(phase: Phase) -> u32
     }
 }
 
-// Another mark for the row of an object.
-fn set_mark(execution: &Execution, due: &mut Vec<bool>, object: ObjectId, mark: bool)
+// Another mark for the row of an object, which is looked for at this place first. The result is a
+// place at which it may be found.
+fn set_mark(
+    execution: &Execution,
+    near: usize,
+    due: &mut Vec<bool>,
+    object: ObjectId,
+    mark: bool,
+) -> usize
     ensures { due.new.items ≡ with_mark object.0 mark execution.now.rows due.old.items }
 {
-    match execution.row_of(object) {
-        None => {}
+    match execution.row_near(near, object) {
+        None => near,
         Some(place) => {
             if place < due.len() {
                 due[place] = mark;
             }
+            place
         }
     }
 }
 
-// What is given up for a change of the rights is due after it. The result tells that no mark is
-// set, where that is known.
+// What is given up for a change of the rights is due after it; its row is looked for at this place
+// first. The result tells that no mark is set, where that is known.
 fn mark_given(
     execution: &Execution,
+    near: usize,
     due: &mut Vec<bool>,
     unmarked: bool,
     phase: Phase,
@@ -318,7 +340,7 @@ fn mark_given(
 {
     match phase {
         Phase::Changing => {
-            set_mark(execution, due, object, true);
+            set_mark(execution, near, due, object, true);
             false
         }
         Phase::Starting => unmarked,
@@ -329,13 +351,13 @@ fn mark_given(
     }
 }
 
-// Takes out the content of an object that is held.
-fn take_out(execution: &mut Execution, object: ObjectId) -> Content
+// Takes out the content of an object that is held. Its row is looked for at this place first.
+fn take_out(execution: &mut Execution, near: usize, object: ObjectId) -> Content
     requires { is_some (held_by execution.old object.0) ≡ true }
     ensures content { held_by execution.old object.0 ≡ Some result }
     ensures rows { execution.new ≡ record execution.old { rows = with_content object.0 None execution.old.rows } }
 {
-    match execution.surrender(object) {
+    match execution.surrender(near, object) {
         Some(content) => content,
         None => unreachable!(),
     }
@@ -375,11 +397,14 @@ fn settle(due: &mut Vec<bool>, unmarked: bool, phase: Phase) -> bool
     }
 }
 
-// So many marks, all of which are set. The error is want of memory.
-fn all_due(alloc: Global, count: usize) -> Result<Vec<bool>, Memory>
+// So many marks, all of which are set, in a vector that may have been used. The error is want of
+// memory.
+fn all_due(used: Vec<bool>, count: usize) -> Result<Vec<bool>, Memory>
     ensures { IfOk result (λ due. due.items ≡ replicate count true) }
 {
-    Ok(Vec::from_elem(alloc, true, count)?)
+    let mut due = emptied(used, count);
+    due.resize(count, true)?;
+    Ok(due)
 }
 
 // Whether a right is immediate.
@@ -484,6 +509,7 @@ fn begun<'c>(execution: Execution<'c>, due: Vec<bool>) -> Machine<'c>
         unmarked: false,
         phase: Phase::Starting,
         from: START,
+        near: NOWHERE,
         part,
         ask: None,
         asks: 0,
@@ -513,7 +539,7 @@ impl<'c> Machine<'c> {
         begins_its_talk();
         code.keeps_rules();
         let execution = Execution::root(alloc, code, numbers, limit)?;
-        let due = all_due(alloc, execution.rows())?;
+        let due = all_due(Vec::new(alloc), execution.rows())?;
         Ok(begun(execution, due))
     }
 
@@ -573,8 +599,9 @@ impl<'c> Machine<'c> {
             × ((vs : List ℤ) → rest_of self.new.at vs ≡ rest_of self.old.at vs)) }
     {
         match next_ask(&self.execution, self.due.as_slice(), self.phase, self.from) {
-            Some(ask) => {
+            Some((ask, near)) => {
                 self.from = reached(ask, self.from);
+                self.near = near;
                 self.touched = 0;
                 self.ask = Some(ask);
                 self.asks = self.asks.wrapping_add(1);
@@ -602,7 +629,8 @@ impl<'c> Machine<'c> {
         self.from = START;
         let pause = run(&mut self.execution, alloc)?;
         self.phase = phase_of(pause);
-        let ask = pause_ask(&self.execution, self.due.as_slice(), pause);
+        let (ask, near) = pause_ask(&self.execution, self.due.as_slice(), pause);
+        self.near = near;
         self.touched = self.execution.events().wrapping_sub(before);
         self.ask = Some(ask);
         self.asks = self.asks.wrapping_add(1);
@@ -615,8 +643,8 @@ impl<'c> Machine<'c> {
         ensures supplied { self.new ≡ record self.old { at = supplied object.0 content self.old.at; ask = None } }
         ensures held { HeldWith object.0 (Some content) self.old.at self.new.at }
     {
-        set_mark(&self.execution, &mut self.due, object, false);
-        self.execution.supply(object, content);
+        let place = set_mark(&self.execution, self.near, &mut self.due, object, false);
+        self.execution.supply(place, object, content);
         self.from = below(self.from, object);
         self.ask = None;
     }
@@ -631,6 +659,7 @@ impl<'c> Machine<'c> {
     {
         self.unmarked = mark_given(
             &self.execution,
+            self.near,
             &mut self.due,
             self.unmarked,
             self.phase,
@@ -638,7 +667,7 @@ impl<'c> Machine<'c> {
         );
         self.from = below(self.from, object);
         self.ask = None;
-        take_out(&mut self.execution, object)
+        take_out(&mut self.execution, self.near, object)
     }
 
     /// Takes a content back that was surrendered and found no taker: all is as before. It takes no
@@ -647,15 +676,15 @@ impl<'c> Machine<'c> {
         requires { (before : Asking) × IsSurrendered object content before self.old }
         ensures { (before : Asking) → IsSurrendered object content before self.old → self.new ≡ before }
     {
-        set_mark(&self.execution, &mut self.due, object, false);
-        self.execution.supply(object, content);
+        let place = set_mark(&self.execution, self.near, &mut self.due, object, false);
+        self.execution.supply(place, object, content);
         self.from = below(self.from, object);
         self.ask = Some(Ask::GiveBack(object));
     }
 
-    /// The child that is asked for, at its begin; the task is in a new part then. The error is want
-    /// of memory, and changes nothing.
-    pub fn child(&mut self, alloc: Global) -> Result<Machine<'c>, Memory>
+    /// The child that is asked for, at its begin; the task is in a new part then. The child's vectors
+    /// are those of the room. The error is want of memory, and changes nothing but the room.
+    pub fn child(&mut self, alloc: Global, room: &mut MachineRoom) -> Result<Machine<'c>, Memory>
         requires { self.old.ask ≡ Some Ask.Create }
         ensures begins { IfOk result (λ child. BeginsAs (child_task (number_of self.old.at.phase) self.old.at.execution) child) }
         ensures objects { IfOk result (λ child. child.at.execution.stage.objects ≡ self.old.at.execution.stage.objects) }
@@ -666,13 +695,18 @@ impl<'c> Machine<'c> {
         begins_its_talk();
         let number = number_of(self.phase);
         self.execution.creates(number);
-        let due = all_due(alloc, self.execution.child_spec().len())?;
-        let execution = self.execution.child(alloc, number)?;
+        let due = all_due(room.take_due(alloc), self.execution.child_spec().len())?;
+        let execution = self.execution.child(alloc, number, room)?;
         self.part = self.execution.steps_left();
         self.phase = Phase::Going;
         self.ask = None;
         self.children = self.children.wrapping_add(1);
         Ok(begun(execution, due))
+    }
+
+    /// The room that it leaves: its vectors, for the child of another.
+    pub fn into_room(self) -> MachineRoom {
+        self.execution.into_room(self.due)
     }
 
     /// The rights have changed as its section has made them; what was given up for that, and what

@@ -232,36 +232,43 @@ fn place_from(execution: &Execution, phase: Phase, from: ObjectId) -> usize
     high
 }
 
-// The first of these objects from one on that is to be taken or given up, where none is below it.
+// The first of these objects from one on that is to be taken or given up, where none is below it,
+// with its place among them.
 #[inline(always)]
-fn search(execution: &Execution, due: &[bool], phase: Phase, from: ObjectId) -> Option<ObjectId>
+fn search(
+    execution: &Execution,
+    due: &[bool],
+    phase: Phase,
+    from: ObjectId,
+) -> Option<(ObjectId, usize)>
     requires { IsNone (is_to_move phase execution.now due.now) from.0 }
-    ensures found { IfSome result (λ object.
-        IsLeast (is_to_move phase execution.now due.now) execution.now.stage.objects object.0) }
+    ensures found { IfSome result (λ next.
+        IsLeast (is_to_move phase execution.now due.now) execution.now.stage.objects next.0.0) }
     ensures none { IfNone result (IsNone (is_to_move phase execution.now due.now) execution.now.stage.objects) }
 {
     let first = place_from(execution, phase, from);
     'objects: for place in first..count(execution, phase) {
         let object = candidate(execution, phase, place);
         if moves(execution, due, phase, place, object) {
-            return Some(object);
+            return Some((object, place));
         }
     }
     None
 }
 
 /// The same as `next_object`, where nothing is to be taken or given up below an object: what stands
-/// below it is not looked at. There is a search for each phase, so that none asks at each object
-/// which phase it is. It takes no memory.
+/// below it is not looked at. With it comes a place at which its row may be found: where it is given
+/// up for a child, that is the place of the child's entry. There is a search for each phase, so that
+/// none asks at each object which phase it is. It takes no memory.
 pub(crate) fn next_from(
     execution: &Execution,
     due: &[bool],
     phase: Phase,
     from: ObjectId,
-) -> Option<ObjectId>
+) -> Option<(ObjectId, usize)>
     requires { IsNone (is_to_move phase execution.now due.now) from.0 }
-    ensures found { IfSome result (λ object.
-        IsLeast (is_to_move phase execution.now due.now) execution.now.stage.objects object.0) }
+    ensures found { IfSome result (λ next.
+        IsLeast (is_to_move phase execution.now due.now) execution.now.stage.objects next.0.0) }
     ensures none { IfNone result (IsNone (is_to_move phase execution.now due.now) execution.now.stage.objects) }
 {
     match phase {
@@ -283,5 +290,8 @@ pub fn next_object(execution: &Execution, due: &[bool], phase: Phase) -> Option<
         IsLeast (is_to_move phase execution.now due.now) execution.now.stage.objects object.0) }
     ensures none { IfNone result (IsNone (is_to_move phase execution.now due.now) execution.now.stage.objects) }
 {
-    next_from(execution, due, phase, ObjectId(0))
+    match next_from(execution, due, phase, ObjectId(0)) {
+        Some((object, _)) => Some(object),
+        None => None,
+    }
 }

@@ -118,7 +118,7 @@ pub fn open(own: &mut Own)
     ensures kept { KeepsRights own.old own.new }
     ensures draft { draft_of own.new ≡ Building (replicate own.old.objects no_rights) }
 {
-    own.child = Spec::empty(own.alloc);
+    own.child.clear();
     own.section = Section::Building;
 }
 
@@ -258,6 +258,16 @@ pub fn end_section(own: &mut Own) -> Spec
     ensures made { result ≡ own.old.child }
     ensures ended { own.new ≡ record own.old { child = settled []; section = Section.Absent } }
 {
+    let next = Spec::empty(own.alloc);
+    end_section_for(own, next)
+}
+
+/// The same, where the next one makes its specification in this one, which has no entries.
+pub(crate) fn end_section_for(own: &mut Own, next: Spec) -> Spec
+    requires { next ≡ settled [] }
+    ensures made { result ≡ own.old.child }
+    ensures ended { own.new ≡ record own.old { child = settled []; section = Section.Absent } }
+{
     own.section = Section::Absent;
-    mem::replace(&mut own.child, Spec::empty(own.alloc))
+    mem::replace(&mut own.child, next)
 }

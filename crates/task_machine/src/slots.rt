@@ -5,16 +5,18 @@ ghost use Rattle.code_meaning.specs.Meaning.{given_slots, passed};
 ghost use Rattle.task_machine.specs.Stages.{slots_of};
 
 use crate::frame::{Frame, worth};
+use crate::room::emptied;
 use code_meaning::code::Operand;
 use jade_base::Memory;
-use std::alloc::Global;
 
-/// So many slots, which all hold 0. The error is want of memory.
-pub(crate) fn empty_slots(alloc: Global, count: u32) -> Result<Vec<i64>, Memory>
+/// So many slots, which all hold 0, in a vector that may have been used. The error is want of memory.
+pub(crate) fn empty_slots(used: Vec<i64>, count: u32) -> Result<Vec<i64>, Memory>
     ensures empty { IfOk result (λ slots. slots_of slots.items ≡ given_slots []) }
     ensures long { IfOk result (λ slots. length slots.items ≡ count) }
 {
-    Ok(Vec::from_elem(alloc, 0, count as usize)?)
+    let mut slots = emptied(used, count as usize);
+    slots.resize(count as usize, 0)?;
+    Ok(slots)
 }
 
 // The number at a place, or 0 where there is none.

@@ -28,7 +28,8 @@ use Rattle.task_machine.specs.Asks.{Asking, BeginsAs, Goes, stays, plays, GoesTo
 use Rattle.task_machine.specs.Asks.{left_from, enters_from, shifts_from, leaves_from}
 use Rattle.task_machine.specs.Asks.{follows, number_of, created, changed}
 use Rattle.task_suspend.specs.Ties.{Tied, to_go}
-use Rattle.task_suspend.specs.Tries.{ending, place_of}
+use Rattle.task_suspend.specs.Asked.{ending, is_over}
+use Rattle.task_suspend.specs.Tries.{place_of}
 use Rattle.task_suspend.proofs.Walking.{next_is, moved_on, child_is, child_to_do}
 use Rattle.object_table.proofs.Touching.{passed_same}
 use Rattle.object_table.proofs.Passing.{passed_done}
@@ -48,6 +49,11 @@ pub ends_so : (fault : Option Blame) (m : Machine) (n : ℕ) (vs : List ℤ)
     → left_from n (Some (ending fault)) m vs ≡ leaves_from n (rights_at m.execution.stage) ++ Resign fault (steps_at m) ∷ []
 ends_so None m n vs = refl
 ends_so (Some b) m n vs = refl
+
+-- where it is told that no event is left
+pub none_left : (es : List Event) → is_over es ≡ true → es ≡ []
+none_left [] over = refl
+none_left (e ∷ es) over = absurd (cc)
 
 -- the event by which an entry follows new rights is one at its object
 pub follows_at : (roll o : ℕ) (r : Rights) → o ≡ place_of roll (follows o r)

@@ -1,5 +1,7 @@
 -- What the ask that stands is for.
 use Rattle.std.specs.Prelude.{ℕ, Bool, true, false, ◌&&◌, List, [], ◌∷◌, Option, Some, None, nat_eq}
+use Rattle.jade_base.specs.declared.report.Blame.{Blame}
+use Rattle.jade_meaning.specs.Talk.{Event}
 use Rattle.task_machine.specs.declared.machine.Ask.{Ask}
 use Rattle.task_machine.specs.declared.machine.Ask.TheVariants as ask
 use Rattle.task_suspend.specs.declared.modes.Modes.{Modes}
@@ -27,3 +29,13 @@ is_take_of n (ask.Fault b) = false
 abbrev pub asks : (Ask → Bool) → Option Ask → Bool
 asks f None = false
 asks f (Some a) = f a
+
+-- the ask of a task that ends, with this fault, if with one
+abbrev pub ending : Option Blame → Ask
+ending None = ask.End
+ending (Some b) = ask.Fault b
+
+-- no event is left
+abbrev pub is_over : List Event → Bool
+is_over [] = true
+is_over (e ∷ es) = false

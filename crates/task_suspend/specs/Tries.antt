@@ -11,12 +11,13 @@ use Rattle.object_table.specs.Views.{View, count_of}
 use Rattle.object_table.specs.Touches.{put_held}
 use Rattle.object_table.specs.Touches.{passed as past_touches}
 use Rattle.object_table.specs.Plays.{without_kid, kid_view}
-use Rattle.object_table.specs.Calls.{Pass, Next, Took, KeptBy, found_busy, Did, Bore, Ended}
+use Rattle.object_table.specs.Calls.{Pass, Next, Took, KeptBy, found_busy, Did, Bore, Ended, Retired}
 use Rattle.task_machine.specs.declared.machine.Ask.{Ask}
 use Rattle.task_machine.specs.declared.machine.Ask.TheVariants as ask
 use Rattle.task_machine.specs.Stages.{rights_at}
 use Rattle.task_machine.specs.Machines.{made_at, amended_at, steps_at, child_task, supplied, surrendered}
 use Rattle.task_machine.specs.Asks.{Asking, BeginsAs, GoesTo, enters_from, shifts_from, leaves_from, follows, number_of, created, changed}
+use Rattle.task_suspend.specs.Asked.{ending}
 use Rattle.task_suspend.specs.declared.name.RunName.{Ghosts}
 use Rattle.task_suspend.specs.declared.capsule.Capsule.{Capsule}
 use Rattle.task_suspend.specs.declared.went.Went.{Went}
@@ -49,11 +50,6 @@ changes_from n a = shifts_from n (rights_at a.machine.at.execution.stage) (amend
 
 abbrev pub departures_from : ℕ → Carried → List Event
 departures_from n a = leaves_from n (rights_at a.machine.at.execution.stage)
-
--- the ask of a task that ends, with this fault, if with one
-abbrev pub ending : Option Blame → Ask
-ending None = ask.End
-ending (Some b) = ask.Fault b
 
 -- the place of the roll, behind those of the objects
 abbrev pub roll_of : Carried → ℕ
@@ -184,12 +180,19 @@ pub record Departs (o : ℕ) (a b : Carried) : Type 0 where
   pub did : Did o a.pass.shows.held a.pass.shows b.pass.shows
   pub further : Further o a b
 
--- The task was to end, all of its entries have left, and it has ended.
-pub record Resigns (a : Carried) (p : Pass) : Type 0 where
-  pub fault : Option Blame
+-- The task was to end, with this fault, if with one, and all of its entries have left: nothing is done.
+pub record HasDeparted (fault : Option Blame) (a b : Carried) : Type 0 where
   pub asked : a.machine.ask ≡ Some (ending fault)
   pub left : departures_from a.from a ≡ []
+  pub same : b ≡ a
+
+-- A task whose entries have all left has ended: this is its pass.
+pub record Resigns (fault : Option Blame) (a : Carried) (p : Pass) : Type 0 where
   pub ended : Ended fault (steps_at a.machine.at) a.pass.shows p.shows
+
+-- The same, and its pass was taken into another.
+pub record Retires (fault : Option Blame) (a : Carried) (kept after : Pass) : Type 0 where
+  pub retired : Retired fault (steps_at a.machine.at) a.pass.shows kept.shows after.shows
 
 -- An event of the ask comes next, and this try read at its place that the word is taken: nothing is done.
 pub record FindsTaken (a b : Carried) : Type 0 where
@@ -220,4 +223,4 @@ WentAs a (went.Busy b) = FindsTaken (carried a) (carried b)
 WentAs a (went.Waits w) = Waits w.place.object (carried a) (carried w.capsule)
 WentAs a (went.Freed p b) = Frees p.object (carried a) (carried b)
 WentAs a (went.Parted b c) = Parts (carried a) (carried b) (carried c)
-WentAs a (went.Ended r) = Resigns (carried a) r.task.value.pass
+WentAs a (went.Departed d) = HasDeparted d.blame (carried a) (carried d.capsule)

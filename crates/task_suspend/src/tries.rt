@@ -1,19 +1,21 @@
 //! One try at what a task asks for.
 
-ghost use Rattle.std.specs.Prelude.{◌≡◌, ◌<◌, ◌∷◌, ◌+◌, [], true, false, Some, None, IfOk};
+ghost use Rattle.std.specs.Prelude.{◌≡◌, ◌<◌, ◌∷◌, ◌+◌, [], true, false, Some, None, IfOk, OnErr, OnOk};
 ghost use Rattle.jade_base.specs.Rights.{has_rights};
 ghost use Rattle.jade_meaning.specs.Talk.{Enter, Shift, Leave};
 ghost use Rattle.object_table.specs.Views.{count_of};
-ghost use Rattle.object_table.specs.Calls.{Next, TriedAs};
+ghost use Rattle.object_table.specs.Calls.{IsGone, Next, TriedAs};
 ghost use Rattle.task_machine.specs.Stages.{rights_at};
 ghost use Rattle.task_machine.specs.Machines.{made_at, amended_at};
 ghost use Rattle.task_machine.specs.Asks.{enters_from, shifts_from, leaves_from, follows};
 ghost use Rattle.task_suspend.specs.Waits.{waits_for};
-ghost use Rattle.task_suspend.specs.Tries.{Advances, IsAtAsk, WentAs, carried, ending};
+ghost use Rattle.task_suspend.specs.Asked.{ending};
+ghost use Rattle.task_suspend.specs.Tries.{Advances, IsAtAsk, Resigns, Retires, WentAs, carried};
 
 use crate::capsule::{Capsule, Running, boxed};
 use crate::name::RunName;
-use crate::went::{Place, Resigned, Waiter, Went};
+use crate::remains::Remains;
+use crate::went::{Departed, Place, Resigned, Waiter, Went};
 use jade_base::{Blame, Memory, Mode, ObjectId, Rights};
 use object_table::{ObjectTable, Taken, TaskPass, Tried};
 use std::alloc::Global;
@@ -36,7 +38,7 @@ pub fn attempt<'c, N: RunName>(
             let (capsule, _) = go_on(alloc, capsule)?;
             Ok(Went::Ready(capsule))
         }
-        Some(ask) => try_ask(alloc, table, capsule, ask),
+        Some(ask) => try_ask(alloc, table, capsule, ask, &mut Remains::none(alloc)),
     }
 }
 
@@ -57,14 +59,15 @@ pub fn to_ask<'c, N: RunName>(
 }
 
 /// One try at the ask that stands, on the objects of the task's run: one event of it is tried. What is
-/// done then, or why nothing is, the answer says. The error is want of memory, after which the run can't
-/// go on.
+/// done then, or why nothing is, the answer says. A child that is created uses what the last task that ended
+/// left. The error is want of memory, after which the run can't go on.
 #[inline(always)]
 pub fn try_ask<'c, N: RunName>(
     alloc: Global,
     table: &ObjectTable,
     capsule: Capsule<'c, N>,
     ask: Ask,
+    remains: &mut Remains,
 ) -> Result<Went<'c, N>, Memory>
     requires table { (table.now.mark ≡ N.mark) × (table.now.plan ≡ N.plan) }
     requires asked { capsule.task.value.machine.ask ≡ Some ask }
@@ -73,7 +76,7 @@ pub fn try_ask<'c, N: RunName>(
     match ask {
         Ask::Take(object, mode) => take(alloc, table, capsule, object, mode),
         Ask::GiveBack(object) => give_back(table, capsule, object),
-        Ask::Create => create(alloc, table, capsule),
+        Ask::Create => create(alloc, table, capsule, remains),
         Ask::Change => change(table, capsule),
         Ask::End => end(table, capsule, None),
         Ask::Fault(blame) => end(table, capsule, Some(blame)),
@@ -202,6 +205,7 @@ fn create<'c, N: RunName>(
     alloc: Global,
     table: &ObjectTable,
     capsule: Capsule<'c, N>,
+    remains: &mut Remains,
 ) -> Result<Went<'c, N>, Memory>
     requires table { (table.now.mark ≡ N.mark) × (table.now.plan ≡ N.plan) }
     requires asked { capsule.task.value.machine.ask ≡ Some Ask.Create }
@@ -210,7 +214,7 @@ fn create<'c, N: RunName>(
     let task = &*capsule.task;
     match task.machine.next_enter(ObjectId(task.from)) {
         Some((object, rights)) => enter(alloc, table, capsule, object, rights),
-        None => enroll(alloc, table, capsule),
+        None => enroll(alloc, table, capsule, remains),
     }
 }
 
@@ -247,6 +251,7 @@ fn enroll<'c, N: RunName>(
     alloc: Global,
     table: &ObjectTable,
     mut capsule: Capsule<'c, N>,
+    remains: &mut Remains,
 ) -> Result<Went<'c, N>, Memory>
     requires table { (table.now.mark ≡ N.mark) × (table.now.plan ≡ N.plan) }
     requires asked { capsule.task.value.machine.ask ≡ Some Ask.Create }
@@ -258,8 +263,8 @@ fn enroll<'c, N: RunName>(
     let steps = task.machine.steps();
     match table.enroll(alloc, &mut task.pass, steps)? {
         Tried::Done => {
-            let young = table.split(alloc, &mut task.pass)?;
-            let machine = task.machine.child(alloc)?;
+            let young = table.split(alloc, &mut task.pass, &mut remains.pass)?;
+            let machine = task.machine.child(alloc, &mut remains.machine)?;
             let running = Running {
                 pass: young,
                 machine,
@@ -345,7 +350,7 @@ fn follow<'c, N: RunName>(
     }
 }
 
-// The task ends: its entries leave one after another, and then it resigns.
+// The task ends: its entries leave one after another, and then it is left to resign.
 fn end<'c, N: RunName>(
     table: &ObjectTable,
     capsule: Capsule<'c, N>,
@@ -358,7 +363,7 @@ fn end<'c, N: RunName>(
     let task = &*capsule.task;
     match task.machine.next_leave(ObjectId(task.from)) {
         Some(object) => leave(table, capsule, blame, object),
-        None => resign(table, capsule, blame),
+        None => Ok(Went::Departed(Departed { capsule, blame })),
     }
 }
 
@@ -389,22 +394,37 @@ fn leave<'c, N: RunName>(
     }
 }
 
-// All entries have left: the task resigns.
-fn resign<'c, N: RunName>(
-    table: &ObjectTable,
-    mut capsule: Capsule<'c, N>,
-    blame: Option<Blame>,
-) -> Result<Went<'c, N>, Memory>
-    requires table { (table.now.mark ≡ N.mark) × (table.now.plan ≡ N.plan) }
-    requires asked { capsule.task.value.machine.ask ≡ Some (ending blame) }
-    requires over { leaves_from capsule.task.value.from (rights_at capsule.task.value.machine.at.execution.stage) ≡ [] }
-    ensures { IfOk result (λ went. WentAs capsule.entry went) }
+/// A task whose entries have all left resigns. It does not fail for want of memory.
+pub fn resign<'c, N: RunName>(table: &ObjectTable, departed: Departed<'c, N>) -> Resigned<'c, N>
+    requires { (table.now.mark ≡ N.mark) × (table.now.plan ≡ N.plan) }
+    ensures { Resigns departed.entry.blame (carried departed.entry.capsule) result.task.value.pass }
 {
+    let Departed { mut capsule, blame } = departed;
     let task = &mut *capsule.task;
     let steps = task.machine.steps();
     table.resign(&mut task.pass, blame, steps);
-    Ok(Went::Ended(Resigned {
+    Resigned {
         task: capsule.task,
         name: capsule.name,
-    }))
+    }
+}
+
+/// A task whose entries have all left resigns, and its pass is taken into one that has resigned; what
+/// else it had remains for another. It does not fail for want of memory.
+pub fn retire<'c, N: RunName>(
+    table: &ObjectTable,
+    keeper: &mut TaskPass,
+    departed: Departed<'c, N>,
+    remains: &mut Remains,
+)
+    requires table { (table.now.mark ≡ N.mark) × (table.now.plan ≡ N.plan) }
+    requires keeper { (keeper.old.mark ≡ N.mark) × IsGone keeper.old.shows }
+    ensures mark { keeper.new.mark ≡ keeper.old.mark }
+    ensures done { Retires departed.entry.blame (carried departed.entry.capsule) keeper.old keeper.new }
+{
+    let Departed { capsule, blame } = departed;
+    let steps = capsule.task.machine.steps();
+    let Running { pass, machine, .. } = Box::into_inner(capsule.task);
+    table.retire(keeper, pass, blame, steps, &mut remains.pass);
+    remains.machine = machine.into_room();
 }

@@ -8,7 +8,7 @@ use jade_base::{Memory, ObjectId};
 use object_table::ObjectTable;
 use std::alloc::Global;
 use std::sync::Wait;
-use task_suspend::{Capsule, Resigned, Rooms, RunName, Waiter, Went};
+use task_suspend::{Capsule, Departed, Resigned, Rooms, RunName, Waiter, Went, resign};
 
 /// What came of a try.
 #[derive(Clone, Copy)]
@@ -124,7 +124,7 @@ impl<'c, N: RunName> Tasks<'c, N> {
             Ok(Went::Waits(waiter)) => self.wait(rt, waiter),
             Ok(Went::Freed(place, task)) => self.keep(task, Answer::Freed(place.object)),
             Ok(Went::Parted(parent, child)) => self.part(parent, child),
-            Ok(Went::Ended(resigned)) => Ok(self.end(table, resigned)),
+            Ok(Went::Departed(departed)) => Ok(self.end(table, departed)),
             Err(_) => Err(Stop::Failed),
         }
     }
@@ -177,10 +177,11 @@ impl<'c, N: RunName> Tasks<'c, N> {
         Ok(Answer::Parted)
     }
 
-    /// Keeps the pass of a task that has ended, and hands in what it has.
-    fn end(&mut self, table: &ObjectTable, resigned: Resigned<'c, N>) -> Answer
+    /// A task that is to end resigns; its pass is kept, and what it has is handed in.
+    fn end(&mut self, table: &ObjectTable, departed: Departed<'c, N>) -> Answer
         requires { (table.now.mark ≡ N.mark) × (table.now.plan ≡ N.plan) }
     {
+        let resigned = resign(table, departed);
         let kept = match self.last.take() {
             Some(kept) => merged(table, kept, resigned),
             None => resigned,

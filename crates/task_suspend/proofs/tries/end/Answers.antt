@@ -11,12 +11,3 @@ leave-requires-clause-inside g c = rw c.deref-task.ensures at c.in-Some.ensures.
 
 pub leave-requires-clause-entry : goal.leave-requires-clause-entry
 leave-requires-clause-entry g c = rw c.deref-task.ensures at c.in-Some.ensures.leaves
-
-pub resign-requires-clause-table : goal.resign-requires-clause-table
-resign-requires-clause-table g c = c.requires.table
-
-pub resign-requires-clause-asked : goal.resign-requires-clause-asked
-resign-requires-clause-asked g c = c.requires.asked
-
-pub resign-requires-clause-over : goal.resign-requires-clause-over
-resign-requires-clause-over g c = rw c.deref-task.ensures at c.in-None.ensures.none

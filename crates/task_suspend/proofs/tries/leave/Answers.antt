@@ -4,7 +4,8 @@ use Rattle.object_table.specs.Views.{count_of}
 use Rattle.task_suspend.proofs.Tying.{inside, ends_so, last_next, left_last, busy}
 use Rattle.task_suspend.proofs.Trying.{numbered, tried_done, tried_busy}
 use Rattle.jade_meaning.specs.Talk.{Leave}
-use Rattle.task_suspend.specs.Tries.{ending, departs}
+use Rattle.task_suspend.specs.Asked.{ending}
+use Rattle.task_suspend.specs.Tries.{departs}
 use Rattle.task_suspend.proofs.tries.leave.Goals as goal
 
 pub leave-requires-clause-mark : goal.leave-requires-clause-mark

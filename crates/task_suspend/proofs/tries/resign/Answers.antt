@@ -1,39 +1,34 @@
 use Rattle.std.proofs.Common.{ℕ, Some, sym, ◌∙◌, subst}
-use Rattle.task_suspend.proofs.Tying.{resign_next, ends_so, gone}
+use Rattle.task_suspend.proofs.Tying.{resign_next, ends_so, gone, none_left}
 use Rattle.object_table.specs.Calls.{Ended}
-use Rattle.task_suspend.specs.Tries.{ending}
+use Rattle.task_suspend.specs.Asked.{ending}
 use Rattle.task_suspend.proofs.tries.resign.Goals as goal
 
 pub resign-requires-clause-mark : goal.resign-requires-clause-mark
-resign-requires-clause-mark g c = (rw (← c.deref_mut-task.ensures.value) at c.args.capsule.tied).table ∙ sym c.requires.table.0
+resign-requires-clause-mark g c = (rw (← c.deref_mut-task.ensures.value) at c.args.departed.capsule.tied).table ∙ sym c.requires.0
 
 pub resign-requires-clause-next : goal.resign-requires-clause-next
 resign-requires-clause-next g c =
     let x = c.deref_mut-task.result.now in
-    let tied = rw (← c.deref_mut-task.ensures.value) at c.args.capsule.tied in
-    let was_asked = rw (← c.deref_mut-task.ensures.value) at c.requires.asked in
-    let was_over = rw (← c.deref_mut-task.ensures.value) at c.requires.over in
-    resign_next g.N.RunName.mark g.N.RunName.plan x.pass x.machine x.from x.events tied c.args.blame (Some (ending c.args.blame)) was_asked
-    (ends_so c.args.blame x.machine.at) c.steps-steps.result c.steps-steps.ensures was_over
+    let tied = rw (← c.deref_mut-task.ensures.value) at c.args.departed.capsule.tied in
+    let was_asked = rw (← c.deref_mut-task.ensures.value) at c.args.departed.asked in
+    let was_over = none_left _ (rw (← c.deref_mut-task.ensures.value) at c.args.departed.over) in
+    let blame = c.args.departed.blame in
+    resign_next g.N.RunName.mark g.N.RunName.plan x.pass x.machine x.from x.events tied blame (Some (ending blame)) was_asked
+    (ends_so blame x.machine.at) c.steps-steps.result c.steps-steps.ensures was_over
 
 pub invariant_of-result : goal.invariant_of-result
 invariant_of-result g c =
     let x = c.deref_mut-task.result.now in
-    let tied = rw (← c.deref_mut-task.ensures.value) at c.args.capsule.tied in
+    let tied = rw (← c.deref_mut-task.ensures.value) at c.args.departed.capsule.tied in
     record {
-      of = gone g.N.RunName.mark g.N.RunName.plan x.pass x.machine x.from x.events tied c.steps-steps.result c.args.blame c.resign.new.pass
+      of = gone g.N.RunName.mark g.N.RunName.plan x.pass x.machine x.from x.events tied c.steps-steps.result c.args.departed.blame c.resign.new.pass
           c.resign.ensures.mark c.resign.ensures.done;
     }
 
 pub returns : goal.returns
 returns g c =
     let x = c.deref_mut-task.result.now in
-    let was_asked = rw (← c.deref_mut-task.ensures.value) at c.requires.asked in
-    let was_over = rw (← c.deref_mut-task.ensures.value) at c.requires.over in
-    let S : ℕ → Type 0 = λ n. Ended c.args.blame n x.pass.shows c.resign.new.pass.shows in
-    rw (← c.deref_mut-task.ensures.value) (record {
-      fault = c.args.blame;
-      asked = was_asked;
-      left = was_over;
-      ended = subst S c.steps-steps.ensures c.resign.ensures.done;
-    })
+    let blame = c.args.departed.blame in
+    let S : ℕ → Type 0 = λ n. Ended blame n x.pass.shows c.resign.new.pass.shows in
+    rw (← c.deref_mut-task.ensures.value) (record { ended = subst S c.steps-steps.ensures c.resign.ensures.done })

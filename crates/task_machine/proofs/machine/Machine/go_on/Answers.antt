@@ -52,7 +52,7 @@ invariant_of-self-2 c =
     let runs = subst (λ (a : Asking). RunsOn a.at.phase a.at.execution a.at.due) (sym c.self.view_is) c.requires.runs in
     let slice = c.as_slice.ensures.value ∙ c.settle-self-inside.ensures.marks in
     let asked =
-    subst (λ (ds : List Bool). Asked c.pause_ask-ask.result (phase_of q) (machine f ds (phase_of q) m.part)) slice
+    subst (λ (ds : List Bool). Asked c.pause_ask-ask.result.0 (phase_of q) (machine f ds (phase_of q) m.part)) slice
     (c.pause_ask-ask.ensures m.part
     (subst (λ (ds : List Bool). IsOrdered (machine f ds (phase_of q) m.part)) (sym slice)
     (good1 e f ds m.phase m.part q x event kept.order kept.knows runs))
@@ -61,7 +61,7 @@ invariant_of-self-2 c =
     (rows1 e f ds m.phase m.part q x event kept.order kept.knows runs kept.rows)) in
     record {
       kept =
-          went_kept e f ds m.phase m.part q x event kept.order kept.knows runs m.ask c.pause_ask-ask.result m.asks _ m.children m.touched _ kept asked
+          went_kept e f ds m.phase m.part q x event kept.order kept.knows runs m.ask c.pause_ask-ask.result.0 m.asks _ m.children m.touched _ kept asked
           c.settle-self-inside.new.due.items c.phase_of-self-inside.result c.settle-self-inside.ensures.marks c.phase_of-self-inside.ensures;
       done = none_below _ 0 refl;
       unset = c.settle-self-inside.ensures.unset;
@@ -75,7 +75,7 @@ returns-clause-goes c =
     let kept = c.self.invariant.kept in
     let runs = subst (λ (a : Asking). RunsOn a.at.phase a.at.execution a.at.due) (sym c.self.view_is) c.requires.runs in
     let counted = ap₂ (λ (y z : ℕ). (y + (2 ^ 64 - z)) % 2 ^ 64) c.events.ensures c.events-before.ensures in
-    let ask = Some c.pause_ask-ask.result in
+    let ask = Some c.pause_ask-ask.result.0 in
     let asks = (m.asks + 1) % 2 ^ 64 in
     let touched = (c.events.result + (2 ^ 64 - c.events-before.result)) % 2 ^ 64 in
     let marks = c.settle-self-inside.new.due.items in

@@ -13,11 +13,11 @@ invariant_of-self c =
     record {
       kept =
           supply_kept m.execution m.due.items m.phase m.part m.ask m.asks m.children m.touched c.args.object c.args.content _ _
-          c.self.invariant.kept (ap (λ (a : Asking). a.ask) c.self.view_is ∙ c.requires) c.set_mark.ensures c.supply.ensures;
+          c.self.invariant.kept (ap (λ (a : Asking). a.ask) c.self.view_is ∙ c.requires) c.set_mark-place.ensures c.supply.ensures;
       done =
           done_marked m.execution c.args.object.0 (Some c.args.content) false m.due.items m.phase _ _ m.from.0 _ c.supply.ensures
-          c.set_mark.ensures c.below-self-inside.ensures.0 c.below-self-inside.ensures.1 c.self.invariant.done;
-      unset = still_unmarked c.args.object.0 m.execution.rows m.due.items _ m.unmarked c.set_mark.ensures c.self.invariant.unset;
+          c.set_mark-place.ensures c.below-self-inside.ensures.0 c.below-self-inside.ensures.1 c.self.invariant.done;
+      unset = still_unmarked c.args.object.0 m.execution.rows m.due.items _ m.unmarked c.set_mark-place.ensures c.self.invariant.unset;
     }
 
 pub returns-clause-held : goal.returns-clause-held

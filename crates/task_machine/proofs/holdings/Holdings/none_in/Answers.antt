@@ -1,7 +1,7 @@
 use Rattle.std.proofs.Common.{◌++◌, [], ◌∷◌, ap, ◌∙◌, arith}
 use Rattle.task_machine.specs.Executions.{without_content}
 use Rattle.task_machine.proofs.Rows.{rows_more, rows_whole}
-use Rattle.task_machine.proofs.holdings.Holdings.none.Goals as goal
+use Rattle.task_machine.proofs.holdings.Holdings.none_in.Goals as goal
 
 pub rows-preserved : goal.rows-preserved
 rows-preserved c =
