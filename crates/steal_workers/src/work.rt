@@ -10,7 +10,10 @@ use crate::settle::{Hand, holds, settle};
 use jade_base::Memory;
 use std::alloc::Global;
 use std::sync::Wait;
-use task_suspend::{Capsule, RunName, Went, to_ask, try_ask};
+use task_machine::Ask;
+use task_suspend::{
+    Capsule, RunName, Went, to_ask, try_change, try_create, try_end, try_give_back, try_take,
+};
 
 /// Works until all is over, or memory is wanting.
 pub(crate) fn work<'c, N: RunName, G: Gate, R: Wait>(
@@ -79,7 +82,13 @@ fn turn<'c, N: RunName, G: Gate, R: Wait>(
     if wish.ends() {
         holds(board, worker, false);
     }
-    let went = try_on(rt, alloc, board, worker, task, wish);
+    let went = match ask {
+        Ask::Take(object, mode) => try_take(alloc, &board.table, task, object, mode),
+        Ask::GiveBack(object) => try_give_back(&board.table, task, object),
+        Ask::Create => create(rt, alloc, board, worker, task),
+        Ask::Change => try_change(&board.table, task),
+        Ask::End | Ask::Fault(_) => end(rt, board, worker, task),
+    };
     match settle(rt, board, worker, went, tries, wish) {
         Ok(next) => next,
         Err(_) => {
@@ -89,26 +98,45 @@ fn turn<'c, N: RunName, G: Gate, R: Wait>(
     }
 }
 
-// One try, and where it makes an entry of a child, or an entry of a task that ends leaves, a try for the
-// next of them at once.
+// A try for each entry of a child and for its enrolment, one after another, up to the first that comes to
+// something else than an entry.
 #[inline(always)]
-fn try_on<'c, N: RunName, R: Wait>(
+fn create<'c, N: RunName, R: Wait>(
     rt: &R,
     alloc: Global,
     board: &Board<'c, N>,
     worker: &mut TaskWorker<'c, N>,
     first: Capsule<'c, N>,
-    wish: Wish,
 ) -> Result<Went<'c, N>, Memory> {
     let mut task = first;
     for _ in rt.forever() {
-        let Some(ask) = task.asked() else {
+        let Some(Ask::Create) = task.asked() else {
             return Ok(Went::Ready(task));
         };
-        match try_ask(alloc, &board.table, task, ask, worker.remains()) {
-            Ok(Went::Ready(entered)) if wish.creates() => task = entered,
-            Ok(Went::Freed(place, left)) if wish.ends() => {
-                freed(rt, board, worker, place.object, wish)?;
+        match try_create(alloc, &board.table, task, worker.remains()) {
+            Ok(Went::Ready(entered)) => task = entered,
+            other => return other,
+        }
+    }
+    Err(Memory)
+}
+
+// A try for each entry of a task that ends, one after another, up to the first by which none leaves.
+#[inline(always)]
+fn end<'c, N: RunName, R: Wait>(
+    rt: &R,
+    board: &Board<'c, N>,
+    worker: &mut TaskWorker<'c, N>,
+    first: Capsule<'c, N>,
+) -> Result<Went<'c, N>, Memory> {
+    let mut task = first;
+    for _ in rt.forever() {
+        if !task.is_ending() {
+            return Ok(Went::Ready(task));
+        }
+        match try_end(&board.table, task) {
+            Ok(Went::Freed(place, left)) => {
+                freed(rt, board, worker, place.object, Wish::End)?;
                 task = left;
             }
             other => return other,

@@ -341,14 +341,11 @@ impl<'c> Execution<'c> {
         ))
     }
 
-    /// The room that it leaves, with these marks in it.
-    pub(crate) fn into_room(self, due: Vec<bool>) -> MachineRoom {
-        MachineRoom {
-            slots: self.frame.slots,
-            rows: self.held.into_rows(),
-            due,
-            spec: self.own.spec.abandon(),
-        }
+    /// Leaves its vectors, but for the marks, and its specification in a room.
+    pub(crate) fn leave_in(self, room: &mut MachineRoom) {
+        room.slots = self.frame.slots;
+        room.rows = self.held.into_rows();
+        room.spec = self.own.spec.abandon();
     }
 
     /// The mode in which an object is held, if it is. It takes no memory.

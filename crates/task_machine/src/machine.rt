@@ -704,9 +704,11 @@ impl<'c> Machine<'c> {
         Ok(begun(execution, due))
     }
 
-    /// The room that it leaves: its vectors, for the child of another.
-    pub fn into_room(self) -> MachineRoom {
-        self.execution.into_room(self.due)
+    /// Leaves its vectors and its specification in a room, for the child of another. What was in the room
+    /// is let go.
+    pub fn leave_in(self, room: &mut MachineRoom) {
+        room.due = self.due;
+        self.execution.leave_in(room);
     }
 
     /// The rights have changed as its section has made them; what was given up for that, and what

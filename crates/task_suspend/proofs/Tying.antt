@@ -28,7 +28,7 @@ use Rattle.task_machine.specs.Asks.{Asking, BeginsAs, Goes, stays, plays, GoesTo
 use Rattle.task_machine.specs.Asks.{left_from, enters_from, shifts_from, leaves_from}
 use Rattle.task_machine.specs.Asks.{follows, number_of, created, changed}
 use Rattle.task_suspend.specs.Ties.{Tied, to_go}
-use Rattle.task_suspend.specs.Asked.{ending, is_over}
+use Rattle.task_suspend.specs.Asked.{asks, ending, is_end, is_over}
 use Rattle.task_suspend.specs.Tries.{place_of}
 use Rattle.task_suspend.proofs.Walking.{next_is, moved_on, child_is, child_to_do}
 use Rattle.object_table.proofs.Touching.{passed_same}
@@ -49,6 +49,16 @@ pub ends_so : (fault : Option Blame) (m : Machine) (n : ℕ) (vs : List ℤ)
     → left_from n (Some (ending fault)) m vs ≡ leaves_from n (rights_at m.execution.stage) ++ Resign fault (steps_at m) ∷ []
 ends_so None m n vs = refl
 ends_so (Some b) m n vs = refl
+
+-- a task that is to end ends with this fault, if with one
+pub ending_of : (y : Option Ask) → asks is_end y ≡ true → (fault : Option Blame) × (y ≡ Some (ending fault))
+ending_of None e = absurd (cc)
+ending_of (Some (ask.Take o m)) e = absurd (cc)
+ending_of (Some (ask.GiveBack o)) e = absurd (cc)
+ending_of (Some ask.Create) e = absurd (cc)
+ending_of (Some ask.Change) e = absurd (cc)
+ending_of (Some ask.End) e = (None, refl)
+ending_of (Some (ask.Fault b)) e = (Some b, refl)
 
 -- where it is told that no event is left
 pub none_left : (es : List Event) → is_over es ≡ true → es ≡ []

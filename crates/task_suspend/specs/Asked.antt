@@ -1,5 +1,5 @@
 -- What the ask that stands is for.
-use Rattle.std.specs.Prelude.{ℕ, Bool, true, false, ◌&&◌, List, [], ◌∷◌, Option, Some, None, nat_eq}
+use Rattle.std.specs.Prelude.{ℕ, Bool, true, false, List, [], ◌∷◌, Option, Some, None, nat_eq}
 use Rattle.jade_base.specs.declared.report.Blame.{Blame}
 use Rattle.jade_meaning.specs.Talk.{Event}
 use Rattle.task_machine.specs.declared.machine.Ask.{Ask}
@@ -29,6 +29,15 @@ is_take_of n (ask.Fault b) = false
 abbrev pub asks : (Ask → Bool) → Option Ask → Bool
 asks f None = false
 asks f (Some a) = f a
+
+-- the task is to end, with a fault or without one
+abbrev pub is_end : Ask → Bool
+is_end (ask.Take o m) = false
+is_end (ask.GiveBack o) = false
+is_end ask.Create = false
+is_end ask.Change = false
+is_end ask.End = true
+is_end (ask.Fault b) = true
 
 -- the ask of a task that ends, with this fault, if with one
 abbrev pub ending : Option Blame → Ask

@@ -1,6 +1,6 @@
 -- What a try comes to: a capsule before it, and what there is after it. Where no ask stands, the task goes on to its next one. Else the next
 -- event of the ask is tried once: it is done, or the word of its place is taken, or another task keeps the object that is asked for.
-use Rattle.std.specs.Prelude.{◌≡◌, ◌+◌, ◌%◌, ◌^◌, ℕ, Bool, false, List, [], ◌∷◌, Option, Some, None}
+use Rattle.std.specs.Prelude.{◌≡◌, ◌+◌, ◌%◌, ◌^◌, ℕ, Bool, true, false, List, [], ◌∷◌, Option, Some, None}
 use Rattle.jade_base.specs.declared.place.ObjectId.{ObjectId}
 use Rattle.jade_base.specs.declared.report.Blame.{Blame}
 use Rattle.jade_base.specs.declared.rights.Mode.{Mode}
@@ -17,7 +17,7 @@ use Rattle.task_machine.specs.declared.machine.Ask.TheVariants as ask
 use Rattle.task_machine.specs.Stages.{rights_at}
 use Rattle.task_machine.specs.Machines.{made_at, amended_at, steps_at, child_task, supplied, surrendered}
 use Rattle.task_machine.specs.Asks.{Asking, BeginsAs, GoesTo, enters_from, shifts_from, leaves_from, follows, number_of, created, changed}
-use Rattle.task_suspend.specs.Asked.{ending}
+use Rattle.task_suspend.specs.Asked.{asks, ending, is_end}
 use Rattle.task_suspend.specs.declared.name.RunName.{Ghosts}
 use Rattle.task_suspend.specs.declared.capsule.Capsule.{Capsule}
 use Rattle.task_suspend.specs.declared.went.Went.{Went}
@@ -174,24 +174,27 @@ pub record Amends (a b : Carried) : Type 0 where
 
 -- The task was to end, and its next entry has left.
 pub record Departs (o : ℕ) (a b : Carried) : Type 0 where
-  pub fault : Option Blame
-  pub asked : a.machine.ask ≡ Some (ending fault)
+  pub asked : asks is_end a.machine.ask ≡ true
   pub next : departures_from a.from a ≡ Leave o ∷ departures_from (o + 1) a
   pub did : Did o a.pass.shows.held a.pass.shows b.pass.shows
   pub further : Further o a b
 
--- The task was to end, with this fault, if with one, and all of its entries have left: nothing is done.
-pub record HasDeparted (fault : Option Blame) (a b : Carried) : Type 0 where
-  pub asked : a.machine.ask ≡ Some (ending fault)
+-- The task was to end, and all of its entries have left: nothing is done.
+pub record HasDeparted (a b : Carried) : Type 0 where
+  pub asked : asks is_end a.machine.ask ≡ true
   pub left : departures_from a.from a ≡ []
   pub same : b ≡ a
 
--- A task whose entries have all left has ended: this is its pass.
-pub record Resigns (fault : Option Blame) (a : Carried) (p : Pass) : Type 0 where
+-- A task whose entries have all left has ended, with the fault that it was to end with, if with one: this is its pass.
+pub record Resigns (a : Carried) (p : Pass) : Type 0 where
+  pub fault : Option Blame
+  pub asked : a.machine.ask ≡ Some (ending fault)
   pub ended : Ended fault (steps_at a.machine.at) a.pass.shows p.shows
 
 -- The same, and its pass was taken into another.
-pub record Retires (fault : Option Blame) (a : Carried) (kept after : Pass) : Type 0 where
+pub record Retires (a : Carried) (kept after : Pass) : Type 0 where
+  pub fault : Option Blame
+  pub asked : a.machine.ask ≡ Some (ending fault)
   pub retired : Retired fault (steps_at a.machine.at) a.pass.shows kept.shows after.shows
 
 -- An event of the ask comes next, and this try read at its place that the word is taken: nothing is done.
@@ -223,4 +226,4 @@ WentAs a (went.Busy b) = FindsTaken (carried a) (carried b)
 WentAs a (went.Waits w) = Waits w.place.object (carried a) (carried w.capsule)
 WentAs a (went.Freed p b) = Frees p.object (carried a) (carried b)
 WentAs a (went.Parted b c) = Parts (carried a) (carried b) (carried c)
-WentAs a (went.Departed d) = HasDeparted d.blame (carried a) (carried d.capsule)
+WentAs a (went.Departed d) = HasDeparted (carried a) (carried d.capsule)

@@ -3,7 +3,7 @@
 ghost use Rattle.std.specs.Prelude.{◌≡◌, IfOk, ◌-◌, ◌^◌, ◌+◌, ◌%◌, is_some, length, true, false, None};
 ghost use Rattle.jade_syntax.specs.Objects.{input_names};
 ghost use Rattle.object_table.specs.Rule.{first_view};
-ghost use Rattle.task_suspend.specs.Asked.{asks, is_take_in};
+ghost use Rattle.task_suspend.specs.Asked.{asks, is_end, is_take_in};
 ghost use Rattle.task_suspend.specs.Ties.{TiedTo};
 ghost use Rattle.task_suspend.specs.steps.Facts.{TiedTo-prop};
 
@@ -111,6 +111,17 @@ impl<'c, N: RunName> Capsule<'c, N> {
     {
         match self.task.machine.asked() {
             Some(Ask::Take(_, mode)) => modes.has(mode),
+            _ => false,
+        }
+    }
+
+    /// Whether it is to end, with a fault or without one. It takes no memory.
+    pub fn is_ending(&self) -> bool
+        ensures { result ≡ asks is_end self.now.task.value.machine.ask }
+    {
+        match self.task.machine.asked() {
+            Some(Ask::End) => true,
+            Some(Ask::Fault(_)) => true,
             _ => false,
         }
     }

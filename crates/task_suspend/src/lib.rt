@@ -24,5 +24,7 @@ pub use modes::Modes;
 pub use name::RunName;
 pub use remains::Remains;
 pub use rooms::Rooms;
-pub use tries::{attempt, resign, retire, to_ask, try_ask};
+pub use tries::{
+    attempt, resign, retire, to_ask, try_change, try_create, try_end, try_give_back, try_take,
+};
 pub use went::{Departed, Place, Resigned, Waiter, Went};

@@ -9,7 +9,7 @@ ghost use Rattle.task_machine.specs.Stages.{rights_at};
 ghost use Rattle.task_machine.specs.Machines.{made_at, amended_at};
 ghost use Rattle.task_machine.specs.Asks.{enters_from, shifts_from, leaves_from, follows};
 ghost use Rattle.task_suspend.specs.Waits.{waits_for};
-ghost use Rattle.task_suspend.specs.Asked.{ending};
+ghost use Rattle.task_suspend.specs.Asked.{asks, ending, is_end};
 ghost use Rattle.task_suspend.specs.Tries.{Advances, IsAtAsk, Resigns, Retires, WentAs, carried};
 
 use crate::capsule::{Capsule, Running, boxed};
@@ -58,11 +58,8 @@ pub fn to_ask<'c, N: RunName>(
     }
 }
 
-/// One try at the ask that stands, on the objects of the task's run: one event of it is tried. What is
-/// done then, or why nothing is, the answer says. A child that is created uses what the last task that ended
-/// left. The error is want of memory, after which the run can't go on.
-#[inline(always)]
-pub fn try_ask<'c, N: RunName>(
+// One try at the ask that stands, with the use of what the last task that ended left.
+fn try_ask<'c, N: RunName>(
     alloc: Global,
     table: &ObjectTable,
     capsule: Capsule<'c, N>,
@@ -74,12 +71,12 @@ pub fn try_ask<'c, N: RunName>(
     ensures { IfOk result (λ went. WentAs capsule.entry went) }
 {
     match ask {
-        Ask::Take(object, mode) => take(alloc, table, capsule, object, mode),
-        Ask::GiveBack(object) => give_back(table, capsule, object),
-        Ask::Create => create(alloc, table, capsule, remains),
-        Ask::Change => change(table, capsule),
-        Ask::End => end(table, capsule, None),
-        Ask::Fault(blame) => end(table, capsule, Some(blame)),
+        Ask::Take(object, mode) => try_take(alloc, table, capsule, object, mode),
+        Ask::GiveBack(object) => try_give_back(table, capsule, object),
+        Ask::Create => try_create(alloc, table, capsule, remains),
+        Ask::Change => try_change(table, capsule),
+        Ask::End => try_end(table, capsule),
+        Ask::Fault(_) => try_end(table, capsule),
     }
 }
 
@@ -143,8 +140,10 @@ fn go_on<'c, N: RunName>(
     Ok((capsule, ask))
 }
 
-// A content is asked for.
-fn take<'c, N: RunName>(
+/// One try at the content that a task asks for. What is done then, or why nothing is, the answer says. The
+/// error is want of memory, after which the run can't go on.
+#[inline(always)]
+pub fn try_take<'c, N: RunName>(
     alloc: Global,
     table: &ObjectTable,
     mut capsule: Capsule<'c, N>,
@@ -173,8 +172,10 @@ fn take<'c, N: RunName>(
     }
 }
 
-// A content is to be given back.
-fn give_back<'c, N: RunName>(
+/// One try at the content that a task asks to give back. What is done then, or why nothing is, the answer
+/// says. The error is want of memory, after which the run can't go on.
+#[inline(always)]
+pub fn try_give_back<'c, N: RunName>(
     table: &ObjectTable,
     mut capsule: Capsule<'c, N>,
     object: ObjectId,
@@ -200,8 +201,11 @@ fn give_back<'c, N: RunName>(
     }
 }
 
-// A child is to be created: its entries are made one after another, and then it is enrolled.
-fn create<'c, N: RunName>(
+/// One try at the creation that a task asks for: its child's entries are made one after another, and then
+/// it is enrolled, with the use of what the last task that ended left. What is done then, or why nothing
+/// is, the answer says. The error is want of memory, after which the run can't go on.
+#[inline(always)]
+pub fn try_create<'c, N: RunName>(
     alloc: Global,
     table: &ObjectTable,
     capsule: Capsule<'c, N>,
@@ -285,9 +289,11 @@ fn enroll<'c, N: RunName>(
     }
 }
 
-// The rights are to change: the entries follow them one after another, and then the machine goes on
-// with them.
-fn change<'c, N: RunName>(
+/// One try at the change of rights that a task asks for: its entries follow them one after another, and then
+/// its machine goes on with them. What is done then, or why nothing is, the answer says. The error is want
+/// of memory, after which the run can't go on.
+#[inline(always)]
+pub fn try_change<'c, N: RunName>(
     table: &ObjectTable,
     mut capsule: Capsule<'c, N>,
 ) -> Result<Went<'c, N>, Memory>
@@ -350,20 +356,21 @@ fn follow<'c, N: RunName>(
     }
 }
 
-// The task ends: its entries leave one after another, and then it is left to resign.
-fn end<'c, N: RunName>(
+/// One try at the end that a task asks for: its entries leave one after another, and then it is left to
+/// resign. What is done then, or why nothing is, the answer says. The error is want of memory, after which
+/// the run can't go on.
+pub fn try_end<'c, N: RunName>(
     table: &ObjectTable,
     capsule: Capsule<'c, N>,
-    blame: Option<Blame>,
 ) -> Result<Went<'c, N>, Memory>
     requires table { (table.now.mark ≡ N.mark) × (table.now.plan ≡ N.plan) }
-    requires asked { capsule.task.value.machine.ask ≡ Some (ending blame) }
+    requires asked { asks is_end capsule.task.value.machine.ask ≡ true }
     ensures { IfOk result (λ went. WentAs capsule.entry went) }
 {
     let task = &*capsule.task;
     match task.machine.next_leave(ObjectId(task.from)) {
-        Some(object) => leave(table, capsule, blame, object),
-        None => Ok(Went::Departed(Departed { capsule, blame })),
+        Some(object) => leave(table, capsule, object),
+        None => Ok(Went::Departed(Departed { capsule })),
     }
 }
 
@@ -371,11 +378,10 @@ fn end<'c, N: RunName>(
 fn leave<'c, N: RunName>(
     table: &ObjectTable,
     mut capsule: Capsule<'c, N>,
-    blame: Option<Blame>,
     object: ObjectId,
 ) -> Result<Went<'c, N>, Memory>
     requires table { (table.now.mark ≡ N.mark) × (table.now.plan ≡ N.plan) }
-    requires asked { capsule.task.value.machine.ask ≡ Some (ending blame) }
+    requires asked { asks is_end capsule.task.value.machine.ask ≡ true }
     requires inside { object.0 < capsule.task.value.machine.at.execution.stage.objects }
     requires entry { let old = rights_at capsule.task.value.machine.at.execution.stage
         in leaves_from capsule.task.value.from old ≡ Leave object.0 ∷ leaves_from (object.0 + 1) old }
@@ -394,13 +400,30 @@ fn leave<'c, N: RunName>(
     }
 }
 
+// The fault that a task ends with, if with one.
+fn fault_of(ask: Option<Ask>) -> Option<Blame>
+    requires { asks is_end ask ≡ true }
+    ensures { ask ≡ Some (ending result) }
+{
+    match ask {
+        Some(Ask::End) => None,
+        Some(Ask::Fault(blame)) => Some(blame),
+        Some(Ask::Take(_, _)) => unreachable!(),
+        Some(Ask::GiveBack(_)) => unreachable!(),
+        Some(Ask::Create) => unreachable!(),
+        Some(Ask::Change) => unreachable!(),
+        None => unreachable!(),
+    }
+}
+
 /// A task whose entries have all left resigns. It does not fail for want of memory.
 pub fn resign<'c, N: RunName>(table: &ObjectTable, departed: Departed<'c, N>) -> Resigned<'c, N>
     requires { (table.now.mark ≡ N.mark) × (table.now.plan ≡ N.plan) }
-    ensures { Resigns departed.entry.blame (carried departed.entry.capsule) result.task.value.pass }
+    ensures { Resigns (carried departed.entry.capsule) result.task.value.pass }
 {
-    let Departed { mut capsule, blame } = departed;
+    let Departed { mut capsule } = departed;
     let task = &mut *capsule.task;
+    let blame = fault_of(task.machine.asked());
     let steps = task.machine.steps();
     table.resign(&mut task.pass, blame, steps);
     Resigned {
@@ -420,11 +443,12 @@ pub fn retire<'c, N: RunName>(
     requires table { (table.now.mark ≡ N.mark) × (table.now.plan ≡ N.plan) }
     requires keeper { (keeper.old.mark ≡ N.mark) × IsGone keeper.old.shows }
     ensures mark { keeper.new.mark ≡ keeper.old.mark }
-    ensures done { Retires departed.entry.blame (carried departed.entry.capsule) keeper.old keeper.new }
+    ensures done { Retires (carried departed.entry.capsule) keeper.old keeper.new }
 {
-    let Departed { capsule, blame } = departed;
+    let Departed { capsule } = departed;
+    let blame = fault_of(capsule.task.machine.asked());
     let steps = capsule.task.machine.steps();
     let Running { pass, machine, .. } = Box::into_inner(capsule.task);
     table.retire(keeper, pass, blame, steps, &mut remains.pass);
-    remains.machine = machine.into_room();
+    machine.leave_in(&mut remains.machine);
 }

@@ -1,17 +1,17 @@
 //! How a try went.
 
-ghost use Rattle.std.specs.Prelude.{◌≡◌, ◌<◌, Some, true};
+ghost use Rattle.std.specs.Prelude.{◌≡◌, ◌<◌, true};
 ghost use Rattle.object_table.specs.Views.{count_of};
 ghost use Rattle.object_table.specs.Calls.{IsGone};
 ghost use Rattle.task_machine.specs.Stages.{rights_at};
 ghost use Rattle.task_machine.specs.Asks.{leaves_from};
-ghost use Rattle.task_suspend.specs.Asked.{ending, is_over};
+ghost use Rattle.task_suspend.specs.Asked.{asks, is_end, is_over};
 ghost use Rattle.task_suspend.specs.Waits.{waits_for};
 ghost use Rattle.task_suspend.specs.steps.Facts.{Gone-prop};
 
 use crate::capsule::{Capsule, Running};
 use crate::name::RunName;
-use jade_base::{Blame, ObjectId};
+use jade_base::ObjectId;
 use std::marker::PhantomData;
 
 /// An object of the run `N`.
@@ -30,13 +30,12 @@ pub struct Waiter<'c, N: RunName> {
     pub ghost waits: { waits_for place.object.0 capsule ≡ true },
 }
 
-/// A task of the run `N` that is to end, with this fault, if with one, and all of whose entries have
-/// left: nothing is left for it but to resign.
+/// A task of the run `N` that is to end, and all of whose entries have left: nothing is left for it but
+/// to resign, with the fault that it asks to end with, if with one.
 #[derive(Drop)]
 pub struct Departed<'c, N: RunName> {
     pub capsule: Capsule<'c, N>,
-    pub blame: Option<Blame>,
-    pub ghost asked: { capsule.task.value.machine.ask ≡ Some (ending blame) },
+    pub ghost asked: { asks is_end capsule.task.value.machine.ask ≡ true },
     pub ghost over: { is_over (leaves_from capsule.task.value.from (rights_at capsule.task.value.machine.at.execution.stage)) ≡ true },
 }
 

@@ -1,4 +1,4 @@
-use Rattle.task_suspend.proofs.tries.end.Goals as goal
+use Rattle.task_suspend.proofs.tries.try_end.Goals as goal
 
 pub leave-requires-clause-table : goal.leave-requires-clause-table
 leave-requires-clause-table g c = c.requires.table

@@ -9,7 +9,7 @@ use Rattle.task_suspend.specs.Ties.{Tied}
 use Rattle.task_suspend.proofs.Tying.{give_inside, give_next, give_held, gave, busy}
 use Rattle.jade_meaning.specs.Talk.{Give}
 use Rattle.task_suspend.specs.Tries.{gives_back}
-use Rattle.task_suspend.proofs.tries.give_back.Goals as goal
+use Rattle.task_suspend.proofs.tries.try_give_back.Goals as goal
 
 pub surrender-content-requires : goal.surrender-content-requires
 surrender-content-requires g c = rw (← c.deref_mut-task.ensures.value) at c.requires.asked

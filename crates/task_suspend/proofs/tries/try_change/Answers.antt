@@ -1,7 +1,7 @@
 use Rattle.std.proofs.Common.{refl}
 use Rattle.task_suspend.specs.Tries.{amends}
 use Rattle.task_suspend.proofs.Tying.{changed_so}
-use Rattle.task_suspend.proofs.tries.change.Goals as goal
+use Rattle.task_suspend.proofs.tries.try_change.Goals as goal
 
 pub follow-requires-clause-table : goal.follow-requires-clause-table
 follow-requires-clause-table g c = c.requires.table

@@ -1,4 +1,4 @@
-use Rattle.task_suspend.proofs.tries.create.Goals as goal
+use Rattle.task_suspend.proofs.tries.try_create.Goals as goal
 
 pub enter-requires-clause-table : goal.enter-requires-clause-table
 enter-requires-clause-table g c = c.requires.table

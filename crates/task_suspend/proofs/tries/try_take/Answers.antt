@@ -10,7 +10,7 @@ use Rattle.task_suspend.proofs.Tying.{take_inside, take_next, supply_asks, took,
 use Rattle.jade_meaning.specs.Talk.{Take}
 use Rattle.object_table.specs.Calls.{IsBusy}
 use Rattle.task_suspend.specs.Tries.{takes}
-use Rattle.task_suspend.proofs.tries.take.Goals as goal
+use Rattle.task_suspend.proofs.tries.try_take.Goals as goal
 
 pub take-requires-clause-declared : goal.take-requires-clause-declared
 take-requires-clause-declared g c =
