@@ -20,7 +20,7 @@ const FEW: usize = 64;
 pub(crate) struct Line {
     number: u32,
     children: u32,
-    steps: u64,
+    steps: u32,
 }
 
 /// The notes of a family: of parts of tasks with one parent, none of which ended with a fault. The
@@ -126,7 +126,7 @@ fn left_in(lines: &[Line], steps: u64) -> Option<u64>
 {
     let mut left = steps;
     for line in lines {
-        left = left.checked_sub(line.steps)?;
+        left = left.checked_sub(u64::from(line.steps))?;
     }
     Some(left)
 }
@@ -142,20 +142,21 @@ fn have_one_parent(one: &Path, other: &Path) -> bool
     }
 }
 
-// The line of a part in the family of a task, if that one has the same parent.
+// The line of a part in the family of a task, if that one has the same parent, and the part has fewer than
+// 2^32 steps.
 fn line_in(like: &Path, path: &Path, children: u32, steps: u64) -> Option<Line>
     ensures { IfSome result (λ line. line_note (parent like.now) line ≡ record { path = path.now; children = children; steps = steps; blame = None }) }
 {
     if !have_one_parent(like, path) {
         return None;
     }
-    match path.numbers().last() {
-        Some(number) => Some(Line {
+    match (path.numbers().last(), u32::try_from(steps)) {
+        (Some(number), Ok(steps)) => Some(Line {
             number: *number,
             children,
             steps,
         }),
-        None => None,
+        _ => None,
     }
 }
 
@@ -180,7 +181,7 @@ fn note_of(alloc: Global, like: &Path, line: &Line) -> Result<PartNote, Memory>
     Ok(PartNote {
         path,
         children: line.children,
-        steps: line.steps,
+        steps: u64::from(line.steps),
         blame: None,
     })
 }

@@ -62,18 +62,18 @@ pub enum Ask {
 pub struct Machine<'c> {
     execution: Execution<'c>,
     due: Vec<bool>,
-    // That no mark is set, where that is known.
-    unmarked: bool,
-    phase: Phase,
-    // Below this object nothing is to be taken or given up.
-    from: ObjectId,
     // Where the row of the object of the last ask is looked for first.
     near: usize,
-    part: u32,
-    ask: Option<Ask>,
     asks: u64,
-    children: u32,
     touched: u64,
+    phase: Phase,
+    ask: Option<Ask>,
+    // Below this object nothing is to be taken or given up.
+    from: ObjectId,
+    part: u32,
+    children: u32,
+    // That no mark is set, where that is known.
+    unmarked: bool,
 }
 
 impl<'c> Model for Machine<'c> {

@@ -7,7 +7,7 @@ ghost use Rattle.task_machine.specs.steps.Standing.{OwnIsDue, OwnIsNotDue};
 ghost use Rattle.task_machine.specs.Executions.{objects_in};
 ghost use Rattle.task_machine.specs.Left.{IsLeast, IsNone, for_child, is_own, others, to_take};
 ghost use Rattle.task_machine.specs.Machines.{candidates, due_in, holds_at, is_to_move, made_at};
-ghost use Rattle.task_machine.specs.steps.Searching.{IsFirstFrom, ObjectsAscend};
+ghost use Rattle.task_machine.specs.steps.Searching.{IsFirstFrom, ObjectsAscend, ObjectsBelow};
 
 use crate::entries;
 use crate::execution::Execution;
@@ -232,6 +232,18 @@ fn place_from(execution: &Execution, phase: Phase, from: ObjectId) -> usize
     high
 }
 
+// A place before which all of these objects are below this one: the first of few, which are soon looked
+// at, and else the last one.
+#[inline(always)]
+fn start_from(execution: &Execution, phase: Phase, from: ObjectId) -> usize
+    ensures { ObjectsBelow from.0 result (candidates phase execution.now) }
+{
+    if count(execution, phase) <= FEW {
+        return 0;
+    }
+    place_from(execution, phase, from)
+}
+
 // The first of these objects from one on that is to be taken or given up, where none is below it,
 // with its place among them.
 #[inline(always)]
@@ -246,7 +258,7 @@ fn search(
         IsLeast (is_to_move phase execution.now due.now) execution.now.stage.objects next.0.0) }
     ensures none { IfNone result (IsNone (is_to_move phase execution.now due.now) execution.now.stage.objects) }
 {
-    let first = place_from(execution, phase, from);
+    let first = start_from(execution, phase, from);
     'objects: for place in first..count(execution, phase) {
         let object = candidate(execution, phase, place);
         if moves(execution, due, phase, place, object) {
@@ -257,7 +269,7 @@ fn search(
 }
 
 /// The same as `next_object`, where nothing is to be taken or given up below an object: what stands
-/// below it is not looked at. With it comes a place at which its row may be found: where it is given
+/// below it is not looked at, unless there are few. With it comes a place at which its row may be found: where it is given
 /// up for a child, that is the place of the child's entry. There is a search for each phase, so that
 /// none asks at each object which phase it is. It takes no memory.
 pub(crate) fn next_from(

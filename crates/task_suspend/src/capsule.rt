@@ -17,15 +17,15 @@ use std::marker::PhantomData;
 use task_machine::{Ask, Machine};
 use task_roll::OnPath;
 
-/// A task that runs: the pass and the machine of one task, at the same ask. What the ask that stands
-/// stands for is done on the objects below the number `from`; so many events of the task are done; and
-/// `passed` says whether the gate was called for the ask that stands.
+/// A task that runs: the pass and the machine of one task, at the same ask. So many events of the task are
+/// done; what the ask that stands stands for is done on the objects below the number `from`; and `passed`
+/// says whether the gate was called for the ask that stands.
 #[derive(Drop)]
 pub struct Running<'c> {
     pub pass: TaskPass,
     pub machine: Machine<'c>,
-    pub from: u32,
     pub events: u64,
+    pub from: u32,
     pub passed: bool,
 }
 

@@ -4,7 +4,7 @@ use Rattle.task_machine.proofs.Searching.{first_is_least, none_is_left, is_candi
 use Rattle.task_machine.proofs.next.search.Goals as goal
 
 pub objects-init : goal.objects-init
-objects-init c i x lt h = c.requires x.0 (c.place_from-first.ensures.below i x lt h)
+objects-init c i x lt h = c.requires x.0 (c.start_from-first.ensures i x lt h)
 
 pub returns-then-moves-clause-found : goal.returns-then-moves-clause-found
 returns-then-moves-clause-found c =
