@@ -25,8 +25,6 @@ mod sheet;
 pub mod sign;
 mod source;
 mod taken;
-#[cfg(test)]
-mod tests;
 mod twice;
 mod write;
 

@@ -11,8 +11,6 @@ mod paths;
 pub mod pieces;
 pub mod read;
 pub mod recorded;
-#[cfg(test)]
-mod tests;
 pub mod turns;
 pub mod write;
 

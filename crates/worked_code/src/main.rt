@@ -1,8 +1,11 @@
-//! Compiles a program, and prints the instructions of its bodies.
+//! Compiles a program, and prints the instructions of its bodies, and then where some code breaks a rule
+//! of code.
 //!
 //! Floor `worked`, over `code_meaning`, `jade_base`, `jade_lexer`, `jade_parser`, `jade_syntax`,
 //! `jade_types`, `task_code` and `task_codegen`.
 #![tactic(auto)]
+
+mod rules;
 
 use code_meaning::Body;
 use jade_base::{StdSource, read_text};
@@ -10,6 +13,7 @@ use jade_lexer::tokens;
 use jade_parser::parse;
 use jade_syntax::Checked;
 use jade_types::check;
+use rules::tell_rules;
 use std::alloc::Global;
 use std::io;
 use task_codegen::compile;
@@ -52,5 +56,5 @@ fn main(rt: HostRuntime) -> io::Result<()> {
     for number in 0..bodies.len() {
         tell(&rt, number, &bodies[number])?;
     }
-    Ok(())
+    tell_rules(&rt)
 }
