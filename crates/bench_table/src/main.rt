@@ -5,8 +5,8 @@
 //! are live all the while, and no try is made at them. There are no workers, and no report is made
 //! in the end. `bench/table` times it.
 //!
-//! Floor `bench`, over `code_keeps`, `jade_base`, `jade_lexer`, `jade_meaning`, `jade_parser`,
-//! `jade_syntax`, `jade_types`, `object_table`, `task_codegen` and `task_suspend`.
+//! Floor `bench`, over `code_keeps`, `jade_base`, `jade_meaning`, `jade_syntax`, `object_table`,
+//! `task_codegen`, `task_suspend` and `worked_case`.
 #![tactic(auto)]
 
 mod cycles;
@@ -17,15 +17,12 @@ mod tries;
 use crate::run::{Load, run_load};
 use crate::stop::Stop;
 use code_keeps::Compiled;
-use jade_lexer::tokens;
-use jade_parser::parse;
-use jade_syntax::Checked;
-use jade_types::check;
 use std::alloc::Global;
 use std::env;
 use std::process::ExitCode;
 use std::thread::Threads;
 use task_codegen::compile;
+use worked_case::checked;
 
 /// The program: four tasks, each with an object of its own and many children that read it.
 const TEXT: &str = "objects s[4] : 1;
@@ -63,16 +60,6 @@ const SOME: [Load; 4] = [
         cycles: 100,
     },
 ];
-
-/// The checked program of a text; nothing where it is refused, or for want of memory.
-fn checked(alloc: Global, text: &[u8]) -> Option<Checked> {
-    if text.len() > 1_048_576 {
-        return None;
-    }
-    let tokens = tokens(alloc, text).ok()?;
-    let program = parse(alloc, &tokens).ok()?;
-    check(alloc, program).ok()
-}
 
 /// The load of the words.
 fn load_of(rt: &HostRuntime) -> Option<Load> {

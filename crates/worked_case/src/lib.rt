@@ -1,12 +1,17 @@
-//! What the programs share that run cases of standard input.
+//! What the programs share that run cases of standard input, or check a text.
 //!
-//! Floor `worked`, over `jade_base`, with `bstr` of the kit.
+//! Floor `worked`, over `jade_base`, `jade_lexer`, `jade_parser`, `jade_syntax` and `jade_types`,
+//! with `bstr` of the kit.
 #![tactic(auto)]
 
 ghost use Rattle.std.specs.Prelude.{◌≡◌};
 
 use bstr::ByteSlice;
 use jade_base::Memory;
+use jade_lexer::tokens;
+use jade_parser::parse;
+use jade_syntax::Checked;
+use jade_types::check;
 use std::alloc::{AllocError, AllocFailed, Global};
 use std::io;
 use std::num::ParseIntError;
@@ -161,4 +166,15 @@ fn begin<'t>(cases: &mut Vec<CaseLines<'t>>, head: &'t str, text: CaseText) -> R
         Ok(()) => Ok(()),
         Err(_) => Err(Stop::Failed),
     }
+}
+
+/// The checked program of a text; nothing where it is longer than 1 MB or refused, or for want of
+/// memory.
+pub fn checked(alloc: Global, text: &[u8]) -> Option<Checked> {
+    if text.len() > 1_048_576 {
+        return None;
+    }
+    let tokens = tokens(alloc, text).ok()?;
+    let program = parse(alloc, &tokens).ok()?;
+    check(alloc, program).ok()
 }

@@ -1,32 +1,18 @@
 //! Compiles a program, and prints the instructions of its bodies, and then where some code breaks a rule
 //! of code.
 //!
-//! Floor `worked`, over `code_meaning`, `jade_base`, `jade_lexer`, `jade_parser`, `jade_syntax`,
-//! `jade_types`, `task_code` and `task_codegen`.
+//! Floor `worked`, over `code_meaning`, `jade_base`, `jade_syntax`, `task_code`, `task_codegen` and
+//! `worked_case`.
 #![tactic(auto)]
 
 mod rules;
 
 use code_meaning::Body;
 use jade_base::{StdSource, read_text};
-use jade_lexer::tokens;
-use jade_parser::parse;
-use jade_syntax::Checked;
-use jade_types::check;
 use rules::tell_rules;
-use std::alloc::Global;
 use std::io;
 use task_codegen::compile;
-
-/// The checked program of a text; nothing where it is refused, or for want of memory.
-fn checked(alloc: Global, text: &[u8]) -> Option<Checked> {
-    if text.len() > 1_048_576 {
-        return None;
-    }
-    let tokens = tokens(alloc, text).ok()?;
-    let program = parse(alloc, &tokens).ok()?;
-    check(alloc, program).ok()
-}
+use worked_case::checked;
 
 /// Prints a body: what it is given, and its instructions with their places.
 fn tell(rt: &HostRuntime, number: usize, body: &Body) -> io::Result<()> {

@@ -1,28 +1,14 @@
 //! Checks a program, and prints what each of its names stands for, in text order, and the number of
 //! cells of each object, as the plan of a run tells it.
 //!
-//! Floor `worked`, over `jade_base`, `jade_lexer`, `jade_meaning`, `jade_parser`, `jade_syntax` and
-//! `jade_types`.
+//! Floor `worked`, over `jade_base`, `jade_meaning`, `jade_syntax` and `worked_case`.
 #![tactic(auto)]
 
 use jade_base::{ObjectId, StdSource, read_text};
-use jade_lexer::tokens;
 use jade_meaning::Plan;
-use jade_parser::parse;
-use jade_syntax::{Checked, Stand};
-use jade_types::check;
-use std::alloc::Global;
+use jade_syntax::Stand;
 use std::io;
-
-/// The checked program of a text; nothing where it is refused, or for want of memory.
-fn checked(alloc: Global, text: &[u8]) -> Option<Checked> {
-    if text.len() > 1_048_576 {
-        return None;
-    }
-    let tokens = tokens(alloc, text).ok()?;
-    let program = parse(alloc, &tokens).ok()?;
-    check(alloc, program).ok()
-}
+use worked_case::checked;
 
 /// Prints what a name stands for.
 fn tell(rt: &HostRuntime, stand: &Stand) -> io::Result<()> {

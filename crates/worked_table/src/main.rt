@@ -3,8 +3,8 @@
 //! what came of the try, and which tasks come out of a room; then the report. The schedules differ,
 //! the reports don't.
 //!
-//! Floor `worked`, over `code_keeps`, `jade_base`, `jade_lexer`, `jade_meaning`, `jade_parser`,
-//! `jade_syntax`, `jade_types`, `object_table`, `task_codegen`, `task_machine` and `task_suspend`.
+//! Floor `worked`, over `code_keeps`, `jade_base`, `jade_meaning`, `jade_syntax`, `object_table`,
+//! `task_codegen`, `task_machine`, `task_suspend` and `worked_case`.
 #![tactic(auto)]
 
 mod run;
@@ -17,24 +17,11 @@ use crate::run::run_by;
 use crate::schedules::{SCHEDULES, Schedule, TEXT};
 use crate::stop::Stop;
 use code_keeps::Compiled;
-use jade_lexer::tokens;
-use jade_parser::parse;
-use jade_syntax::Checked;
-use jade_types::check;
 use std::alloc::Global;
 use std::process::ExitCode;
 use std::sync::Wait;
 use task_codegen::compile;
-
-/// The checked program of a text; nothing where it is refused, or for want of memory.
-fn checked(alloc: Global, text: &[u8]) -> Option<Checked> {
-    if text.len() > 1_048_576 {
-        return None;
-    }
-    let tokens = tokens(alloc, text).ok()?;
-    let program = parse(alloc, &tokens).ok()?;
-    check(alloc, program).ok()
-}
+use worked_case::checked;
 
 /// Runs the program by a schedule, and prints the tries and the report, which is answered.
 fn show<R: Wait + Print>(
