@@ -59,6 +59,11 @@ impl Wish {
     pub fn creates(self) -> bool {
         matches!(self, Wish::Child)
     }
+
+    /// Whether the task ends.
+    pub fn ends(self) -> bool {
+        matches!(self, Wish::End)
+    }
 }
 
 /// A content was taken, if that was asked for. Where it was for reading, the first that waits for the

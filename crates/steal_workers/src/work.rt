@@ -1,6 +1,6 @@
 //! The work of one worker.
 
-ghost use Rattle.std.specs.Prelude.{◌≡◌, Some};
+ghost use Rattle.std.specs.Prelude.{◌≡◌};
 
 use crate::board::{Board, TaskWorker};
 use crate::gate::Gate;
@@ -78,34 +78,23 @@ fn turn<'c, N: RunName, G: Gate, R: Wait>(
         return None;
     };
     let task = through(rt, gate, task);
-    let went = tried(rt, alloc, board, worker, task, ask);
-    match settle(rt, board, worker, went, tries, Wish::of(ask)) {
-        Ok(next) => next,
-        Err(_) => {
-            board.signals.stop();
-            None
-        }
+    let wish = Wish::of(ask);
+    if wish.ends() {
+        holds(board, worker, false);
     }
-}
-
-// What comes of a try at what the task asks for. The error is want of memory.
-#[inline(always)]
-fn tried<'c, N: RunName, R: Wait>(
-    rt: &R,
-    alloc: Global,
-    board: &Board<'c, N>,
-    worker: &mut TaskWorker<'c, N>,
-    task: Capsule<'c, N>,
-    ask: Ask,
-) -> Result<Went<'c, N>, Memory>
-    requires { task.task.value.machine.ask ≡ Some ask }
-{
-    match ask {
+    let went = match ask {
         Ask::Take(object, mode) => try_take(alloc, &board.table, task, object, mode),
         Ask::GiveBack(object) => try_give_back(&board.table, task, object),
         Ask::Create => create(rt, alloc, board, worker, task),
         Ask::Change => try_change(&board.table, task),
         Ask::End | Ask::Fault(_) => end(rt, board, worker, task),
+    };
+    match settle(rt, board, worker, went, tries, wish) {
+        Ok(next) => next,
+        Err(_) => {
+            board.signals.stop();
+            None
+        }
     }
 }
 
@@ -132,8 +121,7 @@ fn create<'c, N: RunName, R: Wait>(
     Err(Memory)
 }
 
-// A try for each entry of a task that ends, one after another, up to the first by which none leaves. Such a
-// task has no content any more.
+// A try for each entry of a task that ends, one after another, up to the first by which none leaves.
 #[inline(always)]
 fn end<'c, N: RunName, R: Wait>(
     rt: &R,
@@ -141,7 +129,6 @@ fn end<'c, N: RunName, R: Wait>(
     worker: &mut TaskWorker<'c, N>,
     first: Capsule<'c, N>,
 ) -> Result<Went<'c, N>, Memory> {
-    holds(board, worker, false);
     let mut task = first;
     for _ in rt.forever() {
         if !task.is_ending() {
