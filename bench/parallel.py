@@ -68,6 +68,42 @@ main {
 }
 """
 
+# What can't gain: each task needs what the one before it wrote.
+CHAIN = """object s : 1;
+main {
+    for i in 0 .. 20000 {
+        withonly { rd_wr(s); } do (i) {
+            s[0] = s[0] + i;
+        }
+    }
+}
+"""
+
+WRITERS = """object s : 1;
+main {
+    for i in 0 .. 100000 {
+        withonly { wr(s); } do (i) {
+            s[0] = i;
+        }
+    }
+}
+"""
+
+CREATOR = """object s : 1;
+main {
+    withonly { rd_wr(s); } do () {
+        for t in 0 .. %d {
+            s[0] = s[0] + t;
+        }
+    }
+    for i in 0 .. 100000 {
+        withonly { rd_wr(s); } do (i) {
+            s[0] = s[0] + i;
+        }
+    }
+}
+""" % (50 * TURNS)
+
 def timed(words, given="", threads=None):
     '''What a process wrote, the time that passed and the processor time that it took.'''
     env = dict(os.environ, OMP_NUM_THREADS=str(threads)) if threads else None
@@ -86,6 +122,31 @@ def best_of(calls, which):
             times[i].append(it[which])
     assert len(set(written)) == 1, "what is written differs"
     return [min(it) for it in times]
+
+def medians_of(calls):
+    '''The median of the elapsed times of each call, of seven by turns, and the longest; what they wrote is the same.'''
+    times, written = [[] for _ in calls], set()
+    for _ in range(7):
+        for i, call in enumerate(calls):
+            it = timed(*call)
+            written.add(it[0])
+            times[i].append(it[ELAPSED])
+    assert len(written) == 1, "what is written differs"
+    return [(sorted(it)[3], max(it)) for it in times]
+
+def memory_of(words, given):
+    '''The most memory that a process took, in MB, looked at every 2 ms.'''
+    most = 0
+    with subprocess.Popen(words, stdin=subprocess.PIPE, stdout=subprocess.DEVNULL) as process:
+        process.stdin.write(given.encode())
+        process.stdin.close()
+        while process.poll() is None:
+            with open("/proc/%d/status" % process.pid) as status:
+                told = [it.split()[1] for it in status if it.startswith("VmHWM:")]
+            most = max([most, *map(int, told)])
+            time.sleep(0.002)
+    assert process.returncode == 0
+    return most / 1024
 
 ELAPSED, PROCESSOR = 1, 2
 
@@ -131,3 +192,14 @@ for word in ("cm", "rd_wr"):
 
 one, four = best_of([(run(1), TINY), (run(4), TINY)], ELAPSED)
 print("10,000 tiny commuting tasks: run 1 %.3f s, run 4 %.3f s, ratio %.2f" % (one, four, four / one))
+
+for name, text, words in (("chain", CHAIN, [in_c, "chain", "20000"]), ("tiny", WRITERS, None)):
+    counts, threads = (1, 4, 8, 16), (1, 4) if words else ()
+    found = medians_of([(run(n), text) for n in counts] + [(words, "", n) for n in threads])
+    for kind, which, row in (("jade", counts, found[: len(counts)]), ("OpenMP", threads, found[len(counts) :])):
+        if row:
+            told = ["%d: %.4f s (%.2f), longest %.2f" % (n, it, it / row[0][0], most / it) for n, (it, most) in zip(which, row)]
+            print("%s, %s: %s" % (name, kind, "; ".join(told)))
+
+told = ["%d: %.1f MB" % (n, max(memory_of(run(n), CREATOR) for _ in range(10))) for n in (1, 2, 4, 8)]
+print("creator of 100,000 tasks that wait: %s" % ", ".join(told))
