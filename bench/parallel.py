@@ -112,27 +112,24 @@ def timed(words, given="", threads=None):
     passed, after = time.monotonic() - begun, resource.getrusage(resource.RUSAGE_CHILDREN)
     return written, passed, after.ru_utime + after.ru_stime - before.ru_utime - before.ru_stime
 
-def best_of(calls, which):
-    '''The best time of each call, of five by turns; what they wrote is the same.'''
+def by_turns(calls, which, count):
+    '''So many times of each call, by turns; what they wrote is the same.'''
     times, written = [[] for _ in calls], [None] * len(calls)
-    for _ in range(5):
+    for _ in range(count):
         for i, call in enumerate(calls):
             it = timed(*call)
             written[i] = it[0]
             times[i].append(it[which])
     assert len(set(written)) == 1, "what is written differs"
-    return [min(it) for it in times]
+    return times
+
+def best_of(calls, which):
+    '''The best time of each call, of five by turns.'''
+    return [min(it) for it in by_turns(calls, which, 5)]
 
 def medians_of(calls):
-    '''The median of the elapsed times of each call, of seven by turns, and the longest; what they wrote is the same.'''
-    times, written = [[] for _ in calls], set()
-    for _ in range(7):
-        for i, call in enumerate(calls):
-            it = timed(*call)
-            written.add(it[0])
-            times[i].append(it[ELAPSED])
-    assert len(written) == 1, "what is written differs"
-    return [(sorted(it)[3], max(it)) for it in times]
+    '''The median of the elapsed times of each call, of seven by turns, and the longest.'''
+    return [(sorted(it)[3], max(it)) for it in by_turns(calls, ELAPSED, 7)]
 
 def memory_of(words, given):
     '''The most memory that a process took, in MB, looked at every 2 ms.'''
